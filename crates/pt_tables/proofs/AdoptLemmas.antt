@@ -9,6 +9,7 @@ use Rattle.sqlite_catalog.proofs.ReadLemmas.{lists_once}
 use Rattle.sqlite_catalog.specs.Listing.{Lists}
 use Rattle.sqlite_trees.specs.Objects.{catalog_tree}
 use Rattle.pt_desk_rules.specs.State.{State}
+use Rattle.pt_desk_rules.specs.declared.table_name.TableName.TheVariants as name
 use Rattle.pt_base.specs.declared.fault.Cause.TheVariants as cause
 use Rattle.pt_base.proofs.FaultLemmas.{other_cause}
 use Rattle.pt_tables.specs.RefusedBy.{RefusedBy}
@@ -34,7 +35,7 @@ left_before old new survives clean db left = elim (survives.crash clean db left)
 -- a desk's database of a content has no other tables, nor those of another version
 no_other_tables : (content : State) (trees : Trees) → IsDeskOf content trees → HasOtherTables trees → ⊥
 no_other_tables content trees desk (inl other) = other.2 (lists_once (trees catalog_tree) other.0 desk_schema other.1 desk.tables.lists)
-no_other_tables content trees desk (inr version) = spares_none trees content.policy content.last_trip desk.rows.1.records.desk (unsound 1) version refl
+no_other_tables content trees desk (inr version) = spares_none trees content.policy content.last_trip (desk.rows.1 name.Desk) (unsound 1) version refl
 
 -- a refusal of the store, or for memory, has neither of these causes
 cause_elsewhere : (refused : OpenFault) → (refused ≡ fault cause.Memory) ⊎ (refused ≡ fault cause.StoreFailed)

@@ -1,7 +1,6 @@
 -- The tables of an earlier version as a transaction changes them into the current ones, and what a crash leaves.
-use Rattle.std.proofs.Common.{◌≡◌, ◌≢◌, ◌≤◌, ◌<◌, inl, inr, ℕ, List, [], ◌∷◌, ◌++◌, not, map, flat_map, IsPermutation, IsTrue, Some, true, false, refl, sym, ap, subst, ◌∙◌, arith}
+use Rattle.std.proofs.Common.{◌≡◌, ◌≢◌, ◌≤◌, ℕ, List, [], ◌∷◌, map, IsPermutation, IsTrue, true, false, refl, sym, ap, subst, ◌∙◌, arith}
 use Rattle.std.specs.List.{AllByRecursion}
-use Rattle.std.proofs.lemmas.Bool.{cases_lt}
 use Rattle.sqlite.specs.Store.{Ghosts}
 use Rattle.sqlite.specs.Held.{Held, state}
 use Rattle.sqlite.specs.Order.{Row}
@@ -12,132 +11,72 @@ use Rattle.sqlite.specs.Table.{Table}
 use Rattle.sqlite.specs.Tree.{Trees}
 use Rattle.sqlite.proofs.Callers.{survives_begin}
 use Rattle.sqlite.proofs.StateLemmas.{survives_then}
-use Rattle.std.specs.Prelude.{◌==◌}
-use Rattle.pt_base.specs.declared.rider.Rider.{Rider}
-use Rattle.pt_base.specs.declared.trip.Trip.{Trip}
-use Rattle.pt_base.specs.declared.vehicle.Vehicle.{Vehicle}
+use Rattle.sqlite_trees.proofs.ListLemmas.{all_both}
 use Rattle.pt_desk_rules.specs.State.{State}
-use Rattle.pt_records.specs.Records.{Each}
+use Rattle.pt_desk_rules.specs.declared.table_name.TableName.{TableName}
+use Rattle.pt_desk_rules.specs.declared.table_name.TableName.TheVariants as name
 use Rattle.pt_tables.specs.Migration.{IsMigrated, IsMigratedDesk, IsMigratedFrom, IsRaised}
 use Rattle.pt_tables_opening.specs.Opening.{IsEarlierVersion}
-use Rattle.pt_tables_rows.specs.Rows.{desk_row, versioned_row, number_value, row_if, rider_chair_rows, vehicle_chair_rows, trip_chair_rows}
-use Rattle.pt_tables_rows.specs.Schema.{IsEarlier, table_version, tables, tables_of, tables_between, schema_of}
-use Rattle.pt_tables_rows.specs.Schema.{desk_schema, desk_table, callers_table, kept_table}
-use Rattle.pt_tables_rows.specs.Schema.{places_table, fixed_table, vehicles_table, riders_table, entries_table}
-use Rattle.pt_tables_rows.specs.Schema.{trips_table, stops_table, travel_table, rider_chairs_table}
-use Rattle.pt_tables_rows.specs.Schema.{vehicle_chairs_table, trip_chairs_table}
-use Rattle.pt_tables_rows.proofs.CreateLemmas.{none_there, tables_split}
-use Rattle.pt_tables_rows.proofs.NamedTables.{of_table, with_tree}
+use Rattle.pt_tables_rows.specs.Rows.{desk_row, versioned_row, versioned_rows, rows_in}
+use Rattle.pt_tables_rows.specs.Schema.{IsEarlier, table_version, table_in, names_of, names_between, schema_of, desk_schema, desk_table}
+use Rattle.pt_tables_rows.proofs.CreateLemmas.{names_split, none_there, of_all}
+use Rattle.pt_tables_rows.proofs.NameLemmas.{all_mapped, other_at}
 use Rattle.pt_tables_rows.proofs.SameRowsLists.{all_front}
 use Rattle.pt_tables_rows.specs.Tables.{AddsVersions, AreRows, HasRows, HasRowsOf, columns_of}
 use Rattle.pt_tables_writing.specs.Writes.{Rewrites, RaisesVersion}
 use Rattle.pt_tables_writing.proofs.RaiseWrites.{row_holds}
 
--- if no rider is marked, none has a row
-no_riders : (riders : List Rider) → Each (λ rider. rider.wheelchair ≡ false) riders → flat_map rider_chair_rows riders ≡ []
-no_riders [] none = refl
-no_riders (x ∷ xs) none = ap (λ s. row_if s (number_value x.id ∷ []) ++ flat_map rider_chair_rows xs) none.0 ∙ no_riders xs none.1
-
-no_vehicles : (versions : List Vehicle) → Each (λ version. version.chairs ≡ 0) versions → flat_map vehicle_chair_rows versions ≡ []
-no_vehicles [] none = refl
-no_vehicles (x ∷ xs) none =
-    ap (λ n. row_if (not (n == 0)) (number_value x.id ∷ number_value x.from_day ∷ number_value x.chairs ∷ []) ++ flat_map vehicle_chair_rows xs) none.0 ∙ no_vehicles xs none.1
-
-no_trips : (trips : List Trip) → Each (λ trip. trip.wheelchair ≡ false) trips → flat_map trip_chair_rows trips ≡ []
-no_trips [] none = refl
-no_trips (x ∷ xs) none = ap (λ s. row_if s (number_value x.id ∷ []) ++ flat_map trip_chair_rows xs) none.0 ∙ no_trips xs none.1
-
 -- a table that keeps its rows has the rows of the same records
 still : (t : Table) (old new : Trees) (rows : List Row) → new t.tree ≡ old t.tree → AreRows t old rows → AreRows t new rows
 still t old new rows same are = subst (λ rs. IsPermutation (map (columns_of t) rs) rows) (sym same) are
-
-abbrev Same : Trees → Trees → Table → Type 0
-Same old new t = new t.tree ≡ old t.tree
 
 module _ (version : ℕ) (early : IsEarlier version) (old mid new : Database) (adds : AddsVersions version table_version old mid) (raises : RaisesVersion mid new)
     (content : State) (was : HasRowsOf version content old.trees) where
   raised : Rewrites desk_table (versioned_row version content.policy content.last_trip ∷ []) (desk_row content.policy content.last_trip ∷ []) mid new
   raised = raises.rows version content.policy content.last_trip
 
-  -- the tables of a version up to that one keep their rows
-  kept_since : (since : ℕ) → since ≤ version → AllByRecursion (Same old.trees mid.trees) (tables_of since)
-  kept_since since up_to =
-      all_front (Same old.trees mid.trees) (tables_of since) (tables_between since version)
-      (subst (AllByRecursion (Same old.trees mid.trees)) (tables_split since version up_to) adds.kept)
+  -- what a table had, and that it keeps it
+  abbrev Had : TableName → Type 0
+  Had t = AreRows (table_in t) old.trees (versioned_rows version t content)
 
-  -- a table of version 1 keeps the rows of its records
-  first : (t : Table) (rows : List Row) → with_tree t.tree (tables_of 1) ≡ Some t → AreRows t old.trees rows
-      → AreRows t mid.trees rows
-  first t rows is =
-      still t old.trees mid.trees rows (of_table (Same old.trees mid.trees) (tables_of 1) t is (kept_since 1 early.0))
+  abbrev Keeps : TableName → Type 0
+  Keeps t = mid.trees (table_in t).tree ≡ old.trees (table_in t).tree
 
-  -- and so does each table but the agency's as the version is raised
-  stays : (t : Table) (rows : List Row) → with_tree t.tree tables ≡ Some t → t.tree ≢ desk_table.tree
-      → AreRows t mid.trees rows → AreRows t new.trees rows
-  stays t rows is apart =
-      still t mid.trees new.trees rows
-      (of_table (λ t. t.tree ≢ desk_table.tree → Same mid.trees new.trees t) tables t is raised.others apart)
+  kept : AllByRecursion Keeps (names_of version)
+  kept = all_mapped (λ t. mid.trees t.tree ≡ old.trees t.tree) table_in (names_of version) adds.kept
+
+  -- the agency's table is the first of each version
+  at_first : (P : TableName → Type 0) → AllByRecursion P (names_of version) → P name.Desk
+  at_first P all = (all_front P (names_of 1) (names_between 1 version) (subst (AllByRecursion P) (names_split 1 version early.0) all)).0
 
   agency_there : AreRows desk_table mid.trees (versioned_row version content.policy content.last_trip ∷ [])
-  agency_there = first desk_table _ refl was.records.desk
+  agency_there = still desk_table old.trees mid.trees _ (at_first Keeps kept) (at_first Had was.rows)
 
-  -- the tables of wheelchairs, before the version is raised
-  record Chairs : Type 0 where
-    riders : AreRows rider_chairs_table mid.trees (flat_map rider_chair_rows content.riders)
-    vehicles : AreRows vehicle_chairs_table mid.trees (flat_map vehicle_chair_rows content.vehicles)
-    trips : AreRows trip_chairs_table mid.trees (flat_map trip_chair_rows content.trips)
+  -- only the agency's row has a version
+  same_row : (t : TableName) → t ≢ name.Desk → versioned_rows version t content ≡ rows_in t content
+  same_row name.Desk other = absurd (other refl)
+  same_row _ other = refl
 
-  -- version 1 lacks them, so they are added with no row
-  chairs_added : version < 2 → Chairs
-  chairs_added less =
-      let first : version ≡ 1 = omega (arith, less, early.0) in
-      let added : AllByRecursion (λ t. mid.trees t.tree ≡ []) (tables_between 1 table_version) =
-      subst (λ v. AllByRecursion (λ t. mid.trees t.tree ≡ []) (tables_between v table_version)) first adds.added in
-      let none = was.no_chairs less in
-      record {
-        riders = none_there rider_chairs_table mid.trees (flat_map rider_chair_rows content.riders) added.0 (no_riders content.riders none.riders);
-        vehicles = none_there vehicle_chairs_table mid.trees (flat_map vehicle_chair_rows content.vehicles) added.1.0 (no_vehicles content.vehicles none.vehicles);
-        trips = none_there trip_chairs_table mid.trees (flat_map trip_chair_rows content.trips) added.1.1.0 (no_trips content.trips none.trips);
-      }
+  -- before the version is raised, the other tables have the rows of the content
+  abbrev Has : TableName → Type 0
+  Has t = t ≢ name.Desk → AreRows (table_in t) mid.trees (rows_in t content)
 
-  chairs_kept : 2 ≤ version → Chairs
-  chairs_kept since =
-      let there : (t : Table) (rows : List Row) → with_tree t.tree (tables_of 2) ≡ Some t → AreRows t old.trees rows
-      → AreRows t mid.trees rows =
-      λ t rows is.
-      still t old.trees mid.trees rows (of_table (Same old.trees mid.trees) (tables_of 2) t is (kept_since 2 since)) in
-      record {
-        riders = there rider_chairs_table _ refl (was.rider_chairs since);
-        vehicles = there vehicle_chairs_table _ refl (was.vehicle_chairs since);
-        trips = there trip_chairs_table _ refl (was.trip_chairs since);
-      }
+  others_kept : AllByRecursion Has (names_of version)
+  others_kept =
+      all_both Had Keeps Has (λ t are same other. subst (AreRows (table_in t) mid.trees) (same_row t other) (still (table_in t) old.trees mid.trees _ same are))
+      (names_of version) was.rows kept
 
-  chairs : Chairs
-  chairs = elim (cases_lt version 2) [
-    | inl less ↦ chairs_added less
-    | inr since ↦ chairs_kept since
-  ]
+  others_added : AllByRecursion Has (names_between version table_version)
+  others_added =
+      all_both (λ t. rows_in t content ≡ []) (λ t. mid.trees (table_in t).tree ≡ []) Has
+      (λ t none empty other. none_there (table_in t) mid.trees (rows_in t content) empty none) (names_between version table_version) was.none
+      (all_mapped (λ t. mid.trees t.tree ≡ []) table_in (names_between version table_version) adds.added)
 
   pub rows_raised : HasRows content new.trees
-  rows_raised =
-      record {
-        records = record {
-          desk = (raised.rows (row_holds version content.policy content.last_trip mid.trees agency_there)).rows;
-          callers = stays callers_table _ refl (λ e. cc) (first callers_table _ refl was.records.callers);
-          kept = stays kept_table _ refl (λ e. cc) (first kept_table _ refl was.records.kept);
-          places = stays places_table _ refl (λ e. cc) (first places_table _ refl was.records.places);
-          fixed = stays fixed_table _ refl (λ e. cc) (first fixed_table _ refl was.records.fixed);
-          vehicles = stays vehicles_table _ refl (λ e. cc) (first vehicles_table _ refl was.records.vehicles);
-          riders = stays riders_table _ refl (λ e. cc) (first riders_table _ refl was.records.riders);
-          entries = stays entries_table _ refl (λ e. cc) (first entries_table _ refl was.records.entries);
-          trips = stays trips_table _ refl (λ e. cc) (first trips_table _ refl was.records.trips);
-          stops = stays stops_table _ refl (λ e. cc) (first stops_table _ refl was.records.stops);
-          travel = stays travel_table _ refl (λ e. cc) (first travel_table _ refl was.records.travel);
-        };
-        rider_chairs = stays rider_chairs_table _ refl (λ e. cc) chairs.riders;
-        vehicle_chairs = stays vehicle_chairs_table _ refl (λ e. cc) chairs.vehicles;
-        trip_chairs = stays trip_chairs_table _ refl (λ e. cc) chairs.trips;
-      }
+  rows_raised name.Desk = (raised.rows (row_holds version content.policy content.last_trip mid.trees agency_there)).rows
+  rows_raised t =
+      still (table_in t) mid.trees new.trees (rows_in t content) (other_at desk_table mid.trees new.trees raised.others t (λ e. cc))
+      (of_all Has version (omega (arith, early.1)) others_kept others_added t (λ e. cc))
 
 version_is : schema_of table_version ≡ desk_schema
 unfolding desk_schema

@@ -14,6 +14,7 @@ use Rattle.pt_desk_rules.specs.Planned.{trips_of, trips_on}
 use Rattle.pt_desk_rules.specs.State.{State, entries_of, entry_key, kept_key, rider_key, span_of, trip_key}
 use Rattle.pt_desk_rules.specs.declared.change.FiledEntry.{FiledEntry}
 use Rattle.pt_desk_rules.specs.declared.kept.Kept.{Kept}
+use Rattle.pt_desk_rules.specs.declared.table_name.TableName.TheVariants as name
 use Rattle.pt_records.specs.Keys.{pair_key}
 use Rattle.pt_records.specs.Records.{Each, IsInOrder, is_within, within}
 use Rattle.pt_records.proofs.OrderLemmas.{Each-weaker}
@@ -23,6 +24,7 @@ use Rattle.pt_tables_rows.specs.Rows.{entry_row, kept_row, number_value, rider_c
 use Rattle.pt_tables_rows.specs.Schema.{desk_schema, entries_table, kept_table, rider_chairs_table, riders_table, trip_chairs_table, trips_table}
 use Rattle.pt_tables_rows.specs.Tables.{AreRows, IsKept, Stands, IsWellFormed}
 use Rattle.pt_tables_rows.proofs.ColumnLemmas.{number_in}
+use Rattle.pt_tables_rows.proofs.NameLemmas.{as_map}
 use Rattle.pt_tables_rows.proofs.SameRows.{entry-told, kept-told, rider-told, trip-told}
 use Rattle.pt_tables_asking.specs.Asking.{HasAnswer, Rests}
 use Rattle.pt_tables_asking.specs.Marks.{FitsMark, HasMarks, IsMark, has_row, mark_key, mark_row, marked_in}
@@ -94,20 +96,20 @@ trips_told x y same =
 -- those that pass, from their rows and their marks
 module _ (content : State) (readable : IsWellFormed content) where
   pub riders_rise : (passes : Rider → Bool) (found : List Rider) → map rider_row found ≡ map rider_row (filter passes content.riders) → IsInOrder rider_key found
-  riders_rise passes found same = in_order_by_rows rider_key rider_row riders_keyed found _ same (IsInOrder-filter rider_key passes content.riders readable.riders)
+  riders_rise passes found same = in_order_by_rows rider_key rider_row riders_keyed found _ same (IsInOrder-filter rider_key passes content.riders (readable.order part.riders))
 
   pub riders_marked : (passes : Rider → Bool) (found : List Rider) → map rider_row found ≡ map rider_row (filter passes content.riders)
       → map (marked_in rider_key rider_chair_rows (λ r is. record r { wheelchair = is }) content.riders) found ≡ filter passes content.riders
   riders_marked passes found same =
-      marked_are rider_key rider_row riders_keyed rider_chair_rows (λ r is. record r { wheelchair = is }) riders_told content.riders passes readable.riders found same
+      marked_are rider_key rider_row riders_keyed rider_chair_rows (λ r is. record r { wheelchair = is }) riders_told content.riders passes (readable.order part.riders) found same
 
   pub trips_rise : (passes : Trip → Bool) (found : List Trip) → map trip_row found ≡ map trip_row (filter passes content.trips) → IsInOrder trip_key found
-  trips_rise passes found same = in_order_by_rows trip_key trip_row trips_keyed found _ same (IsInOrder-filter trip_key passes content.trips readable.trips)
+  trips_rise passes found same = in_order_by_rows trip_key trip_row trips_keyed found _ same (IsInOrder-filter trip_key passes content.trips (readable.order part.trips))
 
   pub trips_marked : (passes : Trip → Bool) (found : List Trip) → map trip_row found ≡ map trip_row (filter passes content.trips)
       → map (marked_in trip_key trip_chair_rows (λ t is. record t { wheelchair = is }) content.trips) found ≡ filter passes content.trips
   trips_marked passes found same =
-      marked_are trip_key trip_row trips_keyed trip_chair_rows (λ t is. record t { wheelchair = is }) trips_told content.trips passes readable.trips found same
+      marked_are trip_key trip_row trips_keyed trip_chair_rows (λ t is. record t { wheelchair = is }) trips_told content.trips passes (readable.order part.trips) found same
 
 -- ---- what the texts ask for
 
@@ -127,20 +129,22 @@ module _ (content : State) (readable : IsWellFormed content) (db : Database) (st
   kept_answer caller =
       has_passing kept_key kept_row FitsKept 1 (by_one kept_key kept_row FitsKept (λ x. refl) (λ x. refl)) kept_table
       KEPT_BY_CALLER.now (number_value caller ∷ []) (has_number 0 caller) (kept_text caller)
-      db stands.schema (λ kept. kept_key kept == caller) (λ kept fits. same_number kept.caller caller) content.kept (readable.ranges.parts part.kept) readable.kept stands.rows.records.kept
+      db stands.schema (λ kept. kept_key kept == caller) (λ kept fits. same_number kept.caller caller) content.kept (readable.ranges.parts part.kept) (readable.order part.kept)
+      (as_map kept_table kept_row content.kept db.trees (stands.rows name.Kept))
 
   pub rider_answer : (rider : ℕ) → HasAnswer RIDER_BY_NUMBER.now (number_value rider ∷ []) db (map rider_row (filter (λ r. rider_key r == rider) content.riders))
   rider_answer rider =
       has_passing rider_key rider_row FitsRider 1 (by_one rider_key rider_row FitsRider (λ x. refl) (λ x. refl))
       riders_table RIDER_BY_NUMBER.now (number_value rider ∷ []) (has_number 0 rider) (rider_text rider)
-      db stands.schema (λ r. rider_key r == rider) (λ r fits. same_number r.id rider) content.riders (readable.ranges.parts part.riders) readable.riders stands.rows.records.riders
+      db stands.schema (λ r. rider_key r == rider) (λ r fits. same_number r.id rider) content.riders (readable.ranges.parts part.riders) (readable.order part.riders)
+      (as_map riders_table rider_row content.riders db.trees (stands.rows name.Riders))
 
   pub entries_answer : (rider : ℕ) → HasAnswer ENTRIES_BY_RIDER.now (number_value rider ∷ []) db (map entry_row (entries_of rider content.entries))
   entries_answer rider =
       has_passing entry_key entry_row FitsFiled 2 (by_two entry_key entry_row FitsFiled (λ x fits. record { first = refl; second = refl; second_low = fits.position }) (λ x. refl)) entries_table
       ENTRIES_BY_RIDER.now (number_value rider ∷ []) (has_number 0 rider) (entries_text rider) db stands.schema (λ filed. is_within (entry_key filed) (span_of rider))
       (λ filed fits. same_number filed.rider rider ∙ in_span filed.rider rider filed.position fits.position)
-      content.entries (readable.ranges.parts part.entries) readable.entries stands.rows.records.entries
+      content.entries (readable.ranges.parts part.entries) (readable.order part.entries) (as_map entries_table entry_row content.entries db.trees (stands.rows name.Entries))
 
   module _ (text : List ℕ) (params : Row) (passes_row : Row → Bool)
       (asks : AsksFor 1 trips_table text params passes_row) (passes : Trip → Bool)
@@ -148,7 +152,8 @@ module _ (content : State) (readable : IsWellFormed content) (db : Database) (st
     trips_answer : HasAnswer text params db (map trip_row (filter passes content.trips))
     trips_answer =
         has_passing trip_key trip_row FitsTrip 1 (by_one trip_key trip_row FitsTrip (λ x. refl) (λ x. refl)) trips_table text params passes_row asks
-        db stands.schema passes (λ t fits. passing t) content.trips (readable.ranges.parts part.trips) readable.trips stands.rows.records.trips
+        db stands.schema passes (λ t fits. passing t) content.trips (readable.ranges.parts part.trips) (readable.order part.trips)
+        (as_map trips_table trip_row content.trips db.trees (stands.rows name.Trips))
 
   pub trip_answer : (trip : ℕ) → HasAnswer TRIP_BY_NUMBER.now (number_value trip ∷ []) db (map trip_row (filter (λ t. trip_key t == trip) content.trips))
   trip_answer trip = trips_answer TRIP_BY_NUMBER.now (number_value trip ∷ []) (has_number 0 trip) (trip_text trip) (λ t. trip_key t == trip) (λ t. same_number t.id trip)
@@ -165,12 +170,12 @@ module _ (content : State) (readable : IsWellFormed content) (db : Database) (st
   rider_marks_answer : HasMarks RIDER_MARKS.now rider_key rider_chair_rows db content.riders
   rider_marks_answer =
       marks_answer rider_key rider_chair_rows (λ r. (r.wheelchair, refl)) rider_chairs_table RIDER_MARKS.now rider_marks_text db stands.schema content.riders
-      (rider_numbers content readable) readable.riders stands.rows.rider_chairs
+      (rider_numbers content readable) (readable.order part.riders) (stands.rows name.RiderChairs)
 
   trip_marks_answer : HasMarks TRIP_MARKS.now trip_key trip_chair_rows db content.trips
   trip_marks_answer =
       marks_answer trip_key trip_chair_rows (λ t. (t.wheelchair, refl)) trip_chairs_table TRIP_MARKS.now trip_marks_text db stands.schema content.trips
-      (trip_numbers content readable) readable.trips stands.rows.trip_chairs
+      (trip_numbers content readable) (readable.order part.trips) (stands.rows name.TripChairs)
 
 -- ---- the same of a connection that keeps the content, and of parameters that were made on the way
 

@@ -175,8 +175,8 @@ pub plans_of_day : (content : State) → IsWellFormed content → Each (HasVersi
     → plans_of day content.planned (vehicle_ids content.vehicles) ≡ planned_on day content.planned
 plans_of_day content readable carried day low =
     let ids = vehicle_ids content.vehicles in
-    plans_are day low content.planned readable.planned (readable.ranges.parts part.planned) ids
-    (ids_rise content.vehicles readable.vehicles (days_low content.vehicles
+    plans_are day low content.planned (readable.order part.planned) (readable.ranges.parts part.planned) ids
+    (ids_rise content.vehicles (readable.order part.vehicles) (days_low content.vehicles
     (readable.ranges.parts part.vehicles)))
     ∙ filter_alike (HasVersionAmong content.vehicles) (λ plan. plan.day == day && has_id ids plan.vehicle) (λ plan. plan.day == day)
     (λ plan has. ap (λ b. plan.day == day && b) (ids_are content.vehicles plan.vehicle ∙ has) ∙ and_true (plan.day == day)) content.planned carried

@@ -17,6 +17,7 @@ use Rattle.pt_desk_rules.specs.Parts as part
 use Rattle.pt_desk_rules.specs.Ranges.{FitsPlan, FitsStop}
 use Rattle.pt_desk_rules.specs.Sound.{HasStops}
 use Rattle.pt_desk_rules.specs.State.{State}
+use Rattle.pt_desk_rules.specs.declared.table_name.TableName.TheVariants as name
 use Rattle.pt_records.specs.Keys.{pair_key}
 use Rattle.pt_records.specs.Records.{Each, IsInOrder, record_at}
 use Rattle.pt_scheduling.specs.Plan.{Plan, plan_key}
@@ -178,7 +179,7 @@ module _ (content : State) (readable : IsWellFormed content) (m n : ℕ) (low : 
       ∙ ap (flat_map stop_rows) (filter_alike FitsPlan (λ plan. plan.vehicle == m && plan.day == n) (λ plan. plan_key plan == pair_key m n)
       (λ plan fits. same_key plan.vehicle plan.day m n (day_low plan fits) low) content.planned
       (readable.ranges.parts part.planned) ∙ filter_found plan_key (pair_key m n) content.planned
-      readable.planned)
+      (readable.order part.planned))
       ∙ rows_found m n found found_parts
 
   stops_answer : (db : Database) → Stands content db → HasAnswer STOPS_BY_VEHICLE_AND_DAY.now (number_value m ∷ number_value n ∷ []) db (map stop_row wanted)
@@ -190,7 +191,7 @@ module _ (content : State) (readable : IsWellFormed content) (m n : ℕ) (low : 
         let are : IsPermutation there (map stop_row wanted) =
         subst (IsPermutation there) rows_wanted (IsPermutation-filter (has_pair m n)
         (map (columns_of stops_table) (db.trees stops_table.tree)) (flat_map stop_rows content.planned)
-        stands.rows.records.stops) in
+        (stands.rows name.Stops)) in
         same_order 3 (number_in 2) (IsAt m n) (place_le m n) (map stop_row wanted) rows (found_order m n found) (found_at m n found)
         (IsPermutation-trans (map stop_row wanted) there rows (IsPermutation-sym there (map stop_row wanted) are) both.0) both.1;
   }

@@ -17,7 +17,7 @@ each_any key (x ∷ xs) = (omega arith, each_any key xs)
 
 pub few_riders : (content : State) → IsWellFormed content → length content.riders ≤ 2 ^ 32
 few_riders content readable =
-    length-below rider_key 0 (2 ^ 32) content.riders readable.riders (each_any rider_key content.riders)
+    length-below rider_key 0 (2 ^ 32) content.riders (readable.order part.riders) (each_any rider_key content.riders)
     (Each-weaker FitsRider (λ r. rider_key r < 2 ^ 32) (λ r fits. fits.1) content.riders (readable.ranges.parts part.riders))
 
 -- ---- a change
@@ -41,7 +41,7 @@ module _ (change : Change) (s : State) (new : Rider) (readable : IsWellFormed s)
   -- it puts one that is there
   pub riders_still : (there : Rider) → Some there ≡ rider_of new.id s → length s.riders ≡ length (applied change s).riders
   riders_still there found =
-      sym (one_put ∙ length-put_there rider_key new s.riders readable.riders (found_is_some (record_at rider_key new.id s.riders) there (sym found)))
+      sym (one_put ∙ length-put_there rider_key new s.riders (readable.order part.riders) (found_is_some (record_at rider_key new.id s.riders) there (sym found)))
 
   -- it puts one that is not there
   pub riders_one_more : None ≡ rider_of new.id s → min (length s.riders + 1) 18446744073709551615 ≡ length (applied change s).riders

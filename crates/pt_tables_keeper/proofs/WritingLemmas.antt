@@ -6,6 +6,7 @@ use Rattle.sqlite.specs.Tree.{Trees}
 use Rattle.sqlite.specs.declared.error.Error.{Error}
 use Rattle.sqlite.proofs.InsideLemmas.{unchanged_keeps}
 use Rattle.sqlite.proofs.StateLemmas.{survives_then}
+use Rattle.pt_desk_rules.specs.Parts as part
 use Rattle.pt_desk_rules.specs.State.{State}
 use Rattle.pt_desk_rules.specs.declared.change.Change.{Change}
 use Rattle.pt_records.specs.Records.{Each}
@@ -41,7 +42,7 @@ survives_read old new P survives = record {
 -- the plans of its keys are what the change needs besides the lists
 pub agrees_over : (change : Change) (known content : State) (plans : List Plan) → IsWellFormed content → Each IsOneKey change.planned.away → AgreesFor change known content
     → plans ≡ plans_at content.planned (keys_of change.planned) [] → AgreesWith change known plans content
-agrees_over change known content plans well one agrees is = (agrees, knows_edited change.planned content.planned plans well.planned one is)
+agrees_over change known content plans well one agrees is = (agrees, knows_edited change.planned content.planned plans (well.order part.planned) one is)
 
 module _ (old mid new : Connected) (rests : Rests old mid) (always : Survives mid new (λ _. Unit {0})) where
   pub clean_mid : HasCleanDisk new → HasCleanDisk mid

@@ -32,11 +32,11 @@ use Rattle.pt_tables_opening.specs.declared.changes.TheConstants.{TRIP_ROWS, STO
 use Rattle.pt_tables_opening.specs.declared.table_rows.TheConstants.{DESK_ROWS}
 use Rattle.pt_tables_opening.proofs.BesideLemmas.{beside_each, beside_in_order}
 use Rattle.pt_tables_opening.proofs.GroupOrders.{plans_keep, travel_keeps}
-use Rattle.pt_tables_opening.proofs.OrderedLemmas.{alone, keeps_all_order}
+use Rattle.pt_tables_opening.proofs.OrderedLemmas.{keeps_all_order}
 use Rattle.pt_tables_opening.proofs.ShownRows.{AsksAll, AsksAllIn, asks_for_all}
 use Rattle.pt_tables_rows.specs.Rows.{row_if, rider_chair_rows, vehicle_chair_rows, trip_chair_rows, caller_row}
 use Rattle.pt_tables_rows.specs.Rows.{kept_row, place_row, route_row, rider_row, entry_row, vehicle_row, trip_row}
-use Rattle.pt_tables_rows.specs.Rows.{stop_rows, travel_rows}
+use Rattle.pt_tables_rows.specs.Rows.{one_row, stop_rows, travel_rows}
 use Rattle.pt_tables_rows.specs.Schema.{IsEarlier, desk_schema, schema_of, desk_table, callers_table, kept_table, places_table, fixed_table, vehicles_table, riders_table, entries_table, trips_table}
 use Rattle.pt_tables_rows.specs.Schema.{stops_table, travel_table, rider_chairs_table, vehicle_chairs_table, trip_chairs_table}
 use Rattle.pt_tables_rows.specs.Tables.{columns_of, IsStoredPlan}
@@ -92,56 +92,56 @@ IsAsked text table key rows_of Fits = AsksForAll text table (KeepsOrder key rows
 
 module _ {A : Type 0} (key : A → ℕ) (row_of : A → Row) (Fits : A → Type 0) (table : Table) (text : List ℕ) where
   -- their key is the first column
-  by_one : AsksAll 1 table text → ((x : A) → IsCounted (row_of x)) → ((x : A) → number_in 0 (row_of x) ≡ key x) → IsAsked text table key (alone row_of) Fits
+  by_one : AsksAll 1 table text → ((x : A) → IsCounted (row_of x)) → ((x : A) → number_in 0 (row_of x) ≡ key x) → IsAsked text table key (one_row row_of) Fits
   by_one asks is keyed =
-      asks_for_all 1 table text (KeepsOrder key (alone row_of) (FitsRows (alone row_of) Fits)) asks
-      (keeps_all_order 1 (number_in 0) IsCounted count_le key row_of (FitsRows (alone row_of) Fits) (λ x fits. is x) keyed)
+      asks_for_all 1 table text (KeepsOrder key (one_row row_of) (FitsRows (one_row row_of) Fits)) asks
+      (keeps_all_order 1 (number_in 0) IsCounted count_le key row_of (FitsRows (one_row row_of) Fits) (λ x fits. is x) keyed)
 
   -- their key is the first two columns
-  by_two : AsksAll 2 table text → ((x : A) → Fits x → IsPaired (row_of x)) → ((x : A) → double_key (row_of x) ≡ key x) → IsAsked text table key (alone row_of) Fits
+  by_two : AsksAll 2 table text → ((x : A) → Fits x → IsPaired (row_of x)) → ((x : A) → double_key (row_of x) ≡ key x) → IsAsked text table key (one_row row_of) Fits
   by_two asks is keyed =
-      asks_for_all 2 table text (KeepsOrder key (alone row_of) (FitsRows (alone row_of) Fits)) asks
-      (keeps_all_order 2 double_key IsPaired pair_le key row_of (FitsRows (alone row_of) Fits) (λ x fits. is x fits.0) keyed)
+      asks_for_all 2 table text (KeepsOrder key (one_row row_of) (FitsRows (one_row row_of) Fits)) asks
+      (keeps_all_order 2 double_key IsPaired pair_le key row_of (FitsRows (one_row row_of) Fits) (λ x fits. is x fits.0) keyed)
 
-pub callers_asked : IsAsked CALLER_ROWS.now callers_table caller_key (alone caller_row) IsCaller
+pub callers_asked : IsAsked CALLER_ROWS.now callers_table caller_key (one_row caller_row) IsCaller
 unfolding understood everything desk_schema
 callers_asked = by_one caller_key caller_row IsCaller callers_table CALLER_ROWS.now
     (asks_all desk_schema 1 callers_table CALLER_ROWS.now refl (refl, refl) refl (λ r. refl) refl (λ r. (refl, tt))) (λ x. refl) (λ x. refl)
 
-pub kept_asked : IsAsked KEPT_ROWS.now kept_table kept_key (alone kept_row) FitsKept
+pub kept_asked : IsAsked KEPT_ROWS.now kept_table kept_key (one_row kept_row) FitsKept
 unfolding understood everything desk_schema
 kept_asked = by_one kept_key kept_row FitsKept kept_table KEPT_ROWS.now
     (asks_all desk_schema 1 kept_table KEPT_ROWS.now refl (refl, refl) refl (λ r. refl) refl (λ r. (refl, tt))) (λ x. refl) (λ x. refl)
 
-pub places_asked : IsAsked PLACE_ROWS.now places_table place_key (alone place_row) FitsPlace
+pub places_asked : IsAsked PLACE_ROWS.now places_table place_key (one_row place_row) FitsPlace
 unfolding understood everything desk_schema
 places_asked = by_one place_key place_row FitsPlace places_table PLACE_ROWS.now
     (asks_all desk_schema 1 places_table PLACE_ROWS.now refl (refl, refl) refl (λ r. refl) refl (λ r. (refl, tt))) (λ x. refl) (λ x. refl)
 
-pub routes_asked : IsAsked ROUTE_ROWS.now fixed_table route_key (alone route_row) IsRoute
+pub routes_asked : IsAsked ROUTE_ROWS.now fixed_table route_key (one_row route_row) IsRoute
 unfolding understood everything desk_schema
 routes_asked = by_one route_key route_row IsRoute fixed_table ROUTE_ROWS.now
     (asks_all desk_schema 1 fixed_table ROUTE_ROWS.now refl (refl, refl) refl (λ r. refl) refl (λ r. (refl, tt))) (λ x. refl) (λ x. refl)
 
-pub vehicles_asked : IsAsked VEHICLE_ROWS.now vehicles_table vehicle_key (alone vehicle_row) IsVehicle
+pub vehicles_asked : IsAsked VEHICLE_ROWS.now vehicles_table vehicle_key (one_row vehicle_row) IsVehicle
 unfolding understood everything desk_schema
 vehicles_asked = by_two vehicle_key vehicle_row IsVehicle vehicles_table VEHICLE_ROWS.now
     (asks_all desk_schema 2 vehicles_table VEHICLE_ROWS.now refl (refl, refl) refl (λ r. refl) refl (λ r. (refl, (refl, tt))))
     (λ x fits. record { first = refl; second = refl; second_low = let last = fits.from_day.1 in omega arith })
     (λ x. refl)
 
-pub riders_asked : IsAsked RIDER_ROWS.now riders_table rider_key (alone rider_row) FitsRider
+pub riders_asked : IsAsked RIDER_ROWS.now riders_table rider_key (one_row rider_row) FitsRider
 unfolding understood everything desk_schema
 riders_asked = by_one rider_key rider_row FitsRider riders_table RIDER_ROWS.now
     (asks_all desk_schema 1 riders_table RIDER_ROWS.now refl (refl, refl) refl (λ r. refl) refl (λ r. (refl, tt))) (λ x. refl) (λ x. refl)
 
-pub entries_asked : IsAsked ENTRY_ROWS.now entries_table entry_key (alone entry_row) FitsFiled
+pub entries_asked : IsAsked ENTRY_ROWS.now entries_table entry_key (one_row entry_row) FitsFiled
 unfolding understood everything desk_schema
 entries_asked = by_two entry_key entry_row FitsFiled entries_table ENTRY_ROWS.now
     (asks_all desk_schema 2 entries_table ENTRY_ROWS.now refl (refl, refl) refl (λ r. refl) refl (λ r. (refl, (refl, tt))))
     (λ x fits. record { first = refl; second = refl; second_low = fits.position }) (λ x. refl)
 
-pub trips_asked : IsAsked TRIP_ROWS.now trips_table trip_key (alone trip_row) FitsTrip
+pub trips_asked : IsAsked TRIP_ROWS.now trips_table trip_key (one_row trip_row) FitsTrip
 unfolding understood everything desk_schema
 trips_asked = by_one trip_key trip_row FitsTrip trips_table TRIP_ROWS.now
     (asks_all desk_schema 1 trips_table TRIP_ROWS.now refl (refl, refl) refl (λ r. refl) refl (λ r. (refl, tt))) (λ x. refl) (λ x. refl)

@@ -11,13 +11,10 @@ use Rattle.pt_tables_asking.specs.Asking.{AreInOrder}
 use Rattle.pt_tables_asking.proofs.AskedQueries.{keys_of}
 use Rattle.pt_tables_asking.proofs.OrderedLemmas.{IsNumbered, keeps_order, row_le, same_order, told_order, triple_key}
 use Rattle.pt_tables_opening.specs.Gathered.{KeepsOrder}
+use Rattle.pt_tables_rows.specs.Rows.{one_row}
 use Rattle.pt_tables_rows.proofs.SameRowsLists.{in_one_order}
 
 -- ---- records of one row each, whose rows have their keys
-
--- the rows of such a record
-abbrev pub alone : {A : Type 0} → (A → Row) → A → List Row
-alone row_of x = row_of x ∷ []
 
 module _ (columns : ℕ) (row_key : Row → ℕ) (Is : Row → Type 0) (le : (a b : Row) → Is a → Is b → is_lt (key_cmp 0 (keys_of columns) b a) ≡ false → row_key a ≤ row_key b)
     {A : Type 0} (key : A → ℕ) (row_of : A → Row) (Fits : A → Type 0) (is : (x : A) → Fits x → Is (row_of x)) (keyed : (x : A) → row_key (row_of x) ≡ key x) where
@@ -29,7 +26,7 @@ module _ (columns : ℕ) (row_key : Row → ℕ) (Is : Row → Type 0) (le : (a 
   order_back [] order = tt
   order_back (x ∷ xs) order = (above_back x xs order.0, order_back xs order.1)
 
-  pub keeps_all_order : (rows : List Row) → AreInOrder columns rows → KeepsOrder key (alone row_of) Fits rows
+  pub keeps_all_order : (rows : List Row) → AreInOrder columns rows → KeepsOrder key (one_row row_of) Fits rows
   keeps_all_order rows ordered =
       let all = flat_map_single row_of in
       record {

@@ -1,8 +1,6 @@
 -- The schemas of all versions are plain, so they can be compared field by field.
-use Rattle.std.proofs.Common.{◌≡◌, ◌∙◌, ◌↔◌, ℕ, List, [], ◌∷◌, ◌++◌, map, flat_map, take, drop, get_or, Bool, IsTrue, refl, sym, ap, subst}
+use Rattle.std.proofs.Common.{◌≡◌, ◌∙◌, ◌↔◌, ℕ, List, [], ◌∷◌, map, drop, get_or, Bool, IsTrue, refl, sym, ap, subst}
 use Rattle.std.proofs.Common.{Result, Ok, Err, IfOk, ◌≤◌, false, true, arith}
-use Rattle.std.proofs.lemmas.List.{take-append-drop}
-use Rattle.std.proofs.lemmas.List.Concat.{flat_map-append}
 use Rattle.std.specs.List.{AllByRecursion}
 use Rattle.sqlite.specs.Effect.{Database}
 use Rattle.sqlite.specs.Held.{Held, state}
@@ -12,9 +10,10 @@ use Rattle.sqlite.specs.Store.{Ghosts}
 use Rattle.sqlite.specs.Table.{Table}
 use Rattle.sqlite.specs.declared.types.Value.TheVariants.{Null}
 use Rattle.sqlite_schema.specs.declared.schema.Column.{Column}
+use Rattle.pt_desk_rules.specs.declared.table_name.TableName.{TableName}
+use Rattle.pt_desk_rules.specs.declared.table_name.TableName.TheVariants as name
 use Rattle.pt_tables_opening.specs.Plain.{IsPlainColumn, IsPlainTable, IsPlainSchema, no_stamps}
-use Rattle.pt_tables_rows.proofs.SameRowsLists.{all_front}
-use Rattle.pt_tables_rows.specs.Schema.{Version, versions, table_version, tables_of, schema_of, desk_schema, no_schema, tables}
+use Rattle.pt_tables_rows.specs.Schema.{table_version, table_in, names_of, schema_of, desk_schema, no_schema}
 use Rattle.pt_tables_rows.specs.Tables.{AddsVersions}
 
 -- with no default
@@ -36,21 +35,17 @@ plain_table table same = record {
   stamps = sym (ap (λ (t : Table). t.stamps) same);
 }
 
--- tables that are the same without are plain
-plain_tables : (ts : List Table) → map bare_table ts ≡ ts → AllByRecursion IsPlainTable ts
-plain_tables [] same = tt
-plain_tables (t ∷ ts) same = (plain_table t (ap (λ (l : List Table). get_or l 0 t) same), plain_tables ts (ap (drop 1) same))
+bare_in : (t : TableName) → bare_table (table_in t) ≡ table_in t
+bare_in name.Desk = refl
+bare_in _ = refl
 
-plain_among : (version : ℕ) → AllByRecursion IsPlainTable (tables_of version)
-plain_among version =
-    let adds = λ (v : Version). v.tables in
-    let all : flat_map adds (take version versions ++ drop version versions) ≡ tables = ap (flat_map adds) (take-append-drop version versions) in
-    all_front IsPlainTable (tables_of version) (flat_map adds (drop version versions))
-    (subst (AllByRecursion IsPlainTable) (sym all ∙ flat_map-append adds (take version versions) (drop version versions)) (plain_tables tables refl))
+plain_named : (ts : List TableName) → AllByRecursion IsPlainTable (map table_in ts)
+plain_named [] = tt
+plain_named (t ∷ ts) = (plain_table (table_in t) (bare_in t), plain_named ts)
 
 pub schema_plain : (version : ℕ) → IsPlainSchema (schema_of version)
 unfolding schema_of
-schema_plain version = record { tables = plain_among version; views = refl }
+schema_plain version = record { tables = plain_named (names_of version); views = refl }
 
 desk_schema_is : schema_of table_version ≡ desk_schema
 unfolding desk_schema

@@ -21,12 +21,13 @@ use Rattle.pt_tables_opening.specs.Opening.{Rests}
 use Rattle.pt_tables_opening.specs.Refused.{AreUnsound, SparesOtherVersion, TellsWhy}
 use Rattle.pt_tables_opening.specs.Standing.{IsFirstAtFault, NoneStandsTo, StandsIn}
 use Rattle.pt_tables_opening.specs.Steps.{HasRowsTo, IsFaultOf, IsReadTo, OpensTable, OpensTo, ReadsTable}
-use Rattle.pt_tables_opening.specs.Tables.{HasRowsIn, IsLaidIn}
+use Rattle.pt_tables_opening.specs.Tables.{IsLaidIn}
+use Rattle.pt_tables_rows.specs.Tables.{HasRowsIn}
 use Rattle.pt_tables_opening.specs.Agency.{HasOtherVersion}
 use Rattle.pt_tables_opening.specs.declared.open_fault.OpenFault.{OpenFault}
 use Rattle.pt_tables_opening.proofs.AgencyLemmas.{spares_none}
 use Rattle.pt_tables_opening.proofs.RestLemmas.{refused, rests_so, rests_then}
-use Rattle.pt_tables_opening.proofs.TableCases.{and_in, each_laid, last_table, no_answer, passed_on, rows_in, sound_there}
+use Rattle.pt_tables_opening.proofs.TableCases.{and_in, each_laid, last_table, no_answer, passed_on, sound_there}
 use Rattle.pt_tables_rows.specs.Schema.{desk_schema}
 
 -- ---- the tables in their order
@@ -41,7 +42,7 @@ all_stand s trees = Each-both (IsSoundIn s) (HasRowsIn s trees) (StandsIn s tree
 
 -- if no content has the rows, no sound state has them
 none_sound : (n : ℕ) (trees : Trees) → NoneStandsTo n trees → AreUnsound trees
-none_sound n trees none = λ s sound has. none s (each_table (StandsIn s trees) (λ t. record { rows = rows_in s trees has t; sound = sound_in s sound t }) (take n all_tables))
+none_sound n trees none = λ s sound has. none s (each_table (StandsIn s trees) (λ t. record { rows = has t; sound = sound_in s sound t }) (take n all_tables))
 
 -- ---- what a refusal says
 

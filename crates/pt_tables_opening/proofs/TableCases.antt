@@ -1,16 +1,21 @@
 -- What holds of each table. Its place among all. What a content that is sound there, or has its rows, has in it. Two
 -- contents with its rows have the same records in it, except for wheelchairs and wheelchair places, which the last
 -- three tables have.
-use Rattle.std.proofs.Common.{◌≡◌, ◌+◌, ◌-◌, ◌<◌, ◌≤◌, ◌++◌, zero, suc, ℕ, List, [], ◌∷◌, length, map, take, drop}
+use Rattle.std.proofs.Common.{◌≡◌, ◌+◌, ◌-◌, ◌<◌, ◌≤◌, ◌++◌, zero, suc, ℕ, List, [], ◌∷◌, length, map, flat_map, take, drop}
 use Rattle.std.proofs.Common.{get_or, refl, sym, ap, subst, arith, false, subst₂, ◌∙◌, Result, Ok, IsErr}
 use Rattle.std.proofs.Common.{IsErrAnd, Err, IfOk, IfErr, lit≤}
 use Rattle.std.specs.List.{range_with_len}
 use Rattle.std.proofs.lemmas.List.Sorted.{IsPermutation-refl}
+use Rattle.std.specs.Prelude.{IsPermutation}
+use Rattle.sqlite.specs.Order.{Row}
+use Rattle.sqlite.specs.Table.{Table}
 use Rattle.sqlite.specs.Tree.{Trees}
+use Rattle.pt_desk_rules.specs.Parts.{Part, key_in, record_in, records_of}
+use Rattle.pt_desk_rules.specs.Parts as part
 use Rattle.pt_desk_rules.specs.Ranges.{FitsPlan, FitsRider, FitsTrip}
 use Rattle.pt_desk_rules.specs.Sound.{HasStops}
 use Rattle.pt_desk_rules.specs.State.{State, rider_key, vehicle_key, trip_key}
-use Rattle.pt_records.specs.Records.{Each}
+use Rattle.pt_records.specs.Records.{Each, IsInOrder}
 use Rattle.pt_records.proofs.OrderLemmas.{Each-weaker}
 use Rattle.pt_scheduling.specs.Plan.{Plan, IsRoutePlan}
 use Rattle.pt_desk_rules.specs.TableNames.{all_tables, number_of, table_count}
@@ -19,9 +24,10 @@ use Rattle.pt_soundness.specs.Tables.{AreSoundKept, AreSoundLoads, AreSoundPlace
 use Rattle.pt_soundness.specs.Tables.{AreSoundRoutes, AreSoundTables, AreSoundTrips, AreSoundVehicles}
 use Rattle.pt_desk_rules.specs.declared.table_name.TableName.{TableName}
 use Rattle.pt_desk_rules.specs.declared.table_name.TableName.TheVariants as table
-use Rattle.pt_tables_rows.specs.Rows.{stop_rows, vehicle_row, rider_row}
-use Rattle.pt_tables_rows.specs.Rows.{trip_row}
-use Rattle.pt_tables_rows.specs.Tables.{HasRows, IsStoredPlan}
+use Rattle.pt_tables_rows.specs.Rows.{stop_rows, vehicle_row, rider_row, trip_row, one_row, record_rows}
+use Rattle.pt_tables_rows.specs.Schema.{table_in, vehicles_table, riders_table, trips_table}
+use Rattle.pt_tables_rows.specs.Tables.{AreRows, HasRowsIn, IsStored, IsStoredPlan}
+use Rattle.pt_tables_rows.proofs.NameLemmas.{as_map}
 use Rattle.pt_base.specs.declared.place.Place.{Place}
 use Rattle.pt_base.specs.declared.rider.Rider.{Rider}
 use Rattle.pt_base.specs.declared.trip.Trip.{Trip}
@@ -33,12 +39,11 @@ use Rattle.pt_soundness.proofs.AlikeLemmas.{AlikeRider, AlikeTrip, AlikeVehicle,
 use Rattle.pt_soundness.proofs.PairedLemmas.{Paired, paired_by}
 use Rattle.pt_spelling.proofs.FieldLemmas.{days-same}
 use Rattle.pt_spelling.specs.Ranges.{IsVehicle}
-use Rattle.pt_tables_rows.proofs.SameRowsLists.{one_same}
+use Rattle.pt_tables_rows.proofs.SameRowsLists.{none_beside, one_same}
 use Rattle.pt_tables_rows.proofs.ColumnLemmas.{number_in, known_in, known-value}
-use Rattle.pt_tables_rows.proofs.SameRows.{last_trip-told, trip-told}
-use Rattle.pt_tables_rows.proofs.SameRows as rows_tell
+use Rattle.pt_tables_rows.proofs.SameRows.{beside_rows, last_trip-told, pair_in, rows_of_part, same_records, shared, table_of, trip-told}
 use Rattle.pt_tables_opening.specs.Gathered.{FitsRows}
-use Rattle.pt_tables_opening.specs.Tables.{HasRowsIn, IsLaidIn}
+use Rattle.pt_tables_opening.specs.Tables.{IsLaidIn, IsStoredIn}
 use Rattle.pt_tables_opening.proofs.ContentLemmas.{mid}
 use Rattle.pt_tables_opening.proofs.GatheredLemmas.{each_push}
 use Rattle.pt_tables_opening.proofs.PlanReading.{rows-of-stops}
@@ -123,22 +128,19 @@ ranges_laid s table.VehicleChairs laid = tt
 ranges_laid s table.TripChairs laid = tt
 ranges_laid s _ laid = laid.1
 
--- tables that have the rows of a content have those of each table
-pub rows_in : (s : State) (trees : Trees) → HasRows s trees → (t : TableName) → HasRowsIn s trees t
-rows_in s trees has table.Desk = has.records.desk
-rows_in s trees has table.Callers = has.records.callers
-rows_in s trees has table.Kept = has.records.kept
-rows_in s trees has table.Places = has.records.places
-rows_in s trees has table.Fixed = has.records.fixed
-rows_in s trees has table.Vehicles = has.records.vehicles
-rows_in s trees has table.Riders = has.records.riders
-rows_in s trees has table.Entries = has.records.entries
-rows_in s trees has table.Trips = has.records.trips
-rows_in s trees has table.Stops = has.records.stops
-rows_in s trees has table.Travel = has.records.travel
-rows_in s trees has table.RiderChairs = has.rider_chairs
-rows_in s trees has table.VehicleChairs = has.vehicle_chairs
-rows_in s trees has table.TripChairs = has.trip_chairs
+-- the records of a part, in the order of their keys
+pub laid_of : (p : Part) (s : State) → IsLaidIn s (table_of p) → IsInOrder (key_in p) (records_of p s) × Each (IsStoredIn p) (records_of p s)
+laid_of part.callers s laid = laid
+laid_of p s laid = laid
+
+-- and their rows
+pub rows_of : (p : Part) (s : State) (trees : Trees) → HasRowsIn s trees (table_of p) → AreRows (table_in (table_of p)) trees (flat_map (record_rows p) (records_of p s))
+rows_of p s trees rows = subst (AreRows (table_in (table_of p)) trees) (rows_of_part p s) rows
+
+-- what is read back can be stored
+storable : (p : Part) (x : record_in p) → IsStoredIn p x → IsStored p x
+storable part.planned x fits = fits.0
+storable p x fits = fits
 
 -- ---- records with the same row
 
@@ -200,68 +202,76 @@ module _ (one other : State) (trees : Trees) where
   laid_one t both = laid_in one t both.it.sound
 
   same_last : Shared one other trees table.Desk → one.last_trip ≡ other.last_trip
-  same_last both = last_trip-told one.policy other.policy one.last_trip other.last_trip (one_same _ _ (rows_tell.shared _ _ _ both.it.rows both.rows))
+  same_last both = last_trip-told one.policy other.policy one.last_trip other.last_trip (one_same _ _ (shared _ _ _ both.it.rows both.rows))
+
+  -- records with the same rows in their own table, and in a second one, are the same
+  same_part : (p : Part) (beside : List Row) → Shared one other trees (table_of p) → IsPermutation beside (flat_map (beside_rows p) (records_of p one))
+      → IsPermutation beside (flat_map (beside_rows p) (records_of p other)) → records_of p one ≡ records_of p other
+  same_part p beside both marks other_marks =
+      let laid = laid_of p one (laid_one (table_of p) both) in
+      let other_laid = laid_of p other both.laid in
+      same_records p _ beside (records_of p one) (records_of p other) laid.0 other_laid.0
+      (Each-weaker (IsStoredIn p) (IsStored p) (storable p) (records_of p one) laid.1)
+      (Each-weaker (IsStoredIn p) (IsStored p) (storable p) (records_of p other) other_laid.1)
+      (rows_of p one trees both.it.rows) (rows_of p other trees both.rows) marks other_marks
+
+  -- and where there is no second table
+  same_alone : (p : Part) → ((xs : List (record_in p)) → IsPermutation [] (flat_map (beside_rows p) xs)) → Shared one other trees (table_of p)
+      → records_of p one ≡ records_of p other
+  same_alone p none both = same_part p [] both (none (records_of p one)) (none (records_of p other))
 
   same_callers : Shared one other trees table.Callers → one.callers ≡ other.callers
-  same_callers both = rows_tell.same_callers _ one.callers other.callers (laid_one table.Callers both).0 both.laid.0 both.it.rows both.rows
+  same_callers = same_alone part.callers (λ xs. none_beside xs)
 
   same_kept : Shared one other trees table.Kept → one.kept ≡ other.kept
-  same_kept both =
-      let laid = laid_one table.Kept both in
-      rows_tell.same_kept _ one.kept other.kept laid.0 both.laid.0 laid.1 both.laid.1 both.it.rows both.rows
+  same_kept = same_alone part.kept (λ xs. none_beside xs)
 
   same_places : Shared one other trees table.Places → one.places ≡ other.places
-  same_places both = rows_tell.same_places _ one.places other.places (laid_one table.Places both).0 both.laid.0 both.it.rows both.rows
+  same_places = same_alone part.places (λ xs. none_beside xs)
 
   same_routes : Shared one other trees table.Fixed → one.routes ≡ other.routes
-  same_routes both =
-      let laid = laid_one table.Fixed both in
-      rows_tell.same_routes _ one.routes other.routes laid.0 both.laid.0 laid.1 both.laid.1 both.it.rows both.rows
+  same_routes = same_alone part.routes (λ xs. none_beside xs)
+
+  same_entries : Shared one other trees table.Entries → one.entries ≡ other.entries
+  same_entries = same_alone part.entries (λ xs. none_beside xs)
+
+  same_planned : Shared one other trees table.Stops → one.planned ≡ other.planned
+  same_planned = same_alone part.planned (λ xs. none_beside xs)
+
+  same_travel : Shared one other trees table.Travel → one.travel ≡ other.travel
+  same_travel = same_alone part.travel (λ xs. none_beside xs)
+
+  same_vehicles : Shared one other trees table.Vehicles → Shared one other trees table.VehicleChairs → one.vehicles ≡ other.vehicles
+  same_vehicles both chairs = same_part part.vehicles _ both chairs.it.rows chairs.rows
+
+  same_trips : Shared one other trees table.Trips → Shared one other trees table.TripChairs → one.trips ≡ other.trips
+  same_trips both chairs = same_part part.trips _ both chairs.it.rows chairs.rows
+
+  -- the rows of records of one row each
+  rows_shared : {A : Type 0} (home : Table) (row : A → Row) (xs ys : List A) → AreRows home trees (flat_map (one_row row) xs)
+      → AreRows home trees (flat_map (one_row row) ys) → IsPermutation (map row xs) (map row ys)
+  rows_shared home row xs ys ones others = shared _ _ _ (as_map home row xs trees ones) (as_map home row ys trees others)
 
   alike_in_vehicles : Shared one other trees table.Vehicles → Paired AlikeVehicle one.vehicles other.vehicles
   alike_in_vehicles both =
       let laid = laid_one table.Vehicles both in
       vehicles_alike one.vehicles other.vehicles laid.1 both.laid.1
-      (same_rows vehicle_key rows_tell.pair_in vehicle_row (λ x. refl) one.vehicles other.vehicles laid.0 both.laid.0 (rows_tell.shared _ _ _ both.it.rows both.rows))
+      (same_rows vehicle_key pair_in vehicle_row (λ x. refl) one.vehicles other.vehicles laid.0 both.laid.0
+      (rows_shared vehicles_table vehicle_row one.vehicles other.vehicles both.it.rows both.rows))
 
   alike_in_riders : Shared one other trees table.Riders → Paired AlikeRider one.riders other.riders
   alike_in_riders both =
       let laid = laid_one table.Riders both in
       riders_alike one.riders other.riders laid.1 both.laid.1
-      (same_rows rider_key (number_in 0) rider_row (λ x. refl) one.riders other.riders laid.0 both.laid.0 (rows_tell.shared _ _ _ both.it.rows both.rows))
-
-  same_entries : Shared one other trees table.Entries → one.entries ≡ other.entries
-  same_entries both =
-      let laid = laid_one table.Entries both in
-      rows_tell.same_entries _ one.entries other.entries laid.0 both.laid.0 laid.1 both.laid.1 both.it.rows both.rows
+      (same_rows rider_key (number_in 0) rider_row (λ x. refl) one.riders other.riders laid.0 both.laid.0
+      (rows_shared riders_table rider_row one.riders other.riders both.it.rows both.rows))
 
   alike_in_trips : Shared one other trees table.Trips → Paired AlikeTrip one.trips other.trips
   alike_in_trips both =
       let laid = laid_one table.Trips both in
       trips_alike one.trips other.trips laid.1 both.laid.1
-      (same_rows trip_key (number_in 0) trip_row (λ x. refl) one.trips other.trips laid.0 both.laid.0 (rows_tell.shared _ _ _ both.it.rows both.rows))
-
-  same_planned : Shared one other trees table.Stops → one.planned ≡ other.planned
-  same_planned both =
-      let laid = laid_one table.Stops both in
-      rows_tell.same_planned _ one.planned other.planned laid.0 both.laid.0 (stored one.planned laid.1) (stored other.planned both.laid.1) both.it.rows both.rows
-    where
-      stored : (plans : List Plan) → Each (FitsRows stop_rows IsStoredPlan) plans → Each IsStoredPlan plans
-      stored = Each-weaker (FitsRows stop_rows IsStoredPlan) IsStoredPlan (λ plan fits. fits.0)
-
-  same_travel : Shared one other trees table.Travel → one.travel ≡ other.travel
-  same_travel both =
-      let laid = laid_one table.Travel both in
-      rows_tell.same_travel _ one.travel other.travel laid.0 both.laid.0 laid.1 both.laid.1 both.it.rows both.rows
-
-  same_vehicles : Shared one other trees table.Vehicles → Shared one other trees table.VehicleChairs → one.vehicles ≡ other.vehicles
-  same_vehicles both chairs =
-      let laid = laid_one table.Vehicles both in
-      rows_tell.same_vehicles _ _ one.vehicles other.vehicles laid.0 both.laid.0 laid.1 both.laid.1 both.it.rows both.rows chairs.it.rows chairs.rows
-
-  same_trips : Shared one other trees table.Trips → Shared one other trees table.TripChairs → one.trips ≡ other.trips
-  same_trips both chairs =
-      rows_tell.same_trips _ _ one.trips other.trips (laid_one table.Trips both).0 both.laid.0 both.it.rows both.rows chairs.it.rows chairs.rows
+      (same_rows trip_key (number_in 0) trip_row (λ x. refl) one.trips other.trips laid.0 both.laid.0
+      (rows_shared trips_table trip_row one.trips other.trips both.it.rows both.rows))
 
 -- the two contents share the rows of each table up to this one
 abbrev SharedTo : TableName → State → State → Trees → Type 0

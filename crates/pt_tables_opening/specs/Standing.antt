@@ -6,7 +6,7 @@ use Rattle.pt_records.specs.Records.{Each}
 use Rattle.pt_desk_rules.specs.TableNames.{all_tables}
 use Rattle.pt_soundness.specs.Tables.{IsSoundIn}
 use Rattle.pt_desk_rules.specs.declared.table_name.TableName.{TableName}
-use Rattle.pt_tables_opening.specs.Tables.{HasRowsIn}
+use Rattle.pt_tables_rows.specs.Tables.{HasRowsIn}
 
 -- the content has the rows of this table, and is sound there
 pub record StandsIn (s : State) (trees : Trees) (table : TableName) : Type 0 where

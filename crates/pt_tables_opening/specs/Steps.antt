@@ -18,10 +18,10 @@ use Rattle.pt_tables_opening.specs.Gathered.{AreRowsOfNone, FitsRows, IsFitting}
 use Rattle.pt_tables_opening.specs.Opening.{Rests}
 use Rattle.pt_tables_opening.specs.Refused.{SparesOtherVersion, TellsWhy}
 use Rattle.pt_tables_opening.specs.Standing.{NoneStandsTo}
-use Rattle.pt_tables_opening.specs.Tables.{HasNoneIn, HasRowsIn, IsLaidIn}
+use Rattle.pt_tables_opening.specs.Tables.{HasNoneIn, IsLaidIn}
 use Rattle.pt_tables_opening.specs.declared.open_fault.OpenFault.{OpenFault}
 use Rattle.pt_tables_rows.specs.Schema.{desk_schema}
-use Rattle.pt_tables_rows.specs.Tables.{AreRows}
+use Rattle.pt_tables_rows.specs.Tables.{AreRows, HasRowsIn}
 
 -- the first `number` tables were read and found sound, and no others
 pub record IsReadTo (number : ℕ) (s : State) : Type 0 where

@@ -3,7 +3,7 @@ use Rattle.std.proofs.Common.{◌≡◌, ◌≢◌, ◌<◌, ◌≤◌, ◌+◌,
 use Rattle.std.proofs.Common.{inl, inr, Some, Result, Ok, Err, refl, sym, ap, subst, ◌∙◌, arith, slice_get, slice_index_or, fold, map, flat_map, drop}
 use Rattle.std.proofs.Common.{take, length}
 use Rattle.std.proofs.lemmas.Bool.{cases_lt}
-use Rattle.std.proofs.lemmas.List.{append-nil, append_assoc, append_cancel_left, take-append-drop, take-take, take_all}
+use Rattle.std.proofs.lemmas.List.{append-nil, append_assoc, append_cancel_left, map-append, take-append-drop, take-take, take_all}
 use Rattle.std.proofs.lemmas.List.Concat.{flat_map-append}
 use Rattle.std.proofs.lemmas.List.Sums.{sum_by-append}
 use Rattle.std.specs.List.{AllByRecursion, sum_by}
@@ -26,15 +26,18 @@ use Rattle.sqlite_tied.specs.Compute.{everything}
 use Rattle.pt_base.specs.declared.policy.Policy.{Policy}
 use Rattle.pt_requests.specs.declared.caller.Caller.{Caller}
 use Rattle.pt_desk_rules.specs.State.{State, new_state}
+use Rattle.pt_desk_rules.specs.TableNames.{all_tables}
+use Rattle.pt_desk_rules.specs.declared.table_name.TableName.{TableName}
+use Rattle.pt_desk_rules.specs.declared.table_name.TableName.TheVariants as name
 use Rattle.pt_tables_rows.specs.Rows.{desk_row, caller_row}
-use Rattle.pt_tables_rows.specs.Schema.{Version, versions, table_version, tables_of, tables_between, indexes_of, statement_count, schema_of}
-use Rattle.pt_tables_rows.specs.Schema.{desk_schema, no_schema, tables, first_tables, chairs_tables}
+use Rattle.pt_tables_rows.specs.Schema.{Version, versions, table_version, table_in, names_of, names_between, tables_of, tables_between, indexes_of, statement_count, schema_of}
+use Rattle.pt_tables_rows.specs.Schema.{desk_schema, no_schema, first_tables, chairs_tables}
 use Rattle.pt_tables_rows.specs.Schema.{desk_table, callers_table, kept_table, places_table, fixed_table}
 use Rattle.pt_tables_rows.specs.Schema.{vehicles_table, riders_table}
 use Rattle.pt_tables_rows.specs.Schema.{entries_table, trips_table, stops_table, travel_table, rider_chairs_table, vehicle_chairs_table, trip_chairs_table, trip_indexes, trips_rider, trips_day}
 use Rattle.pt_tables_rows.specs.declared.schema.TheConstants.{STATEMENTS}
 use Rattle.pt_tables_rows.specs.Tables.{AddsIfOk, AddsVersions, AreRows, Fills, HasRows, HaveRowids, IsBlank, LeadsIfOk, Stands, columns_of}
-use Rattle.pt_tables_rows.proofs.NamedTables.{of_table, with_tree}
+use Rattle.pt_tables_rows.proofs.NameLemmas.{all_from, at_table, other_at}
 use Rattle.pt_tables_rows.proofs.PartLemmas.{went, same_value}
 use Rattle.pt_tables_rows.proofs.SameRowsLists.{all_back, all_front}
 
@@ -65,7 +68,7 @@ made_in schema (an_index table index) = indexed schema table (as_defined index)
 
 -- what each of them makes
 abbrev made_by : List Made
-made_by = map a_table (first_tables ++ chairs_tables) ++ map (an_index trips_table) trip_indexes
+made_by = map (λ t. a_table (table_in t)) (first_tables ++ chairs_tables) ++ map (an_index trips_table) trip_indexes
 
 -- the schema after this many of the statements
 abbrev pub schema_after : ℕ → Schema
@@ -212,12 +215,21 @@ counts_rise from to order =
     let front : sum_by count (take from vs) ≡ statement_count from = ap (sum_by count) (take-take from to versions order) in
     omega (arith, split, front)
 
-pub tables_split : (from to : ℕ) → from ≤ to → tables_of to ≡ tables_of from ++ tables_between from to
-tables_split from to order =
+pub names_split : (from to : ℕ) → from ≤ to → names_of to ≡ names_of from ++ names_between from to
+names_split from to order =
     let adds = λ (v : Version). v.tables in
     let vs = take to versions in
     ap (flat_map adds) (sym (take-append-drop from vs)) ∙ flat_map-append adds (take from vs) (drop from vs)
-    ∙ ap (λ front. flat_map adds front ++ tables_between from to) (take-take from to versions order)
+    ∙ ap (λ front. flat_map adds front ++ names_between from to) (take-take from to versions order)
+
+tables_split : (from to : ℕ) → from ≤ to → tables_of to ≡ tables_of from ++ tables_between from to
+tables_split from to order = ap (map table_in) (names_split from to order) ∙ map-append table_in (names_of from) (names_between from to)
+
+-- what holds of the tables of a version, and of those that later versions add, holds of each table
+pub of_all : (P : TableName → Type 0) (version : ℕ) → version ≤ table_version → AllByRecursion P (names_of version)
+    → AllByRecursion P (names_between version table_version) → (t : TableName) → P t
+of_all P version low first later =
+    at_table P (subst (AllByRecursion P) (sym (names_split version table_version low)) (all-append P (names_of version) (names_between version table_version) first later))
 
 -- each version adds an index
 adds_index : (version : ℕ) → version < table_version → length (indexes_of version) < length (indexes_of (version + 1))
@@ -403,53 +415,13 @@ leads_to_blank old new (Err e) keeps = keeps
 pub none_there : (table : Table) (trees : Trees) (rows : List Row) → trees table.tree ≡ [] → rows ≡ [] → AreRows table trees rows
 none_there table trees rows empty none = IsPermutation-same _ rows (ap (map (columns_of table)) empty ∙ sym none)
 
-no_rowids : (ts : List Table) (trees : Trees) → AllByRecursion (Empty trees) ts → AllByRecursion (λ t. HaveRowids (trees t.tree)) ts
-no_rowids [] trees empty = tt
-no_rowids (t ∷ ts) trees empty = (subst HaveRowids (sym empty.0) (record { rising = tt; whole = tt }), no_rowids ts trees empty.1)
-
--- the table is not the agency's, and not that of the callers
-abbrev IsBeyond : Table → Type 0
-IsBeyond t = (t.tree ≢ desk_table.tree) × (t.tree ≢ callers_table.tree)
-
--- a table that is not filled has no row
-abbrev Unfilled : Table → Trees → Trees → Table → Type 0
-Unfilled filled old new t = t.tree ≢ filled.tree → new t.tree ≡ old t.tree
-
-still_unfilled : (ts : List Table) (blank desked done : Trees) → AllByRecursion IsBeyond ts → AllByRecursion (Empty blank) ts → AllByRecursion (Unfilled desk_table blank desked) ts
-    → AllByRecursion (Unfilled callers_table desked done) ts → AllByRecursion (Empty done) ts
-still_unfilled [] blank desked done beyond empty desk callers = tt
-still_unfilled (t ∷ ts) blank desked done beyond empty desk callers =
-    (callers.0 beyond.0.1 ∙ desk.0 beyond.0.0 ∙ empty.0, still_unfilled ts blank desked done beyond.1 empty.1 desk.1 callers.1)
-
--- the tables whose records a new desk lacks
-abbrev later_tables : List Table
-later_tables = drop 2 tables
-
-are_beyond : AllByRecursion IsBeyond later_tables
-are_beyond = (
-  (λ e. cc, λ e. cc),
-  (
-    (λ e. cc, λ e. cc),
-    (
-      (λ e. cc, λ e. cc),
-      (
-        (λ e. cc, λ e. cc),
-        (
-          (λ e. cc, λ e. cc),
-          (
-            (λ e. cc, λ e. cc),
-            ((λ e. cc, λ e. cc), ((λ e. cc, λ e. cc), ((λ e. cc, λ e. cc), ((λ e. cc, λ e. cc), ((λ e. cc, λ e. cc), ((λ e. cc, λ e. cc), tt)))))),
-          ),
-        ),
-      ),
-    ),
-  ),
-)
-
 module _ (policy : Policy) (caller : Caller) (blank desked done : Database) (first : IsBlank blank) (desk : Fills desk_table (desk_row policy 0) blank desked)
     (callers : Fills callers_table (caller_row caller) desked done) where
-  unfilled : AllByRecursion (Empty done.trees) later_tables
-  unfilled = still_unfilled later_tables blank.trees desked.trees done.trees are_beyond first.rows.1.1 desk.others.1.1 callers.others.1.1
+  -- the other tables have no row
+  empty_in : (t : TableName) → (table_in t).tree ≢ desk_table.tree → (table_in t).tree ≢ callers_table.tree → done.trees (table_in t).tree ≡ []
+  empty_in t not_desk not_callers =
+      other_at callers_table desked.trees done.trees callers.others t not_callers
+      ∙ other_at desk_table blank.trees desked.trees desk.others t not_desk ∙ at_table (λ u. blank.trees (table_in u).tree ≡ []) first.rows t
 
   no_callers : desked.trees callers_table.tree ≡ []
   no_callers = desk.others.1.0 (λ e. cc) ∙ first.rows.1.0
@@ -458,34 +430,21 @@ module _ (policy : Policy) (caller : Caller) (blank desked done : Database) (fir
   same_desk = callers.others.0 (λ e. cc)
 
   rows_of_new : (shown : Policy) → desk_row shown 0 ≡ desk_row policy 0 → HasRows (new_state (caller ∷ []) shown) done.trees
-  rows_of_new shown same =
-      let trees = done.trees in
-      let none : (t : Table) → with_tree t.tree later_tables ≡ Some t → AreRows t trees [] =
-      λ t is. none_there t trees [] (of_table (Empty trees) later_tables t is unfilled) refl in
-      record {
-        records = record {
-          desk = subst (λ rows. IsPermutation (map (columns_of desk_table) rows) (desk_row shown 0 ∷ [])) (sym same_desk)
-              (subst (λ row. AreRows desk_table desked.trees (row ∷ [])) (sym same) (desk.rows first.rows.0));
-          callers = callers.rows no_callers;
-          kept = none kept_table refl;
-          places = none places_table refl;
-          fixed = none fixed_table refl;
-          vehicles = none vehicles_table refl;
-          riders = none riders_table refl;
-          entries = none entries_table refl;
-          trips = none trips_table refl;
-          stops = none stops_table refl;
-          travel = none travel_table refl;
-        };
-        rider_chairs = none rider_chairs_table refl;
-        vehicle_chairs = none vehicle_chairs_table refl;
-        trip_chairs = none trip_chairs_table refl;
-      }
+  rows_of_new shown same name.Desk =
+      subst (λ rows. IsPermutation (map (columns_of desk_table) rows) (desk_row shown 0 ∷ [])) (sym same_desk)
+      (subst (λ row. AreRows desk_table desked.trees (row ∷ [])) (sym same) (desk.rows first.rows.0))
+  rows_of_new shown same name.Callers = callers.rows no_callers
+  rows_of_new shown same t = none_there (table_in t) done.trees [] (empty_in t (λ e. cc) (λ e. cc)) refl
+
+  rowids_of_new : (t : TableName) → HaveRowids (done.trees (table_in t).tree)
+  rowids_of_new name.Desk = subst HaveRowids (sym same_desk) (desk.rowids first.rows.0)
+  rowids_of_new name.Callers = callers.rowids no_callers
+  rowids_of_new t = subst HaveRowids (sym (empty_in t (λ e. cc) (λ e. cc))) (record { rising = tt; whole = tt })
 
   -- a content with this caller alone, and a policy with the same row as the one that was written
   pub stands_new : (content : State) → desk_row content.policy 0 ≡ desk_row policy 0 → content ≡ new_state (caller ∷ []) content.policy → Stands content done
   stands_new content same is = subst (λ (s : State). Stands s done) (sym is) (record {
     schema = callers.schema;
     rows = rows_of_new content.policy same;
-    rowids = (subst HaveRowids (sym same_desk) (desk.rowids first.rows.0), (callers.rowids no_callers, no_rowids later_tables done.trees unfilled));
+    rowids = all_from (λ t. HaveRowids (done.trees (table_in t).tree)) rowids_of_new all_tables;
   })

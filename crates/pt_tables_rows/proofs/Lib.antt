@@ -1,6 +1,6 @@
 pub mod ColumnLemmas
 pub mod CreateLemmas
-pub mod NamedTables
+pub mod NameLemmas
 pub mod NumberQueries
 pub mod PartLemmas
 pub mod SameRows

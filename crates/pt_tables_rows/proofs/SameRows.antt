@@ -23,8 +23,8 @@ use Rattle.pt_base.specs.declared.trip_status.TripStatus.{TripStatus}
 use Rattle.pt_base.specs.declared.trip_status.TripStatus.TheVariants.{Booked, Cancelled, Ridden, MissedRider, MissedOperator}
 use Rattle.pt_base.specs.declared.vehicle.Vehicle.{Vehicle}
 use Rattle.pt_corridor.specs.Route.{FixedRoute, IsRouteOnPlane}
+use Rattle.pt_desk_rules.specs.Parts.{Part, edit_of, key_in, record_in, records_of}
 use Rattle.pt_desk_rules.specs.Parts as part
-use Rattle.pt_desk_rules.specs.Travel.{TravelTable}
 use Rattle.pt_desk_rules.specs.declared.change.FiledEntry.{FiledEntry}
 use Rattle.pt_desk_rules.specs.declared.kept.Kept.{Kept}
 use Rattle.pt_requests.specs.declared.caller.Caller.{Caller}
@@ -34,18 +34,21 @@ use Rattle.pt_desk_rules.specs.Entry.{Entry}
 use Rattle.pt_desk_rules.specs.Entry.TheVariants as entry
 use Rattle.pt_desk_rules.specs.Grant.{Grant}
 use Rattle.pt_spelling.specs.Fields.{numbers_bytes}
-use Rattle.pt_spelling.specs.Ranges.{IsWeek, IsEntry, IsWord, IsRoute, IsVehicle}
+use Rattle.pt_spelling.specs.Ranges.{IsCaller, IsWeek, IsEntry, IsWord, IsRoute, IsVehicle}
 use Rattle.pt_spelling.specs.Replies.{IsReply}
 use Rattle.pt_spelling.specs.Requests.{role_number, subject_of, kind_number, entry_number}
 use Rattle.pt_spelling.proofs.FieldLemmas.{bool-same, days-same}
 use Rattle.pt_spelling.proofs.SettingLemmas.{policy-same}
 use Rattle.pt_base.specs.Day.{IsDay}
-use Rattle.pt_desk_rules.specs.Ranges.{FitsPlan, FitsFiled, FitsKept, FitsTravel}
+use Rattle.pt_desk_rules.specs.Ranges.{FitsPlan, FitsFiled, FitsKept, FitsPlace, FitsRider, FitsTrip}
 use Rattle.pt_desk_rules.specs.Sound.{HasStops, IsSound}
-use Rattle.pt_desk_rules.specs.State.{State, applied, caller_key, kept_key, place_key, route_key, rider_key, entry_key, vehicle_key, travel_key, trip_key}
+use Rattle.pt_desk_rules.specs.State.{State, applied, caller_key, kept_key, place_key, route_key, rider_key, entry_key, vehicle_key, trip_key}
+use Rattle.pt_desk_rules.specs.declared.table_name.TableName.{TableName}
+use Rattle.pt_desk_rules.specs.declared.table_name.TableName.TheVariants as name
 use Rattle.pt_desk_rules.specs.declared.change.Change.{Change}
+use Rattle.pt_desk_rules.proofs.PartLemmas.{parts_applied, states_by_parts}
 use Rattle.pt_desk_rules.proofs.RangeLemmas.{each-edited, ranges_kept}
-use Rattle.pt_records.specs.Records.{Each, Edit, IsInOrder, edited}
+use Rattle.pt_records.specs.Records.{Each, IsInOrder}
 use Rattle.pt_records.proofs.OrderLemmas.{Each-both}
 use Rattle.pt_records.proofs.TableLemmas.{IsInOrder-edited}
 use Rattle.pt_scheduling.specs.Plan.{Plan, plan_key}
@@ -53,11 +56,12 @@ use Rattle.pt_records.specs.Keys.{pair_key}
 use Rattle.pt_tables_rows.specs.Rows.{desk_row, caller_row, place_row, rider_row, vehicle_row, trip_row}
 use Rattle.pt_tables_rows.specs.Rows.{status_number, route_row, kept_row, entry_row, first_number, second_number}
 use Rattle.pt_tables_rows.specs.Rows.{entry_conditions, entry_words, row_if, rider_chair_rows, vehicle_chair_rows}
-use Rattle.pt_tables_rows.specs.Rows.{trip_chair_rows, stop_rows, travel_rows}
-use Rattle.pt_tables_rows.proofs.SameRowsLists.{one_same, told_by_rows, told_by_row, told_by_any_row, told_beside, each_any}
+use Rattle.pt_tables_rows.specs.Rows.{trip_chair_rows, one_row, record_rows, rows_in}
+use Rattle.pt_tables_rows.specs.Schema.{table_in, rider_chairs_table, vehicle_chairs_table, trip_chairs_table}
+use Rattle.pt_tables_rows.proofs.SameRowsLists.{Tells, none_beside, one_same, told_by_rows}
 use Rattle.pt_tables_rows.proofs.SameRowsBytes.{line-told, reply-told, grant-told}
 use Rattle.pt_tables_rows.proofs.ColumnLemmas.{integer_in, number_in, known_in, bytes_in, known-value}
-use Rattle.pt_tables_rows.specs.Tables.{IsStoredPlan, IsWellFormed, PutsWellFormed, HasRows}
+use Rattle.pt_tables_rows.specs.Tables.{AreRows, HasRows, IsStored, IsStoredPlan, IsWellFormed, PutsWellFormed, columns_of}
 use Rattle.pt_tables_rows.specs.Opens.{Opens}
 use Rattle.pt_tables_rows.proofs.SameRowsGroups.{stops-keyed, stops-some, plan-told, drives-keyed, table-told}
 
@@ -333,48 +337,58 @@ day-word n day = let last = day.1 in omega arith
 pub stored-plans : (plans : List Plan) → Each FitsPlan plans → Each HasStops plans → Each IsStoredPlan plans
 stored-plans plans fits some = Each-both FitsPlan HasStops IsStoredPlan (λ plan fits some. (fits, some)) plans fits some
 
+-- and so the records of each part of a content that is well-formed
+pub stored_in : (s : State) → IsWellFormed s → (p : Part) → Each (IsStored p) (records_of p s)
+stored_in s well part.planned = stored-plans s.planned (well.ranges.parts part.planned) well.stops
+stored_in s well p = well.ranges.parts p
+
 -- ---- sound states are well-formed
 
+in_order : (s : State) → IsSound s → (p : Part) → IsInOrder (key_in p) (records_of p s)
+in_order s sound part.callers = sound.callers.in_order
+in_order s sound part.kept = sound.kept_in_order
+in_order s sound part.places = sound.places.in_order
+in_order s sound part.routes = sound.routes.in_order
+in_order s sound part.riders = sound.riders.in_order
+in_order s sound part.entries = sound.entries_in_order
+in_order s sound part.vehicles = sound.vehicles_in_order
+in_order s sound part.travel = sound.travel.in_order
+in_order s sound part.trips = sound.trips_in_order
+in_order s sound part.planned = sound.planned_in_order
+
 pub sound-well_formed : (s : State) → IsSound s → IsWellFormed s
-sound-well_formed s sound = record {
-  callers = sound.callers.in_order;
-  kept = sound.kept_in_order;
-  places = sound.places.in_order;
-  routes = sound.routes.in_order;
-  riders = sound.riders.in_order;
-  entries = sound.entries_in_order;
-  vehicles = sound.vehicles_in_order;
-  travel = sound.travel.in_order;
-  trips = sound.trips_in_order;
-  planned = sound.planned_in_order;
-  stops = sound.planned_have_stops;
-  ranges = sound.ranges;
-}
+sound-well_formed s sound = record { order = in_order s sound; stops = sound.planned_have_stops; ranges = sound.ranges }
 
 -- ---- and what changes leave is
-
-in_order-edited : {A : Type 0} (key : A → ℕ) (edit : Edit A) (xs : List A) → IsInOrder key xs
-    → IsInOrder key (edited key edit xs)
-in_order-edited key edit xs order = IsInOrder-edited key edit.away edit.puts xs order
 
 pub applied-well_formed : (change : Change) (s : State) → IsWellFormed s → PutsWellFormed change
     → IsWellFormed (applied change s)
 applied-well_formed change s told new = record {
-  callers = in_order-edited caller_key change.callers s.callers told.callers;
-  kept = in_order-edited kept_key change.kept s.kept told.kept;
-  places = in_order-edited place_key change.places s.places told.places;
-  routes = in_order-edited route_key change.routes s.routes told.routes;
-  riders = in_order-edited rider_key change.riders s.riders told.riders;
-  entries = in_order-edited entry_key change.entries s.entries told.entries;
-  vehicles = in_order-edited vehicle_key change.vehicles s.vehicles told.vehicles;
-  travel = in_order-edited travel_key change.travel s.travel told.travel;
-  trips = in_order-edited trip_key change.trips s.trips told.trips;
-  planned = in_order-edited plan_key change.planned s.planned told.planned;
+  order = λ p. subst (IsInOrder (key_in p)) (sym (parts_applied p change s))
+      (IsInOrder-edited (key_in p) (edit_of p change).away (edit_of p change).puts (records_of p s) (told.order p));
   stops = each-edited HasStops plan_key change.planned s.planned new.stops told.stops;
   ranges = ranges_kept change s new.ranges told.ranges;
 }
 
--- ---- the records of a table
+-- ---- the records of a part
+
+-- the table of a part's records
+abbrev pub table_of : Part → TableName
+table_of part.callers = name.Callers
+table_of part.kept = name.Kept
+table_of part.places = name.Places
+table_of part.routes = name.Fixed
+table_of part.riders = name.Riders
+table_of part.entries = name.Entries
+table_of part.vehicles = name.Vehicles
+table_of part.travel = name.Travel
+table_of part.trips = name.Trips
+table_of part.planned = name.Stops
+
+-- the rows of that table
+pub rows_of_part : (p : Part) (s : State) → rows_in (table_of p) s ≡ flat_map (record_rows p) (records_of p s)
+rows_of_part part.callers s = refl
+rows_of_part p s = refl
 
 -- the rows of one are the rows of the other
 pub shared : (shown one other : List Row) → IsPermutation shown one → IsPermutation shown other → IsPermutation one other
@@ -384,103 +398,99 @@ shared shown one other ones others = IsPermutation-trans _ _ _ (IsPermutation-sy
 abbrev pub pair_in : Row → ℕ
 pair_in row = pair_key (number_in 0 row) (number_in 1 row)
 
--- records in order, with the same rows in the table, are the same
-module _ (shown : List Row) where
-  pub same_callers : (one other : List Caller) → IsInOrder caller_key one → IsInOrder caller_key other
-      → IsPermutation shown (map caller_row one) → IsPermutation shown (map caller_row other) → one ≡ other
-  same_callers one other order other_order rows other_rows =
-      told_by_any_row caller_key (number_in 0) caller_row (λ x. refl) caller-told one other order other_order (shared _ _ _ rows other_rows)
+-- the rows of a record in a second table
+abbrev pub beside_rows : (p : Part) → record_in p → List Row
+beside_rows part.riders = rider_chair_rows
+beside_rows part.vehicles = vehicle_chair_rows
+beside_rows part.trips = trip_chair_rows
+beside_rows p = λ x. []
 
-  pub same_kept : (one other : List Kept) → IsInOrder kept_key one → IsInOrder kept_key other → Each FitsKept one → Each FitsKept other
-      → IsPermutation shown (map kept_row one) → IsPermutation shown (map kept_row other) → one ≡ other
-  same_kept one other order other_order fit others_fit rows other_rows =
-      told_by_row kept_key (number_in 0) kept_row FitsKept (λ x. refl) (λ x y fits also. kept-told x y fits.reply also.reply) one other order other_order fit others_fit
-      (shared _ _ _ rows other_rows)
+module _ {A : Type 0} (key : A → ℕ) (number : Row → ℕ) (row : A → Row) (Fits : A → Type 0) (keyed : (x : A) → number (row x) ≡ key x) where
+  -- records of one row each, with rows in a second table
+  by_both : (beside : A → List Row) → ((x : A) → AllByRecursion (λ r. number r ≡ key x) (beside x))
+      → ((x y : A) → Fits x → Fits y → row x ≡ row y → IsPermutation (beside x) (beside y) → x ≡ y) → Tells key (one_row row) beside Fits
+  by_both beside also_keyed told = record {
+    key_in = number;
+    key_beside = number;
+    keyed = λ x. (keyed x, tt);
+    also_keyed = also_keyed;
+    some = λ x fits. omega arith;
+    told = λ x y fits also same marks. told x y fits also (one_same (row x) (row y) same) marks;
+  }
 
-  pub same_places : (one other : List Place) → IsInOrder place_key one → IsInOrder place_key other → IsPermutation shown (map place_row one) → IsPermutation shown (map place_row other) → one ≡ other
-  same_places one other order other_order rows other_rows =
-      told_by_any_row place_key (number_in 0) place_row (λ x. refl) place-told one other order other_order (shared _ _ _ rows other_rows)
+  -- and without them
+  by_row : ((x y : A) → Fits x → Fits y → row x ≡ row y → x ≡ y) → Tells key (one_row row) (λ x. []) Fits
+  by_row told = by_both (λ x. []) (λ x. tt) (λ x y fits also same none. told x y fits also same)
 
-  pub same_routes : (one other : List FixedRoute) → IsInOrder route_key one → IsInOrder route_key other → Each IsRoute one → Each IsRoute other
-      → IsPermutation shown (map route_row one) → IsPermutation shown (map route_row other) → one ≡ other
-  same_routes one other order other_order fit others_fit rows other_rows =
-      told_by_row route_key (number_in 0) route_row IsRoute (λ x. refl) (λ x y fits also. route-told x y (fits.fixed.on_plane, fits.days) (also.fixed.on_plane, also.days))
-      one other order other_order fit others_fit (shared _ _ _ rows other_rows)
+tells : (p : Part) → Tells (key_in p) (record_rows p) (beside_rows p) (IsStored p)
+tells part.callers = by_row caller_key (number_in 0) caller_row IsCaller (λ x. refl) (λ x y fits also. caller-told x y)
+tells part.kept = by_row kept_key (number_in 0) kept_row FitsKept (λ x. refl) (λ x y fits also. kept-told x y fits.reply also.reply)
+tells part.places = by_row place_key (number_in 0) place_row FitsPlace (λ x. refl) (λ x y fits also. place-told x y)
+tells part.routes =
+    by_row route_key (number_in 0) route_row IsRoute (λ x. refl) (λ x y fits also. route-told x y (fits.fixed.on_plane, fits.days) (also.fixed.on_plane, also.days))
+tells part.riders =
+    by_both rider_key (number_in 0) rider_row FitsRider (λ x. refl) rider_chair_rows (λ x. so_keyed x.wheelchair _ (number_in 0) x.id refl)
+    (λ x y fits also. rider-told x y)
+tells part.entries = by_row entry_key pair_in entry_row FitsFiled (λ x. refl) (λ x y fits also. entry-told x y fits.entry also.entry)
+tells part.vehicles =
+    by_both vehicle_key pair_in vehicle_row IsVehicle (λ x. refl) vehicle_chair_rows (λ x. so_keyed (not (x.chairs == 0)) _ pair_in (vehicle_key x) refl)
+    (λ x y fits also. vehicle-told x y fits.days also.days)
+tells part.travel = record {
+  key_in = number_in 0;
+  key_beside = number_in 0;
+  keyed = λ x. drives-keyed x.from_day ((0, 0, 0) ∷ x.rows);
+  also_keyed = λ x. tt;
+  some = λ x fits. omega arith;
+  told = λ x y fits also same none. table-told x y fits.table.in_order also.table.in_order same;
+}
+tells part.trips =
+    by_both trip_key (number_in 0) trip_row FitsTrip (λ x. refl) trip_chair_rows (λ x. so_keyed x.wheelchair _ (number_in 0) x.id refl)
+    (λ x y fits also. trip-told x y)
+tells part.planned = record {
+  key_in = pair_in;
+  key_beside = pair_in;
+  keyed = λ x. stops-keyed 0 x.vehicle x.day x.stops;
+  also_keyed = λ x. tt;
+  some = λ x fits. stops-some x fits.1;
+  told = λ x y fits also same none. plan-told x y fits.1 also.1 same;
+}
 
-  pub same_entries : (one other : List FiledEntry) → IsInOrder entry_key one → IsInOrder entry_key other → Each FitsFiled one → Each FitsFiled other
-      → IsPermutation shown (map entry_row one) → IsPermutation shown (map entry_row other) → one ≡ other
-  same_entries one other order other_order fit others_fit rows other_rows =
-      told_by_row entry_key pair_in entry_row FitsFiled (λ x. refl) (λ x y fits also. entry-told x y fits.entry also.entry) one other order other_order fit others_fit
-      (shared _ _ _ rows other_rows)
-
-  pub same_travel : (one other : List TravelTable) → IsInOrder travel_key one → IsInOrder travel_key other → Each FitsTravel one → Each FitsTravel other
-      → IsPermutation shown (flat_map travel_rows one) → IsPermutation shown (flat_map travel_rows other) → one ≡ other
-  same_travel one other order other_order fit others_fit rows other_rows =
-      told_by_rows travel_key (number_in 0) travel_rows FitsTravel (λ x. drives-keyed x.from_day ((0, 0, 0) ∷ x.rows)) (λ x fits. omega arith)
-      (λ x y fits also. table-told x y fits.table.in_order also.table.in_order) one other order other_order fit others_fit (shared _ _ _ rows other_rows)
-
-  pub same_planned : (one other : List Plan) → IsInOrder plan_key one → IsInOrder plan_key other → Each IsStoredPlan one → Each IsStoredPlan other
-      → IsPermutation shown (flat_map stop_rows one) → IsPermutation shown (flat_map stop_rows other) → one ≡ other
-  same_planned one other order other_order fit others_fit rows other_rows =
-      told_by_rows plan_key pair_in stop_rows IsStoredPlan (λ x. stops-keyed 0 x.vehicle x.day x.stops) (λ x fits. stops-some x fits.1) (λ x y fits also. plan-told x y fits.1 also.1)
-      one other order other_order fit others_fit (shared _ _ _ rows other_rows)
-
--- the same, if a second table has rows of the same records
-module _ (shown beside : List Row) where
-  pub same_riders : (one other : List Rider) → IsInOrder rider_key one → IsInOrder rider_key other → IsPermutation shown (map rider_row one) → IsPermutation shown (map rider_row other)
-      → IsPermutation beside (flat_map rider_chair_rows one) → IsPermutation beside (flat_map rider_chair_rows other) → one ≡ other
-  same_riders one other order other_order rows other_rows marks other_marks =
-      told_beside rider_key (number_in 0) rider_row (number_in 0) rider_chair_rows (λ x. Unit {0}) (λ x. refl) (λ x. so_keyed x.wheelchair _ (number_in 0) x.id refl)
-      (λ x y fits also. rider-told x y) one other order other_order (each_any one) (each_any other) (shared _ _ _ rows other_rows) (shared _ _ _ marks other_marks)
-
-  pub same_vehicles : (one other : List Vehicle) → IsInOrder vehicle_key one → IsInOrder vehicle_key other → Each IsVehicle one → Each IsVehicle other
-      → IsPermutation shown (map vehicle_row one) → IsPermutation shown (map vehicle_row other) → IsPermutation beside (flat_map vehicle_chair_rows one)
-      → IsPermutation beside (flat_map vehicle_chair_rows other) → one ≡ other
-  same_vehicles one other order other_order fit others_fit rows other_rows marks other_marks =
-      told_beside vehicle_key pair_in vehicle_row pair_in vehicle_chair_rows IsVehicle (λ x. refl) (λ x. so_keyed (not (x.chairs == 0)) _ pair_in (vehicle_key x) refl)
-      (λ x y fits also. vehicle-told x y fits.days also.days) one other order other_order fit others_fit (shared _ _ _ rows other_rows) (shared _ _ _ marks other_marks)
-
-  pub same_trips : (one other : List Trip) → IsInOrder trip_key one → IsInOrder trip_key other → IsPermutation shown (map trip_row one) → IsPermutation shown (map trip_row other)
-      → IsPermutation beside (flat_map trip_chair_rows one) → IsPermutation beside (flat_map trip_chair_rows other) → one ≡ other
-  same_trips one other order other_order rows other_rows marks other_marks =
-      told_beside trip_key (number_in 0) trip_row (number_in 0) trip_chair_rows (λ x. Unit {0}) (λ x. refl) (λ x. so_keyed x.wheelchair _ (number_in 0) x.id refl)
-      (λ x y fits also. trip-told x y) one other order other_order (each_any one) (each_any other) (shared _ _ _ rows other_rows) (shared _ _ _ marks other_marks)
+-- records in order, with the same rows in both tables, are the same
+pub same_records : (p : Part) (shown beside : List Row) (one other : List (record_in p)) → IsInOrder (key_in p) one → IsInOrder (key_in p) other
+    → Each (IsStored p) one → Each (IsStored p) other
+    → IsPermutation shown (flat_map (record_rows p) one) → IsPermutation shown (flat_map (record_rows p) other)
+    → IsPermutation beside (flat_map (beside_rows p) one) → IsPermutation beside (flat_map (beside_rows p) other) → one ≡ other
+same_records p shown beside one other order other_order fit others_fit rows other_rows marks other_marks =
+    told_by_rows (key_in p) (record_rows p) (beside_rows p) (IsStored p) (tells p) one other order other_order fit others_fit
+    (shared shown _ _ rows other_rows) (shared beside _ _ marks other_marks)
 
 -- ---- contents
+
+-- the rows that a second table of a part shows
+abbrev shown_beside : Part → Trees → List Row
+shown_beside part.riders trees = map (columns_of rider_chairs_table) (trees rider_chairs_table.tree)
+shown_beside part.vehicles trees = map (columns_of vehicle_chairs_table) (trees vehicle_chairs_table.tree)
+shown_beside part.trips trees = map (columns_of trip_chairs_table) (trees trip_chairs_table.tree)
+shown_beside p trees = []
+
+are_beside : (p : Part) (s : State) (trees : Trees) → HasRows s trees → IsPermutation (shown_beside p trees) (flat_map (beside_rows p) (records_of p s))
+are_beside part.riders s trees has = has name.RiderChairs
+are_beside part.vehicles s trees has = has name.VehicleChairs
+are_beside part.trips s trees has = has name.TripChairs
+are_beside p s trees has = none_beside (records_of p s)
+
+own_rows : (p : Part) (s : State) (trees : Trees) → HasRows s trees → AreRows (table_in (table_of p)) trees (flat_map (record_rows p) (records_of p s))
+own_rows p s trees has = subst (AreRows (table_in (table_of p)) trees) (rows_of_part p s) (has (table_of p))
 
 module _ (one other : State) (trees : Trees) (ones : IsWellFormed one) (others : IsWellFormed other)
     (shows : HasRows one trees) (others_show : HasRows other trees) where
   pub same_content : one ≡ other
   same_content =
-      let rows = shows.records in
-      let other_rows = others_show.records in
-      let desk = one_same _ _ (shared _ _ _ rows.desk other_rows.desk) in
-      let callers = same_callers _ one.callers other.callers ones.callers others.callers rows.callers other_rows.callers in
-      let kept = same_kept _ one.kept other.kept ones.kept others.kept (ones.ranges.parts part.kept) (others.ranges.parts part.kept) rows.kept other_rows.kept in
-      let places = same_places _ one.places other.places ones.places others.places rows.places other_rows.places in
-      let routes = same_routes _ one.routes other.routes ones.routes others.routes (ones.ranges.parts part.routes) (others.ranges.parts part.routes) rows.fixed other_rows.fixed in
-      let riders = same_riders _ _ one.riders other.riders ones.riders others.riders rows.riders other_rows.riders shows.rider_chairs others_show.rider_chairs in
-      let entries = same_entries _ one.entries other.entries ones.entries others.entries (ones.ranges.parts part.entries) (others.ranges.parts part.entries) rows.entries other_rows.entries in
-      let vehicles = same_vehicles _ _ one.vehicles other.vehicles ones.vehicles others.vehicles (ones.ranges.parts part.vehicles) (others.ranges.parts part.vehicles) rows.vehicles other_rows.vehicles
-      shows.vehicle_chairs others_show.vehicle_chairs in
-      let travel = same_travel _ one.travel other.travel ones.travel others.travel (ones.ranges.parts part.travel) (others.ranges.parts part.travel) rows.travel other_rows.travel in
-      let trips = same_trips _ _ one.trips other.trips ones.trips others.trips rows.trips other_rows.trips shows.trip_chairs others_show.trip_chairs in
-      let planned = same_planned _ one.planned other.planned ones.planned others.planned (stored-plans one.planned (ones.ranges.parts part.planned) ones.stops)
-      (stored-plans other.planned (others.ranges.parts part.planned) others.stops) rows.stops other_rows.stops in
-      λ i. record {
-        callers = callers i;
-        kept = kept i;
-        policy = policy-told one.policy other.policy one.last_trip other.last_trip desk i;
-        places = places i;
-        routes = routes i;
-        riders = riders i;
-        entries = entries i;
-        vehicles = vehicles i;
-        travel = travel i;
-        trips = trips i;
-        planned = planned i;
-        last_trip = last_trip-told one.policy other.policy one.last_trip other.last_trip desk i;
-      }
+      let desk = one_same _ _ (shared _ _ _ (shows name.Desk) (others_show name.Desk)) in
+      states_by_parts one other
+      (λ p. same_records p _ (shown_beside p trees) (records_of p one) (records_of p other) (ones.order p) (others.order p) (stored_in one ones p) (stored_in other others p)
+      (own_rows p one trees shows) (own_rows p other trees others_show) (are_beside p one trees shows) (are_beside p other trees others_show))
+      (policy-told one.policy other.policy one.last_trip other.last_trip desk) (last_trip-told one.policy other.policy one.last_trip other.last_trip desk)
 
 pub opens_once : (trees : Trees) (one other : Option State) → Opens trees one → Opens trees other → one ≡ other
 opens_once trees None None ones others = refl

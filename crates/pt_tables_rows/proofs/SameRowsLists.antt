@@ -135,104 +135,75 @@ no_rows : {A R : Type 0} (rows : A → List R) (y : A) (ys : List A) → 0 < len
     → length (flat_map rows (y ∷ ys)) ≡ 0 → ⊥
 no_rows rows y ys some none = absurd (omega (arith, length-append (rows y) (flat_map rows ys)))
 
--- Rows determine records in the order of their keys, if each has a row and two records of one key have different rows.
-pub told_by_rows : {A R : Type 0} (key : A → ℕ) (key_in : R → ℕ) (rows : A → List R) (Fits : A → Type 0)
-    (keyed : (x : A) → AllByRecursion (λ r. key_in r ≡ key x) (rows x))
-    (some : (x : A) → Fits x → 0 < length (rows x))
-    (told : (x y : A) → Fits x → Fits y → IsPermutation (rows x) (rows y) → x ≡ y)
-    (xs ys : List A) → IsInOrder key xs → IsInOrder key ys → Each Fits xs → Each Fits ys
-    → IsPermutation (flat_map rows xs) (flat_map rows ys) → xs ≡ ys
-told_by_rows key key_in rows Fits keyed some told [] [] one other ones others same = refl
-told_by_rows key key_in rows Fits keyed some told [] (y ∷ ys) one other ones others same =
-    absurd (no_rows rows y ys (some y others.0) (length_permutation _ _ same))
-told_by_rows key key_in rows Fits keyed some told (x ∷ xs) [] one other ones others same =
-    absurd (no_rows rows x xs (some x ones.0) (sym (length_permutation _ _ same)))
-told_by_rows key key_in rows Fits keyed some told (x ∷ xs) (y ∷ ys) one other ones others same =
-    let low = no_lower key key_in rows keyed x y xs ys (some x ones.0) other (IsPermutation-sym _ _ same) in
-    let high = no_lower key key_in rows keyed y x ys xs (some y others.0) one same in
-    let first = first_among key key_in rows keyed x y xs ys (omega arith) one other same in
-    let later = others_among key key_in rows keyed x y xs ys (omega arith) one other same in
-    ap₂ ◌∷◌ (told x y ones.0 others.0 first)
-    (told_by_rows key key_in rows Fits keyed some told xs ys one.1 other.1 ones.1 others.1 later)
+-- Records have rows in their own table, one at least, and may have others in a second table. All rows of a record have
+-- its key, and two records of one key have different rows.
+pub record Tells {A R : Type 0} (key : A → ℕ) (rows beside : A → List R) (Fits : A → Type 0) : Type 0 where
+  pub key_in : R → ℕ
+  pub key_beside : R → ℕ
+  pub keyed : (x : A) → AllByRecursion (λ r. key_in r ≡ key x) (rows x)
+  pub also_keyed : (x : A) → AllByRecursion (λ r. key_beside r ≡ key x) (beside x)
+  pub some : (x : A) → Fits x → 0 < length (rows x)
+  pub told : (x y : A) → Fits x → Fits y → IsPermutation (rows x) (rows y) → IsPermutation (beside x) (beside y) → x ≡ y
+
+-- such rows determine records in the order of their keys
+pub told_by_rows : {A R : Type 0} (key : A → ℕ) (rows beside : A → List R) (Fits : A → Type 0) → Tells key rows beside Fits
+    → (xs ys : List A) → IsInOrder key xs → IsInOrder key ys → Each Fits xs → Each Fits ys
+    → IsPermutation (flat_map rows xs) (flat_map rows ys) → IsPermutation (flat_map beside xs) (flat_map beside ys) → xs ≡ ys
+told_by_rows key rows beside Fits by [] [] one other ones others same also = refl
+told_by_rows key rows beside Fits by [] (y ∷ ys) one other ones others same also =
+    absurd (no_rows rows y ys (by.some y others.0) (length_permutation _ _ same))
+told_by_rows key rows beside Fits by (x ∷ xs) [] one other ones others same also =
+    absurd (no_rows rows x xs (by.some x ones.0) (sym (length_permutation _ _ same)))
+told_by_rows key rows beside Fits by (x ∷ xs) (y ∷ ys) one other ones others same also =
+    let low = no_lower key by.key_in rows by.keyed x y xs ys (by.some x ones.0) other (IsPermutation-sym _ _ same) in
+    let high = no_lower key by.key_in rows by.keyed y x ys xs (by.some y others.0) one same in
+    let level : key x ≡ key y = omega (arith, low, high) in
+    let first = first_among key by.key_in rows by.keyed x y xs ys level one other same in
+    let later = others_among key by.key_in rows by.keyed x y xs ys level one other same in
+    let first_also = first_among key by.key_beside beside by.also_keyed x y xs ys level one other also in
+    let later_also = others_among key by.key_beside beside by.also_keyed x y xs ys level one other also in
+    ap₂ ◌∷◌ (by.told x y ones.0 others.0 first first_also)
+    (told_by_rows key rows beside Fits by xs ys one.1 other.1 ones.1 others.1 later later_also)
 
 -- a list of one element has one order
 pub one_same : {R : Type 0} (r s : R) → IsPermutation (r ∷ []) (s ∷ []) → r ≡ s
 one_same r s same = ap (λ rs. get_or rs 0 r) (sym (one_permutation r (s ∷ []) same))
 
-map_as_flat_map : {A R : Type 0} (row : A → R) (xs : List A) → flat_map (λ x. row x ∷ []) xs ≡ map row xs
-map_as_flat_map row [] = refl
-map_as_flat_map row (x ∷ xs) = ap (λ rs. row x ∷ rs) (map_as_flat_map row xs)
+abbrev nothing : (R : Type 0) → List R
+nothing R = []
 
--- records of one row each
-pub told_by_row : {A R : Type 0} (key : A → ℕ) (key_in : R → ℕ) (row : A → R) (Fits : A → Type 0)
-    (keyed : (x : A) → key_in (row x) ≡ key x) (told : (x y : A) → Fits x → Fits y → row x ≡ row y → x ≡ y)
-    (xs ys : List A) → IsInOrder key xs → IsInOrder key ys → Each Fits xs → Each Fits ys
-    → IsPermutation (map row xs) (map row ys) → xs ≡ ys
-told_by_row {A} {R} key key_in row Fits keyed told xs ys one other ones others same =
-    told_by_rows key key_in (λ x. row x ∷ []) Fits (λ x. (keyed x, tt)) (λ x fits. omega arith)
-    (λ x y fits others_fit alike. told x y fits others_fit (one_same (row x) (row y) alike)) xs ys one other ones others
-    (subst (λ rs. IsPermutation rs (flat_map (λ x. row x ∷ []) ys)) (sym (map_as_flat_map row xs))
-    (subst (IsPermutation (map row xs)) (sym (map_as_flat_map row ys)) same))
-
--- records of one row each, with rows in a second table
-pub told_beside : {A R S : Type 0} (key : A → ℕ) (key_in : R → ℕ) (row : A → R) (key_beside : S → ℕ) (beside : A → List S)
-    (Fits : A → Type 0) (keyed : (x : A) → key_in (row x) ≡ key x)
-    (also_keyed : (x : A) → AllByRecursion (λ s. key_beside s ≡ key x) (beside x))
-    (told : (x y : A) → Fits x → Fits y → row x ≡ row y → IsPermutation (beside x) (beside y) → x ≡ y)
-    (xs ys : List A) → IsInOrder key xs → IsInOrder key ys → Each Fits xs → Each Fits ys
-    → IsPermutation (map row xs) (map row ys) → IsPermutation (flat_map beside xs) (flat_map beside ys) → xs ≡ ys
-told_beside {A} {R} {S} key key_in row key_beside beside Fits keyed also_keyed told xs ys one other ones others same also =
-    go xs ys one other ones others
-    (subst (λ rs. IsPermutation rs (flat_map rows ys)) (sym (map_as_flat_map row xs))
-    (subst (IsPermutation (map row xs)) (sym (map_as_flat_map row ys)) same)) also
-  where
-    rows : A → List R
-    rows x = row x ∷ []
-
-    each_keyed : (x : A) → AllByRecursion (λ r. key_in r ≡ key x) (rows x)
-    each_keyed x = (keyed x, tt)
-
-    go : (xs ys : List A) → IsInOrder key xs → IsInOrder key ys → Each Fits xs → Each Fits ys
-        → IsPermutation (flat_map rows xs) (flat_map rows ys)
-        → IsPermutation (flat_map beside xs) (flat_map beside ys) → xs ≡ ys
-    go [] [] one other ones others same also = refl
-    go [] (y ∷ ys) one other ones others same also = absurd (no_rows rows y ys (omega arith) (length_permutation _ _ same))
-    go (x ∷ xs) [] one other ones others same also =
-        absurd (no_rows rows x xs (omega arith) (sym (length_permutation _ _ same)))
-    go (x ∷ xs) (y ∷ ys) one other ones others same also =
-        let low = no_lower key key_in rows each_keyed x y xs ys (omega arith) other (IsPermutation-sym _ _ same) in
-        let high = no_lower key key_in rows each_keyed y x ys xs (omega arith) one same in
-        let level : key x ≡ key y = omega (arith, low, high) in
-        let first = one_same (row x) (row y) (first_among key key_in rows each_keyed x y xs ys level one other same) in
-        let later = others_among key key_in rows each_keyed x y xs ys level one other same in
-        let first_also = first_among key key_beside beside also_keyed x y xs ys level one other also in
-        let later_also = others_among key key_beside beside also_keyed x y xs ys level one other also in
-        ap₂ ◌∷◌ (told x y ones.0 others.0 first first_also) (go xs ys one.1 other.1 ones.1 others.1 later later_also)
+-- records that have no rows have none together
+pub none_beside : {A R : Type 0} (xs : List A) → IsPermutation (nothing R) (flat_map (λ x. nothing R) xs)
+none_beside [] = IsPermutation-refl []
+none_beside (x ∷ xs) = none_beside xs
 
 -- the empty condition holds of each element
-pub each_any : {A : Type 0} (xs : List A) → Each (λ x. Unit {0}) xs
+each_any : {A : Type 0} (xs : List A) → Each (λ x. Unit {0}) xs
 each_any [] = tt
 each_any (x ∷ xs) = (tt, each_any xs)
-
--- and so records that any of their rows determines
-pub told_by_any_row : {A R : Type 0} (key : A → ℕ) (key_in : R → ℕ) (row : A → R)
-    (keyed : (x : A) → key_in (row x) ≡ key x) (told : (x y : A) → row x ≡ row y → x ≡ y)
-    (xs ys : List A) → IsInOrder key xs → IsInOrder key ys → IsPermutation (map row xs) (map row ys) → xs ≡ ys
-told_by_any_row key key_in row keyed told xs ys one other same =
-    told_by_row key key_in row (λ x. Unit {0}) keyed (λ x y fits others_fit. told x y) xs ys one other (each_any xs)
-    (each_any ys) same
 
 -- rows in the order of a number have only one order
 pub in_one_order : {R : Type 0} (key : R → ℕ) (xs ys : List R) → IsInOrder key xs → IsInOrder key ys
     → IsPermutation xs ys → xs ≡ ys
 in_one_order {R} key xs ys one other same =
-    told_by_any_row key key (λ r. r) (λ r. refl) (λ r s alike. alike) xs ys one other
-    (subst (λ rs. IsPermutation rs (map (λ r. r) ys)) (sym (map-same xs))
-    (subst (IsPermutation xs) (sym (map-same ys)) same))
+    told_by_rows key (λ r. r ∷ []) (λ r. []) (λ r. Unit {0}) by xs ys one other (each_any xs) (each_any ys)
+    (subst (λ rs. IsPermutation rs (flat_map (λ r. r ∷ []) ys)) (sym (each-same xs))
+    (subst (IsPermutation xs) (sym (each-same ys)) same))
+    (IsPermutation-trans _ [] _ (IsPermutation-sym [] _ (none_beside xs)) (none_beside ys))
   where
-    map-same : (rs : List R) → map (λ r. r) rs ≡ rs
-    map-same [] = refl
-    map-same (r ∷ rs) = ap (λ l. r ∷ l) (map-same rs)
+    each-same : (rs : List R) → flat_map (λ r. r ∷ []) rs ≡ rs
+    each-same [] = refl
+    each-same (r ∷ rs) = ap (λ l. r ∷ l) (each-same rs)
+
+    by : Tells key (λ r. r ∷ []) (λ r. []) (λ r. Unit {0})
+    by = record {
+      key_in = key;
+      key_beside = key;
+      keyed = λ r. (refl, tt);
+      also_keyed = λ r. tt;
+      some = λ r fits. omega arith;
+      told = λ r s fits also alike none. one_same r s alike;
+    }
 
 -- ---- one element less
 

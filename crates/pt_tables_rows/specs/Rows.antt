@@ -32,6 +32,12 @@ use Rattle.pt_spelling.specs.Replies.{reply_spelling}
 use Rattle.pt_spelling.specs.Requests.{role_number, subject_of, kind_number, entry_number, point_bytes}
 use Rattle.pt_tables_rows.specs.Schema.{table_version}
 use Rattle.pt_desk_rules.specs.Chain as travel
+use Rattle.pt_desk_rules.specs.Parts.{Part, record_in, records_of}
+use Rattle.pt_desk_rules.specs.Parts as part
+use Rattle.pt_desk_rules.specs.State.{State}
+use Rattle.pt_desk_rules.specs.TableNames.{part_of}
+use Rattle.pt_desk_rules.specs.declared.table_name.TableName.{TableName}
+use Rattle.pt_desk_rules.specs.declared.table_name.TableName.TheVariants as name
 
 abbrev pub number_value : ℕ → Value
 number_value n = Int (pos n)
@@ -194,3 +200,39 @@ travel_row from_day row =
 -- the rows of a travel table, after a row of zeros: an empty table has that row only
 abbrev pub travel_rows : TravelTable → List Row
 travel_rows table = map (travel_row table.from_day) ((0, 0, 0) ∷ table.rows)
+
+-- ---- all tables
+
+-- the rows of a record that has one
+abbrev pub one_row : {A : Type 0} → (A → Row) → A → List Row
+one_row row_of x = row_of x ∷ []
+
+-- the rows of a record in the table of its part
+abbrev pub record_rows : (p : Part) → record_in p → List Row
+record_rows part.callers = one_row caller_row
+record_rows part.kept = one_row kept_row
+record_rows part.places = one_row place_row
+record_rows part.routes = one_row route_row
+record_rows part.riders = one_row rider_row
+record_rows part.entries = one_row entry_row
+record_rows part.vehicles = one_row vehicle_row
+record_rows part.travel = travel_rows
+record_rows part.trips = one_row trip_row
+record_rows part.planned = stop_rows
+
+-- the rows of a part's records
+abbrev pub part_rows : Option Part → State → List Row
+part_rows None s = []
+part_rows (Some p) s = flat_map (record_rows p) (records_of p s)
+
+-- the rows of a table in a database of this version
+abbrev pub versioned_rows : ℕ → TableName → State → List Row
+versioned_rows version name.Desk s = versioned_row version s.policy s.last_trip ∷ []
+versioned_rows version name.RiderChairs s = flat_map rider_chair_rows s.riders
+versioned_rows version name.VehicleChairs s = flat_map vehicle_chair_rows s.vehicles
+versioned_rows version name.TripChairs s = flat_map trip_chair_rows s.trips
+versioned_rows version t s = part_rows (part_of t) s
+
+-- the rows of a table in a database of the current version
+abbrev pub rows_in : TableName → State → List Row
+rows_in t s = versioned_rows table_version t s

@@ -1,5 +1,5 @@
 -- The tables and indexes of each version.
-use Rattle.std.specs.Prelude.{ℕ, List, [], ◌∷◌, ◌+◌, ◌≤◌, ◌<◌, flat_map, take, drop, true, false, None, Some, codes}
+use Rattle.std.specs.Prelude.{ℕ, List, [], ◌∷◌, ◌+◌, ◌≤◌, ◌<◌, map, flat_map, take, drop, true, false, None, Some, codes}
 use Rattle.std.specs.List.{sum_by}
 use Rattle.sqlite.specs.Collation.TheVariants.{Binary}
 use Rattle.sqlite.specs.declared.types.Value.TheVariants.{Null}
@@ -12,6 +12,8 @@ use Rattle.sqlite_schema.specs.declared.schema.Index.{Index}
 use Rattle.sqlite_schema.specs.declared.schema.Reference.{Reference}
 use Rattle.sqlite_schema.specs.declared.schema.Action.TheVariants.{NoAction}
 use Rattle.sqlite_value.specs.declared.keys.Order.{Order}
+use Rattle.pt_desk_rules.specs.declared.table_name.TableName.{TableName}
+use Rattle.pt_desk_rules.specs.declared.table_name.TableName.TheVariants as named
 
 -- a NOT NULL column of this kind; in a STRICT table it takes no values of another kind
 abbrev pub column_of : Kind → List ℕ → Column
@@ -161,15 +163,32 @@ abbrev pub trip_chairs_table : Table
 trip_chairs_table =
     numbered_table (codes "trip_chairs") 19 (row_number (codes "trip") ∷ []) (refers 0 (codes "trips") ∷ [])
 
+-- each table by its name
+abbrev pub table_in : TableName → Table
+table_in named.Desk = desk_table
+table_in named.Callers = callers_table
+table_in named.Kept = kept_table
+table_in named.Places = places_table
+table_in named.Fixed = fixed_table
+table_in named.Vehicles = vehicles_table
+table_in named.Riders = riders_table
+table_in named.Entries = entries_table
+table_in named.Trips = trips_table
+table_in named.Stops = stops_table
+table_in named.Travel = travel_table
+table_in named.RiderChairs = rider_chairs_table
+table_in named.VehicleChairs = vehicle_chairs_table
+table_in named.TripChairs = trip_chairs_table
+
 -- the tables of the first version
-abbrev pub first_tables : List Table
+abbrev pub first_tables : List TableName
 first_tables =
-    desk_table ∷ callers_table ∷ kept_table ∷ places_table ∷ fixed_table ∷ vehicles_table ∷ riders_table
-    ∷ entries_table ∷ trips_table ∷ stops_table ∷ travel_table ∷ []
+    named.Desk ∷ named.Callers ∷ named.Kept ∷ named.Places ∷ named.Fixed ∷ named.Vehicles ∷ named.Riders
+    ∷ named.Entries ∷ named.Trips ∷ named.Stops ∷ named.Travel ∷ []
 
 -- the tables that the second version adds
-abbrev pub chairs_tables : List Table
-chairs_tables = rider_chairs_table ∷ vehicle_chairs_table ∷ trip_chairs_table ∷ []
+abbrev pub chairs_tables : List TableName
+chairs_tables = named.RiderChairs ∷ named.VehicleChairs ∷ named.TripChairs ∷ []
 
 -- the index that keeps the keys of a table unique
 abbrev pub key_index : List ℕ → Table → List ℕ → Index
@@ -211,7 +230,7 @@ trip_indexes = trips_rider ∷ trips_day ∷ []
 
 -- what a version adds to the one before it
 pub record Version : Type 0 where
-  pub tables : List Table
+  pub tables : List TableName
   pub indexes : List Index
   -- how many statements make them
   pub statements : ℕ
@@ -230,13 +249,19 @@ table_version = 2
 abbrev pub IsEarlier : ℕ → Type 0
 IsEarlier version = (1 ≤ version) × (version < table_version)
 
--- the tables of a version: those that it and the versions before it add
-abbrev pub tables_of : ℕ → List Table
-tables_of version = flat_map (λ (v : Version). v.tables) (take version versions)
+-- the names of the tables of a version: those that it and the versions before it add
+abbrev pub names_of : ℕ → List TableName
+names_of version = flat_map (λ (v : Version). v.tables) (take version versions)
 
--- the tables that the versions after `from` add, up to `to`
+-- the names of the tables that the versions after `from` add, up to `to`
+abbrev pub names_between : ℕ → ℕ → List TableName
+names_between from to = flat_map (λ (v : Version). v.tables) (drop from (take to versions))
+
+abbrev pub tables_of : ℕ → List Table
+tables_of version = map table_in (names_of version)
+
 abbrev pub tables_between : ℕ → ℕ → List Table
-tables_between from to = flat_map (λ (v : Version). v.tables) (drop from (take to versions))
+tables_between from to = map table_in (names_between from to)
 
 abbrev pub indexes_of : ℕ → List Index
 indexes_of version = flat_map (λ (v : Version). v.indexes) (take version versions)

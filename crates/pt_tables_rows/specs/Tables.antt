@@ -1,7 +1,7 @@
 -- The tables of a database, the content that they have, and the contents that rows can represent. The records of such a
 -- content are in the order of their keys and in their ranges. Each of its plans has a stop, since a plan with no stop
 -- has no row.
-use Rattle.std.specs.Prelude.{◌≡◌, ◌≢◌, ◌≤◌, ◌<◌, ℕ, false, List, [], ◌∷◌, drop, map, flat_map, IsTrue, IsPermutation}
+use Rattle.std.specs.Prelude.{◌≡◌, ◌≢◌, ◌≤◌, ℕ, List, [], ◌∷◌, drop, map, IsTrue, IsPermutation}
 use Rattle.std.specs.Prelude.{Result, Ok, Err}
 use Rattle.std.specs.List.{AllByRecursion}
 use Rattle.sqlite.specs.declared.error.Error.{Error}
@@ -12,21 +12,18 @@ use Rattle.sqlite.specs.State.{State as Connected, HasCleanDisk, KeepsCommit}
 use Rattle.sqlite.specs.Table.{Table}
 use Rattle.sqlite.specs.Tree.{Trees, IsTable, rowid}
 use Rattle.sqlite.specs.View.{is_int}
-use Rattle.pt_desk_rules.specs.Ranges.{FitsPlan, KeepsRanges, PutsInRange}
+use Rattle.pt_desk_rules.specs.Parts.{Part, key_in, record_in, records_of}
+use Rattle.pt_desk_rules.specs.Parts as part
+use Rattle.pt_desk_rules.specs.Ranges.{FitsIn, FitsPlan, KeepsRanges, PutsInRange}
 use Rattle.pt_desk_rules.specs.Sound.{HasStops}
-use Rattle.pt_desk_rules.specs.State.{State, caller_key, kept_key, place_key, route_key, rider_key, entry_key}
-use Rattle.pt_desk_rules.specs.State.{vehicle_key, travel_key, trip_key}
+use Rattle.pt_desk_rules.specs.State.{State}
 use Rattle.pt_desk_rules.specs.declared.change.Change.{Change}
+use Rattle.pt_desk_rules.specs.declared.table_name.TableName.{TableName}
 use Rattle.pt_records.specs.Records.{Each, IsInOrder}
-use Rattle.pt_scheduling.specs.Plan.{Plan, plan_key}
-use Rattle.pt_tables_rows.specs.Rows.{versioned_row, caller_row, kept_row, place_row}
-use Rattle.pt_tables_rows.specs.Rows.{route_row, vehicle_row, rider_row, entry_row, trip_row, stop_rows, travel_rows}
-use Rattle.pt_tables_rows.specs.Rows.{rider_chair_rows, vehicle_chair_rows, trip_chair_rows}
-use Rattle.pt_tables_rows.specs.Schema.{table_version, tables_of, tables_between, schema_of, desk_schema, tables}
-use Rattle.pt_tables_rows.specs.Schema.{desk_table, callers_table, kept_table, places_table}
-use Rattle.pt_tables_rows.specs.Schema.{fixed_table, vehicles_table, riders_table, entries_table, trips_table}
-use Rattle.pt_tables_rows.specs.Schema.{stops_table, travel_table, rider_chairs_table}
-use Rattle.pt_tables_rows.specs.Schema.{vehicle_chairs_table, trip_chairs_table}
+use Rattle.pt_scheduling.specs.Plan.{Plan}
+use Rattle.pt_tables_rows.specs.Rows.{rows_in, versioned_rows}
+use Rattle.pt_tables_rows.specs.Schema.{table_version, table_in, tables_of, tables_between, names_of, names_between}
+use Rattle.pt_tables_rows.specs.Schema.{schema_of, desk_schema, tables}
 
 -- the tables of version `from` keep their rows, and those that the versions after it add, up to `to`, have no row
 pub record AddsVersions (from to : ℕ) (old new : Database) : Type 0 where
@@ -47,40 +44,19 @@ columns_of table row = drop 1 (shown table row)
 abbrev pub AreRows : Table → Trees → List Row → Type 0
 AreRows table trees rows = IsPermutation (map (columns_of table) (trees table.tree)) rows
 
--- the tables that each version has hold the rows of the content, and the agency's row has this version
-pub record HasRecords (version : ℕ) (content : State) (trees : Trees) : Type 0 where
-  pub desk : AreRows desk_table trees (versioned_row version content.policy content.last_trip ∷ [])
-  pub callers : AreRows callers_table trees (map caller_row content.callers)
-  pub kept : AreRows kept_table trees (map kept_row content.kept)
-  pub places : AreRows places_table trees (map place_row content.places)
-  pub fixed : AreRows fixed_table trees (map route_row content.routes)
-  pub vehicles : AreRows vehicles_table trees (map vehicle_row content.vehicles)
-  pub riders : AreRows riders_table trees (map rider_row content.riders)
-  pub entries : AreRows entries_table trees (map entry_row content.entries)
-  pub trips : AreRows trips_table trees (map trip_row content.trips)
-  pub stops : AreRows stops_table trees (flat_map stop_rows content.planned)
-  pub travel : AreRows travel_table trees (flat_map travel_rows content.travel)
+-- the rows of this table are the content's
+abbrev pub HasRowsIn : State → Trees → TableName → Type 0
+HasRowsIn content trees t = AreRows (table_in t) trees (rows_in t content)
 
 -- the rows of the tables are those of the content
-pub record HasRows (content : State) (trees : Trees) : Type 0 where
-  pub records : HasRecords table_version content trees
-  pub rider_chairs : AreRows rider_chairs_table trees (flat_map rider_chair_rows content.riders)
-  pub vehicle_chairs : AreRows vehicle_chairs_table trees (flat_map vehicle_chair_rows content.vehicles)
-  pub trip_chairs : AreRows trip_chairs_table trees (flat_map trip_chair_rows content.trips)
+abbrev pub HasRows : State → Trees → Type 0
+HasRows content trees = (t : TableName) → HasRowsIn content trees t
 
--- no rider and no trip has the wheelchair mark, and no vehicle has a wheelchair place
-pub record HasNoChairs (content : State) : Type 0 where
-  pub riders : Each (λ rider. rider.wheelchair ≡ false) content.riders
-  pub vehicles : Each (λ version. version.chairs ≡ 0) content.vehicles
-  pub trips : Each (λ trip. trip.wheelchair ≡ false) content.trips
-
--- the rows of the tables of this version are those of the content; version 1 stores nothing about wheelchairs
+-- The tables of this version have the rows of the content, and the agency's row has this version. In the tables that
+-- later versions add, the content has no row.
 pub record HasRowsOf (version : ℕ) (content : State) (trees : Trees) : Type 0 where
-  pub records : HasRecords version content trees
-  pub no_chairs : version < 2 → HasNoChairs content
-  pub rider_chairs : 2 ≤ version → AreRows rider_chairs_table trees (flat_map rider_chair_rows content.riders)
-  pub vehicle_chairs : 2 ≤ version → AreRows vehicle_chairs_table trees (flat_map vehicle_chair_rows content.vehicles)
-  pub trip_chairs : 2 ≤ version → AreRows trip_chairs_table trees (flat_map trip_chair_rows content.trips)
+  pub rows : AllByRecursion (λ t. AreRows (table_in t) trees (versioned_rows version t content)) (names_of version)
+  pub none : AllByRecursion (λ t. rows_in t content ≡ []) (names_between version table_version)
 
 -- the rowids are integers in ascending order
 pub record HaveRowids (rows : List Row) : Type 0 where
@@ -139,17 +115,13 @@ LeadsIfOk old new From To (Err e) = KeepsCommit old new
 abbrev pub IsStoredPlan : Plan → Type 0
 IsStoredPlan plan = FitsPlan plan × HasStops plan
 
+-- what is true of a record of a part that rows can represent
+abbrev pub IsStored : (p : Part) → record_in p → Type 0
+IsStored part.planned = IsStoredPlan
+IsStored p = FitsIn p
+
 pub record IsWellFormed (s : State) : Type 0 where
-  pub callers : IsInOrder caller_key s.callers
-  pub kept : IsInOrder kept_key s.kept
-  pub places : IsInOrder place_key s.places
-  pub routes : IsInOrder route_key s.routes
-  pub riders : IsInOrder rider_key s.riders
-  pub entries : IsInOrder entry_key s.entries
-  pub vehicles : IsInOrder vehicle_key s.vehicles
-  pub travel : IsInOrder travel_key s.travel
-  pub trips : IsInOrder trip_key s.trips
-  pub planned : IsInOrder plan_key s.planned
+  pub order : (p : Part) → IsInOrder (key_in p) (records_of p s)
   pub stops : Each HasStops s.planned
   pub ranges : KeepsRanges s
 

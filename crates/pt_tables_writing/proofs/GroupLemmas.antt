@@ -1,10 +1,9 @@
 -- The tables of a content one by one, and what edits of some tables do to all, one after the other. The edits use lists
 -- that agree with the stored records.
-use Rattle.std.proofs.Common.{◌≡◌, ◌≢◌, ◌++◌, ◌+◌, ◌-◌, ℕ, zero, suc, true, not, IsTrue, List, [], ◌∷◌, take, drop, map, flat_map, IsPermutation, sym, subst, arith, refl}
+use Rattle.std.proofs.Common.{◌≡◌, ◌≢◌, ◌++◌, ◌+◌, ℕ, true, not, IsTrue, List, [], ◌∷◌, take, drop, map, IsPermutation, sym, subst, arith, refl}
 use Rattle.std.specs.Prelude.{◌==◌}
 use Rattle.std.specs.List.{AllByRecursion, list_all}
 use Rattle.std.proofs.lemmas.Bool.Decides.{nat_tests}
-use Rattle.std.proofs.lemmas.List.Concat.{flat_map_single}
 use Rattle.std.specs.Option.{unwrap_or}
 use Rattle.sqlite.specs.Effect.{Database, IsDatabase}
 use Rattle.sqlite.specs.Order.{Row}
@@ -21,14 +20,15 @@ use Rattle.pt_desk_rules.specs.Parts as part
 use Rattle.pt_desk_rules.specs.State.{State, caller_key, kept_key, place_key, route_key, rider_key, entry_key, vehicle_key, travel_key, trip_key}
 use Rattle.pt_tables_rows.specs.Rows.{desk_row, caller_row, kept_row, place_row, route_row, vehicle_row, rider_row}
 use Rattle.pt_tables_rows.specs.Rows.{entry_row, trip_row, stop_rows, travel_rows, rider_chair_rows}
-use Rattle.pt_tables_rows.specs.Rows.{vehicle_chair_rows, trip_chair_rows}
-use Rattle.pt_tables_rows.specs.Schema.{desk_schema, desk_table, callers_table, kept_table, places_table, fixed_table}
+use Rattle.pt_tables_rows.specs.Rows.{vehicle_chair_rows, trip_chair_rows, rows_in}
+use Rattle.pt_tables_rows.specs.Schema.{table_in, desk_schema, desk_table, callers_table, kept_table, places_table, fixed_table}
 use Rattle.pt_tables_rows.specs.Schema.{vehicles_table, riders_table, entries_table, trips_table, stops_table}
 use Rattle.pt_tables_rows.specs.Schema.{travel_table, rider_chairs_table, vehicle_chairs_table, trip_chairs_table}
-use Rattle.pt_tables_rows.specs.Tables.{AreRows, HasRows, HaveRowids, Stands, columns_of, IsStoredPlan}
+use Rattle.pt_tables_rows.specs.Tables.{AreRows, HaveRowids, Stands, columns_of, IsStoredPlan}
+use Rattle.pt_tables_rows.proofs.NameLemmas.{all_mapped, at_table}
 use Rattle.pt_tables_rows.proofs.SameRowsLists.{all_back, all_front}
 use Rattle.pt_store.specs.Listed.{known_of}
-use Rattle.pt_desk_rules.specs.TableNames.{all_tables, number_of}
+use Rattle.pt_desk_rules.specs.TableNames.{all_tables}
 use Rattle.pt_desk_rules.specs.declared.change.Change.{Change}
 use Rattle.pt_desk_rules.specs.declared.table_name.TableName.{TableName}
 use Rattle.pt_desk_rules.specs.declared.table_name.TableName.TheVariants as name
@@ -57,51 +57,29 @@ pub record HeldTable : Type 0 where
   pub table : Table
   pub rows : List Row
 
--- one row for each
-abbrev pub each_row : {A : Type 0} → (A → Row) → List A → List Row
-each_row row = flat_map (λ x. row x ∷ [])
+-- the content whose records a table has: the last three may have those of `marks`, since they are written before or
+-- after the records that they mark
+abbrev whose : State → State → TableName → State
+whose s marks name.RiderChairs = marks
+whose s marks name.VehicleChairs = marks
+whose s marks name.TripChairs = marks
+whose s marks t = s
 
--- the records that may have rows in a second table, which is written before or after their own
-pub record Marks : Type 0 where
-  pub riders : List Rider
-  pub vehicles : List Vehicle
-  pub trips : List Trip
+whose_same : (s : State) (t : TableName) → whose s s t ≡ s
+whose_same s name.Desk = refl
+whose_same s _ = refl
 
-abbrev pub marks_of : State → Marks
-marks_of s = record { riders = s.riders; vehicles = s.vehicles; trips = s.trips }
-
--- a table of a content; the last three have the rows of these records
-abbrev pub held_in : State → Marks → TableName → HeldTable
-held_in s m name.Desk = record { table = desk_table; rows = desk_row s.policy s.last_trip ∷ [] }
-held_in s m name.Callers = record { table = callers_table; rows = each_row caller_row s.callers }
-held_in s m name.Kept = record { table = kept_table; rows = each_row kept_row s.kept }
-held_in s m name.Places = record { table = places_table; rows = each_row place_row s.places }
-held_in s m name.Fixed = record { table = fixed_table; rows = each_row route_row s.routes }
-held_in s m name.Vehicles = record { table = vehicles_table; rows = each_row vehicle_row s.vehicles }
-held_in s m name.Riders = record { table = riders_table; rows = each_row rider_row s.riders }
-held_in s m name.Entries = record { table = entries_table; rows = each_row entry_row s.entries }
-held_in s m name.Trips = record { table = trips_table; rows = each_row trip_row s.trips }
-held_in s m name.Stops = record { table = stops_table; rows = flat_map stop_rows s.planned }
-held_in s m name.Travel = record { table = travel_table; rows = flat_map travel_rows s.travel }
-held_in s m name.RiderChairs = record { table = rider_chairs_table; rows = flat_map rider_chair_rows m.riders }
-held_in s m name.VehicleChairs = record { table = vehicle_chairs_table; rows = flat_map vehicle_chair_rows m.vehicles }
-held_in s m name.TripChairs = record { table = trip_chairs_table; rows = flat_map trip_chair_rows m.trips }
+-- a table with the rows of these contents
+abbrev pub held_in : State → State → TableName → HeldTable
+held_in s marks t = record { table = table_in t; rows = rows_in t (whose s marks t) }
 
 -- all of them, in their order
-abbrev pub parts : State → Marks → List HeldTable
+abbrev pub parts : State → State → List HeldTable
 parts s m = map (held_in s m) all_tables
 
 -- each table has its rows
 abbrev pub HoldAll : Trees → List HeldTable → Type 0
 HoldAll trees ps = AllByRecursion (λ p. Holds p.table p.rows trees) ps
-
-as_map : {A : Type 0} (t : Table) (row : A → Row) (xs : List A) (trees : Trees) → AreRows t trees (each_row row xs)
-    → AreRows t trees (map row xs)
-as_map t row xs trees h = subst (AreRows t trees) (flat_map_single row xs) h
-
-as_flat_map : {A : Type 0} (t : Table) (row : A → Row) (xs : List A) (trees : Trees) → AreRows t trees (map row xs)
-    → AreRows t trees (each_row row xs)
-as_flat_map t row xs trees h = subst (AreRows t trees) (sym (flat_map_single row xs)) h
 
 -- the tables of some parts hold their rows, if these are their rows and their rowids are integers in ascending order
 hold_all : (ps : List HeldTable) (trees : Trees) → AllByRecursion (λ p. AreRows p.table trees p.rows) ps → AllByRecursion (λ t. HaveRowids (trees t.tree)) (map (λ p. p.table) ps) → HoldAll trees ps
@@ -112,71 +90,21 @@ have_rowids : (ps : List HeldTable) (trees : Trees) → HoldAll trees ps → All
 have_rowids [] trees held = tt
 have_rowids (p ∷ ps) trees held = (record { rising = held.0.rising; whole = held.0.whole }, have_rowids ps trees held.1)
 
-each_held : (P : HeldTable → Type 0) (f : TableName → HeldTable) → ((t : TableName) → P (f t)) → (ts : List TableName) → AllByRecursion P (map f ts)
-each_held P f all [] = tt
-each_held P f all (t ∷ ts) = (all t, each_held P f all ts)
+pub parted : (s : State) (db : Database) → Stands s db → HoldAll db.trees (parts s s)
+parted s db h = hold_all (parts s s) db.trees (each_held all_tables) h.rowids
+  where
+    each_held : (ts : List TableName) → AllByRecursion (λ p. AreRows p.table db.trees p.rows) (map (held_in s s) ts)
+    each_held [] = tt
+    each_held (t ∷ ts) = (subst (λ u. AreRows (table_in t) db.trees (rows_in t u)) (sym (whose_same s t)) (h.rows t), each_held ts)
 
-each_from : (P : HeldTable → Type 0) (f : TableName → HeldTable) (n : ℕ) (ts : List TableName) → AllByRecursion P (map f ts) → AllByRecursion P (map f (drop n ts))
-each_from P f zero [] all = tt
-each_from P f zero (t ∷ ts) all = all
-each_from P f (suc n) [] all = tt
-each_from P f (suc n) (t ∷ ts) all = each_from P f n ts all.1
-
-from_table : (t : TableName) → drop (number_of t - 1) all_tables ≡ t ∷ drop (number_of t) all_tables
-from_table name.Desk = refl
-from_table _ = refl
-
--- what holds of all tables holds of this one
-held_at : (P : HeldTable → Type 0) (f : TableName → HeldTable) → AllByRecursion P (map f all_tables) → (t : TableName) → P (f t)
-held_at P f all t = (subst (λ ts. AllByRecursion P (map f ts)) (from_table t) (each_from P f (number_of t - 1) all_tables all)).0
-
-rows_at : (s : State) (trees : Trees) → HasRows s trees → (t : TableName) → AreRows (held_in s (marks_of s) t).table trees (held_in s (marks_of s) t).rows
-rows_at s trees h name.Desk = h.records.desk
-rows_at s trees h name.Callers = as_flat_map callers_table caller_row s.callers trees h.records.callers
-rows_at s trees h name.Kept = as_flat_map kept_table kept_row s.kept trees h.records.kept
-rows_at s trees h name.Places = as_flat_map places_table place_row s.places trees h.records.places
-rows_at s trees h name.Fixed = as_flat_map fixed_table route_row s.routes trees h.records.fixed
-rows_at s trees h name.Vehicles = as_flat_map vehicles_table vehicle_row s.vehicles trees h.records.vehicles
-rows_at s trees h name.Riders = as_flat_map riders_table rider_row s.riders trees h.records.riders
-rows_at s trees h name.Entries = as_flat_map entries_table entry_row s.entries trees h.records.entries
-rows_at s trees h name.Trips = as_flat_map trips_table trip_row s.trips trees h.records.trips
-rows_at s trees h name.Stops = h.records.stops
-rows_at s trees h name.Travel = h.records.travel
-rows_at s trees h name.RiderChairs = h.rider_chairs
-rows_at s trees h name.VehicleChairs = h.vehicle_chairs
-rows_at s trees h name.TripChairs = h.trip_chairs
-
-rows_are : (s : State) (trees : Trees) → HasRows s trees → AllByRecursion (λ p. AreRows p.table trees p.rows) (parts s (marks_of s))
-rows_are s trees h = each_held (λ p. AreRows p.table trees p.rows) (held_in s (marks_of s)) (rows_at s trees h) all_tables
-
-pub parted : (s : State) (db : Database) → Stands s db → HoldAll db.trees (parts s (marks_of s))
-parted s db h = hold_all (parts s (marks_of s)) db.trees (rows_are s db.trees h.rows) h.rowids
-
-pub whole : (s : State) (db : Database) → db.schema ≡ desk_schema → HoldAll db.trees (parts s (marks_of s)) → Stands s db
-whole s db has h =
-    let trees = db.trees in
-    let at = held_at (λ p. Holds p.table p.rows trees) (held_in s (marks_of s)) h in
+pub whole : (s : State) (db : Database) → db.schema ≡ desk_schema → HoldAll db.trees (parts s s) → Stands s db
+whole s db has held =
+    let P : HeldTable → Type 0 = λ p. Holds p.table p.rows db.trees in
+    let at = at_table (λ t. P (held_in s s t)) (all_mapped P (held_in s s) all_tables held) in
     record {
       schema = has;
-      rows = record {
-        records = record {
-          desk = (at name.Desk).rows;
-          callers = as_map callers_table caller_row s.callers trees (at name.Callers).rows;
-          kept = as_map kept_table kept_row s.kept trees (at name.Kept).rows;
-          places = as_map places_table place_row s.places trees (at name.Places).rows;
-          fixed = as_map fixed_table route_row s.routes trees (at name.Fixed).rows;
-          vehicles = as_map vehicles_table vehicle_row s.vehicles trees (at name.Vehicles).rows;
-          riders = as_map riders_table rider_row s.riders trees (at name.Riders).rows;
-          entries = as_map entries_table entry_row s.entries trees (at name.Entries).rows;
-          trips = as_map trips_table trip_row s.trips trees (at name.Trips).rows;
-          stops = (at name.Stops).rows;
-          travel = (at name.Travel).rows;
-        };
-        rider_chairs = (at name.RiderChairs).rows;
-        vehicle_chairs = (at name.VehicleChairs).rows;
-        trip_chairs = (at name.TripChairs).rows;
-      };
-      rowids = have_rowids (parts s (marks_of s)) trees h;
+      rows = λ t. subst (λ u. AreRows (table_in t) db.trees (rows_in t u)) (whose_same s t) (at t).rows;
+      rowids = have_rowids (parts s s) db.trees held;
     }
 
 differs : (m n : ℕ) → not (m == n) ≡ true → m ≢ n
@@ -221,7 +149,7 @@ module _ (t : Table) (before after : List Row) (a b : Database) (change : Rewrit
       (change.rows rest.0, still_all back rest_others.1 apart_back rest.1)
 
 -- if the parts of two contents differ only in one, whose table is rewritten, the tables hold those of the other
-pub turned_at : (place : ℕ) (s new : State) (m n : Marks) (t : Table) (before after : List Row) (a b : Database) → Rewrites t before after a b → HoldAll a.trees (parts s m)
+pub turned_at : (place : ℕ) (s new m n : State) (t : Table) (before after : List Row) (a b : Database) → Rewrites t before after a b → HoldAll a.trees (parts s m)
     → parts s m ≡ take place (parts s m) ++ record { table = t; rows = before } ∷ drop (place + 1) (parts s m)
     → take place (parts s m) ++ record { table = t; rows = after } ∷ drop (place + 1) (parts s m) ≡ parts new n
     → list_all (λ p. not (p.table.tree == t.tree)) (take place (parts s m)) ≡ true
@@ -314,18 +242,18 @@ Known-settings change known old new =
     × IsDatabase new
 
 -- the tables are there, each with its rows
-pub record Are (s : State) (m : Marks) (db : Database) : Type 0 where
+pub record Are (s m : State) (db : Database) : Type 0 where
   pub schema : db.schema ≡ desk_schema
   pub parts : HoldAll db.trees (parts s m)
 
-are : (s : State) (db : Database) → Stands s db → Are s (marks_of s) db
+are : (s : State) (db : Database) → Stands s db → Are s s db
 are s db stands = record { schema = stands.schema; parts = parted s db stands }
 
-stand : (s : State) (db : Database) → Are s (marks_of s) db → Stands s db
+stand : (s : State) (db : Database) → Are s s db → Stands s db
 stand s db all = whole s db all.schema all.parts
 
 -- one table is rewritten, and all are those of another content
-step : (place : ℕ) (new : State) (n : Marks) (a b : Database) {s : State} {m : Marks} {t : Table} {before after : List Row} → Are s m a → (a.schema ≡ desk_schema → Rewrites t before after a b)
+step : (place : ℕ) (new n : State) (a b : Database) {s m : State} {t : Table} {before after : List Row} → Are s m a → (a.schema ≡ desk_schema → Rewrites t before after a b)
     → parts s m ≡ take place (parts s m) ++ record { table = t; rows = before } ∷ drop (place + 1) (parts s m)
     → take place (parts s m) ++ record { table = t; rows = after } ∷ drop (place + 1) (parts s m) ≡ parts new n
     → list_all (λ p. not (p.table.tree == t.tree)) (take place (parts s m)) ≡ true
@@ -342,21 +270,22 @@ pub people_lead : (change : Change) (known : State) (a e : Database)
 people_lead change known a e four content agrees told puts stands =
     let three = four.1 in
     let two = three.1 in
-    let m = marks_of content in
+    let m = content in
     let s1 : State = record content { callers = edited caller_key change.callers content.callers } in
     let all_1 = step 1 s1 m a two.0 (are content a stands)
-    (λ _. two.1 content.callers (agrees.parts part.callers) (puts.ranges.parts part.callers) told.callers
+    (λ _. two.1 content.callers (agrees.parts part.callers) (puts.ranges.parts part.callers) (told.order part.callers)
     (told.ranges.parts part.callers)) refl refl refl refl in
     let s2 : State = record s1 { kept = edited kept_key change.kept content.kept } in
-    let all_2 = step 2 s2 m two.0 three.0 all_1 (λ has. two.2 has content.kept (agrees.parts part.kept) (puts.ranges.parts part.kept) told.kept (told.ranges.parts part.kept)) refl refl refl refl in
+    let all_2 = step 2 s2 m two.0 three.0 all_1 (λ has. two.2 has content.kept (agrees.parts part.kept) (puts.ranges.parts part.kept) (told.order part.kept)
+    (told.ranges.parts part.kept)) refl refl refl refl in
     let both = three.2 all_2.schema content agrees in
     let s3 : State = record s2 { riders = edited rider_key change.riders content.riders } in
-    let all_3 = step 6 s3 m three.0 both.0 all_2 (λ _. both.1 (puts.ranges.parts part.riders) told.riders (told.ranges.parts part.riders)) refl refl refl refl in
-    let n : Marks = record m { riders = edited rider_key change.riders m.riders } in
-    let all_4 = step 11 s3 n both.0 four.0 all_3 (λ has. both.2 has (puts.ranges.parts part.riders) told.riders (told.ranges.parts part.riders)) refl refl refl refl in
+    let all_3 = step 6 s3 m three.0 both.0 all_2 (λ _. both.1 (puts.ranges.parts part.riders) (told.order part.riders) (told.ranges.parts part.riders)) refl refl refl refl in
+    let n : State = record m { riders = edited rider_key change.riders m.riders } in
+    let all_4 = step 11 s3 n both.0 four.0 all_3 (λ has. both.2 has (puts.ranges.parts part.riders) (told.order part.riders) (told.ranges.parts part.riders)) refl refl refl refl in
     let s4 : State = record s3 { entries = edited entry_key change.entries content.entries } in
-    let all_5 = step 7 s4 n four.0 e all_4
-    (λ has. four.2 has content.entries (agrees.parts part.entries) (puts.ranges.parts part.entries) told.entries (told.ranges.parts part.entries)) refl refl refl refl in
+    let all_5 = step 7 s4 s4 four.0 e all_4
+    (λ has. four.2 has content.entries (agrees.parts part.entries) (puts.ranges.parts part.entries) (told.order part.entries) (told.ranges.parts part.entries)) refl refl refl refl in
     stand (with_people change content) e all_5
 
 pub area_leads : (change : Change) (known : State) (a e : Database)
@@ -367,26 +296,26 @@ area_leads change known a e four content agrees told puts stands =
     let three = four.1 in
     let two = three.1 in
     let s = with_people change content in
-    let m = marks_of s in
+    let m = s in
     let s1 : State = record s { places = edited place_key change.places s.places } in
     let all_1 = step 3 s1 m a two.0 (are s a stands)
-    (λ _. two.1 content.places (agrees.parts part.places) (puts.ranges.parts part.places) told.places (told.ranges.parts part.places)) refl refl refl refl in
+    (λ _. two.1 content.places (agrees.parts part.places) (puts.ranges.parts part.places) (told.order part.places) (told.ranges.parts part.places)) refl refl refl refl in
     let s2 : State = record s1 { routes = edited route_key change.routes s.routes } in
     let all_2 = step 4 s2 m two.0 three.0 all_1
-    (λ has. two.2 has content.routes (agrees.parts part.routes) (puts.ranges.parts part.routes) told.routes (told.ranges.parts part.routes)) refl refl refl refl in
+    (λ has. two.2 has content.routes (agrees.parts part.routes) (puts.ranges.parts part.routes) (told.order part.routes) (told.ranges.parts part.routes)) refl refl refl refl in
     let first = three.2 all_2.schema content agrees in
-    let left : Marks = record m { vehicles = take_all vehicle_key change.vehicles.away m.vehicles } in
-    let all_3 = step 12 s2 left three.0 first.0 all_2 (λ _. first.1 told.vehicles (told.ranges.parts part.vehicles)) refl refl refl refl in
+    let left : State = record m { vehicles = take_all vehicle_key change.vehicles.away m.vehicles } in
+    let all_3 = step 12 s2 left three.0 first.0 all_2 (λ _. first.1 (told.order part.vehicles) (told.ranges.parts part.vehicles)) refl refl refl refl in
     let rest = first.2 all_3.schema in
     let s3 : State = record s2 { vehicles = edited vehicle_key change.vehicles s.vehicles } in
-    let all_4 = step 5 s3 left first.0 rest.0 all_3 (λ _. rest.1 (puts.ranges.parts part.vehicles) told.vehicles (told.ranges.parts part.vehicles)) refl refl refl refl in
-    let n : Marks = record m { vehicles = edited vehicle_key change.vehicles m.vehicles } in
+    let all_4 = step 5 s3 left first.0 rest.0 all_3 (λ _. rest.1 (puts.ranges.parts part.vehicles) (told.order part.vehicles) (told.ranges.parts part.vehicles)) refl refl refl refl in
+    let n : State = record m { vehicles = edited vehicle_key change.vehicles m.vehicles } in
     let all_5 = step 12 s3 n rest.0 four.0 all_4
-    (λ has. rest.2 has (puts.ranges.parts part.vehicles) left.vehicles (IsInOrder-take_all vehicle_key change.vehicles.away m.vehicles told.vehicles)
+    (λ has. rest.2 has (puts.ranges.parts part.vehicles) left.vehicles (IsInOrder-take_all vehicle_key change.vehicles.away m.vehicles (told.order part.vehicles))
     (Each-take_all IsVehicle vehicle_key change.vehicles.away m.vehicles (told.ranges.parts part.vehicles))) refl refl refl refl in
     let s4 : State = record s3 { travel = edited travel_key change.travel s.travel } in
-    let all_6 = step 10 s4 n four.0 e all_5
-    (λ has. four.2 has content.travel (agrees.parts part.travel) (puts.ranges.parts part.travel) told.travel (told.ranges.parts part.travel)) refl refl refl refl in
+    let all_6 = step 10 s4 s4 four.0 e all_5
+    (λ has. four.2 has content.travel (agrees.parts part.travel) (puts.ranges.parts part.travel) (told.order part.travel) (told.ranges.parts part.travel)) refl refl refl refl in
     stand (with_area change s) e all_6
 
 pub trips_lead : (change : Change) (known : State) (plans : List Plan) (a d : Database)
@@ -396,17 +325,17 @@ pub trips_lead : (change : Change) (known : State) (plans : List Plan) (a d : Da
 trips_lead change known plans a d three content agrees told puts stands =
     let two = three.1 in
     let s = with_area change (with_people change content) in
-    let m = marks_of s in
+    let m = s in
     let both = two.1 content agrees.0 in
     let s1 : State = record s { trips = edited trip_key change.trips s.trips } in
-    let all_1 = step 8 s1 m a both.0 (are s a stands) (λ _. both.1 (puts.ranges.parts part.trips) told.trips (told.ranges.parts part.trips)) refl refl refl refl in
-    let n : Marks = record m { trips = edited trip_key change.trips m.trips } in
-    let all_2 = step 13 s1 n both.0 two.0 all_1 (λ has. both.2 has (puts.ranges.parts part.trips) told.trips (told.ranges.parts part.trips)) refl refl refl refl in
+    let all_1 = step 8 s1 m a both.0 (are s a stands) (λ _. both.1 (puts.ranges.parts part.trips) (told.order part.trips) (told.ranges.parts part.trips)) refl refl refl refl in
+    let n : State = record m { trips = edited trip_key change.trips m.trips } in
+    let all_2 = step 13 s1 n both.0 two.0 all_1 (λ has. both.2 has (puts.ranges.parts part.trips) (told.order part.trips) (told.ranges.parts part.trips)) refl refl refl refl in
     let s2 : State = record s1 { planned = edited plan_key change.planned s.planned } in
     let all_3 = step 9 s2 n two.0 three.0 all_2
     (λ has. two.2 has content.planned agrees.1 (stored-plans change.planned.puts (puts.ranges.parts part.planned)
-    puts.stops) told.planned (stored-plans s.planned (told.ranges.parts part.planned) told.stops)) refl refl refl
+    puts.stops) (told.order part.planned) (stored-plans s.planned (told.ranges.parts part.planned) told.stops)) refl refl refl
     refl in
     let s3 : State = with_trips change s in
-    let all_4 = step 0 s3 n three.0 d all_3 (λ has. (three.2 has).0 content agrees.0 content.policy content.last_trip) refl refl refl refl in
+    let all_4 = step 0 s3 s3 three.0 d all_3 (λ has. (three.2 has).0 content agrees.0 content.policy content.last_trip) refl refl refl refl in
     (stand s3 d all_4, (three.2 all_3.schema).1)

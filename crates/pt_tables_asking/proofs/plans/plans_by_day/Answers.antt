@@ -4,6 +4,7 @@ use Rattle.std.specs.Prelude.{◌==◌}
 use Rattle.std.proofs.lemmas.List.{drop_all}
 use Rattle.sqlite.specs.Held.{state}
 use Rattle.sqlite.specs.State.{HasCleanDisk}
+use Rattle.pt_desk_rules.specs.Parts as part
 use Rattle.pt_desk_rules.specs.Planned.{planned_on}
 use Rattle.pt_records.specs.Keys.{pair_key}
 use Rattle.pt_records.specs.Records.{Each, IsInOrder, record_at}
@@ -79,4 +80,4 @@ returns-clause-readable g c clean content readable same carried few held =
     (subst (λ (xs : List Plan). IsInOrder plan_key xs)
     (sym (whole ∙ ap (plans_of day content.planned) (c.deref-id-items.ensures.value ∙ c.in_ok-ids.ensures.value ∙ ap vehicle_ids (sym same))
     ∙ plans_of_day content readable (subst (λ vs. Each (HasVersionAmong vs) content.planned) (sym same) carried) day low))
-    (IsInOrder-filter plan_key (λ plan. plan.day == day) content.planned readable.planned))
+    (IsInOrder-filter plan_key (λ plan. plan.day == day) content.planned (readable.order part.planned)))

@@ -36,4 +36,4 @@ returns-clause-readable g c clean content readable held =
     let same = same_records entry_row FitsFiled entries_apart c.in_ok-found.found.items wanted found.1
     (Each-filter FitsFiled (λ filed. is_within (entry_key filed) (span_of c.args.rider)) content.entries (readable.ranges.parts part.entries)) found.0 in
     c.in_order.ensures.readable
-    (subst (IsInOrder entry_key) (sym same) (IsInOrder-filter entry_key (λ filed. is_within (entry_key filed) (span_of c.args.rider)) content.entries readable.entries))
+    (subst (IsInOrder entry_key) (sym same) (IsInOrder-filter entry_key (λ filed. is_within (entry_key filed) (span_of c.args.rider)) content.entries (readable.order part.entries)))

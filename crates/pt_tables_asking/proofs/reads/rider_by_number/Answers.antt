@@ -36,7 +36,7 @@ returns-in_err-found-clause-readable g c clean content readable held =
     let old = state g.S.Store c.args.conn.now in
     let mid = state g.S.Store c.ask.new.conn in
     let early : HasCleanDisk mid = omega (arith, clean, c.in_err-found.ensures.rests.survives.clean) in
-    let never = c.in_err-found.ensures.readable clean content.riders readable.riders (rider_numbers content readable)
+    let never = c.in_err-found.ensures.readable clean content.riders (readable.order part.riders) (rider_numbers content readable)
     (rider_marks_there content readable old held mid c.in_ok-riders.ensures.rests early) in
     search rules
 
@@ -48,6 +48,6 @@ returns-clause-told g c clean content readable held =
     let early : HasCleanDisk mid = omega (arith, clean, c.in_ok-found.ensures.rests.survives.clean) in
     let rows = c.in_ok-riders.ensures.told early (filter passes content.riders) (rider_there content readable old held c.args.rider _ (search rules)) in
     let riders = c.in_ok-riders.riders.items in
-    let found = c.in_ok-found.ensures.told clean content.riders readable.riders (riders_rise content readable passes riders rows.0)
+    let found = c.in_ok-found.ensures.told clean content.riders (readable.order part.riders) (riders_rise content readable passes riders rows.0)
     (rider_marks_there content readable old held mid c.in_ok-riders.ensures.rests early) in
     c.first.ensures.value ∙ ap (λ l. slice_get l 0) (found ∙ riders_marked content readable passes riders rows.0) ∙ slice_get-filter passes content.riders

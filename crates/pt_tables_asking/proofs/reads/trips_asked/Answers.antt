@@ -31,7 +31,7 @@ returns-in_err-found-clause-readable g c clean content readable held passes has 
     let old = state g.S.Store c.args.conn.now in
     let mid = state g.S.Store c.ask.new.conn in
     let early : HasCleanDisk mid = omega (arith, clean, c.in_err-found.ensures.rests.survives.clean) in
-    let never = c.in_err-found.ensures.readable clean content.trips readable.trips (trip_numbers content readable)
+    let never = c.in_err-found.ensures.readable clean content.trips (readable.order part.trips) (trip_numbers content readable)
     (trip_marks_there content readable old held mid c.in_ok-trips.ensures.rests early) in
     search rules
 
@@ -42,7 +42,7 @@ returns-clause-told g c clean content readable held passes has =
     let early : HasCleanDisk mid = omega (arith, clean, c.in_ok-found.ensures.rests.survives.clean) in
     let trips = c.in_ok-trips.trips.items in
     let rows = c.in_ok-trips.ensures.told early (filter passes content.trips) has in
-    let found = c.in_ok-found.ensures.told clean content.trips readable.trips (trips_rise content readable passes trips rows.0)
+    let found = c.in_ok-found.ensures.told clean content.trips (readable.order part.trips) (trips_rise content readable passes trips rows.0)
     (trip_marks_there content readable old held mid c.in_ok-trips.ensures.rests early) in
     ok_same c.in_order.result c.in_ok-found.found.items (filter passes content.trips) c.in_order.ensures.told (found ∙ trips_marked content readable passes trips rows.0)
 
@@ -53,7 +53,7 @@ returns-clause-readable g c clean content readable held passes has =
     let early : HasCleanDisk mid = omega (arith, clean, c.in_ok-found.ensures.rests.survives.clean) in
     let trips = c.in_ok-trips.trips.items in
     let rows = c.in_ok-trips.ensures.told early (filter passes content.trips) has in
-    let found = c.in_ok-found.ensures.told clean content.trips readable.trips (trips_rise content readable passes trips rows.0)
+    let found = c.in_ok-found.ensures.told clean content.trips (readable.order part.trips) (trips_rise content readable passes trips rows.0)
     (trip_marks_there content readable old held mid c.in_ok-trips.ensures.rests early) in
     c.in_order.ensures.readable
-    (subst (IsInOrder trip_key) (sym (found ∙ trips_marked content readable passes trips rows.0)) (IsInOrder-filter trip_key passes content.trips readable.trips))
+    (subst (IsInOrder trip_key) (sym (found ∙ trips_marked content readable passes trips rows.0)) (IsInOrder-filter trip_key passes content.trips (readable.order part.trips)))

@@ -2,6 +2,7 @@ use Rattle.std.proofs.Common.{◌==◌, Bool, sym, subst, filter, ◌∙◌, ari
 use Rattle.sqlite.specs.Held.{state}
 use Rattle.sqlite.specs.State.{HasCleanDisk}
 use Rattle.pt_base.specs.declared.trip.Trip.{Trip}
+use Rattle.pt_desk_rules.specs.Parts as part
 use Rattle.pt_desk_rules.specs.Planned.{trips_of}
 use Rattle.pt_desk_rules.specs.State.{trip_key}
 use Rattle.pt_records.specs.Records.{IsInOrder}
@@ -35,7 +36,7 @@ returns-in_err-found-clause-readable g c clean content readable held =
     let old = state g.S.Store c.args.conn.now in
     let mid = state g.S.Store c.ask.new.conn in
     let early : HasCleanDisk mid = omega (arith, clean, c.in_err-found.ensures.rests.survives.clean) in
-    let never = c.in_err-found.ensures.readable clean content.trips readable.trips (trip_numbers content readable)
+    let never = c.in_err-found.ensures.readable clean content.trips (readable.order part.trips) (trip_numbers content readable)
     (trip_marks_there content readable old held mid c.in_ok-trips.ensures.rests early) in
     search rules
 
@@ -47,7 +48,7 @@ returns-clause-told g c clean content readable held =
     let early : HasCleanDisk mid = omega (arith, clean, c.in_ok-found.ensures.rests.survives.clean) in
     let trips = c.in_ok-trips.trips.items in
     let rows = c.in_ok-trips.ensures.told early (filter passes content.trips) (rider_trips_there content readable old held c.args.rider _ (search rules)) in
-    let found = c.in_ok-found.ensures.told clean content.trips readable.trips
+    let found = c.in_ok-found.ensures.told clean content.trips (readable.order part.trips)
     (trip_marks_there content readable old held mid c.in_ok-trips.ensures.rests early) in
     ok_same c.in_order.result c.in_ok-found.found.items (filter passes content.trips) c.in_order.ensures.told (found ∙ trips_marked content readable passes trips rows.0)
 
@@ -59,7 +60,7 @@ returns-clause-readable g c clean content readable held =
     let early : HasCleanDisk mid = omega (arith, clean, c.in_ok-found.ensures.rests.survives.clean) in
     let trips = c.in_ok-trips.trips.items in
     let rows = c.in_ok-trips.ensures.told early (filter passes content.trips) (rider_trips_there content readable old held c.args.rider _ (search rules)) in
-    let found = c.in_ok-found.ensures.told clean content.trips readable.trips
+    let found = c.in_ok-found.ensures.told clean content.trips (readable.order part.trips)
     (trip_marks_there content readable old held mid c.in_ok-trips.ensures.rests early) in
     c.in_order.ensures.readable
-    (subst (IsInOrder trip_key) (sym (found ∙ trips_marked content readable passes trips rows.0)) (IsInOrder-filter trip_key passes content.trips readable.trips))
+    (subst (IsInOrder trip_key) (sym (found ∙ trips_marked content readable passes trips rows.0)) (IsInOrder-filter trip_key passes content.trips (readable.order part.trips)))
