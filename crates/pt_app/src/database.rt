@@ -3,7 +3,7 @@ ghost use Rattle.std.specs.Prelude.{◌≡◌, ◌⊎◌, IfErr, IfOk};
 ghost use Rattle.pt_base.specs.declared.fault.Cause.TheVariants as cause;
 ghost use Rattle.pt_app.specs.Opening.{IsStoreFault};
 ghost use Rattle.pt_base.specs.Fault.{fault};
-ghost use Rattle.pt_desk_rules.specs.Sound.{IsSound};
+ghost use Rattle.pt_tables_keeper.specs.Sound.{IsSound};
 
 use pt_base::{Cause, Fault, Moment};
 use pt_command_line::Task;

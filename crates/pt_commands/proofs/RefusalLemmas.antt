@@ -12,14 +12,14 @@ use Rattle.pt_booking.proofs.DutyLemmas.{Any-map, no_any}
 use Rattle.pt_booking.specs.Planning.{OnDuty, SomeVehicleCan, on_duty}
 use Rattle.pt_desk.proofs.RefusalLemmas.{refusals_are_told}
 use Rattle.pt_desk.specs.Refusals.{IsFacts}
-use Rattle.pt_desk_rules.specs.Booking.{AreTimes}
+use Rattle.pt_desk.specs.Booking.{AreTimes}
 use Rattle.pt_desk_reads.specs.Refusal.{Refusal}
-use Rattle.pt_desk_rules.specs.Sound.{IsSound}
-use Rattle.pt_desk_rules.specs.State.{State}
-use Rattle.pt_desk_rules.specs.Step.{IsOutcome}
+use Rattle.pt_desk.specs.Sound.{IsSound}
+use Rattle.pt_desk.specs.State.{State}
+use Rattle.pt_desk.specs.Step.{IsOutcome}
 use Rattle.pt_desk_reads.specs.declared.explaining.Inquiry.{Inquiry}
 use Rattle.pt_desk_reads.specs.declared.explaining.Inquiry.TheVariants as inquiry
-use Rattle.pt_feasible.specs.Route.{stops_of}
+use Rattle.pt_store.specs.Route.{stops_of}
 use Rattle.pt_insertion.specs.Choice.{IsChosenIn}
 use Rattle.pt_insertion.specs.Possible.{IsPossible}
 use Rattle.pt_insertion.specs.declared.asked.Asked.{Asked}

@@ -9,7 +9,7 @@ use Rattle.pt_base.specs.Rule.{name_of}
 use Rattle.pt_base.specs.declared.fault.Fault.{Fault}
 use Rattle.pt_booking.specs.Planning.{SomeVehicleCan, on_duty}
 use Rattle.pt_store.specs.declared.keeper.StoreFault.{StoreFault}
-use Rattle.pt_desk_rules.specs.Booking.{AreTimes}
+use Rattle.pt_desk.specs.Booking.{AreTimes}
 use Rattle.pt_desk_reads.specs.Refusal.{Refusal}
 use Rattle.pt_desk_reads.specs.declared.explaining.Inquiry.{Inquiry}
 use Rattle.pt_desk_reads.specs.declared.explaining.Inquiry.TheVariants as inquiry

@@ -1,7 +1,7 @@
 -- A rehearsal from a new desk.
 use Rattle.std.specs.Prelude.{◌≡◌, ℕ, List}
 use Rattle.pt_store.specs.LeastState.{IsLeastState}
-use Rattle.pt_http.specs.Exchange.{Desk}
+use Rattle.pt_rehearsal.specs.Exchange.{Desk}
 use Rattle.pt_rehearsal.specs.Rehearsal.{Exchanged, Rehearses}
 
 -- A desk that never failed, and has only an admin with this key, answers these messages at the front of the bytes. It

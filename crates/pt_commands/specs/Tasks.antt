@@ -16,8 +16,8 @@ use Rattle.pt_commands.specs.declared.ending.Ending.{Ending}
 use Rattle.pt_desk.specs.Refusals.{IsFacts}
 use Rattle.pt_desk_reads.specs.Refusal.{Refusal}
 use Rattle.pt_desk_reads.specs.declared.explaining.Inquiry.{Inquiry}
-use Rattle.pt_desk_rules.specs.State.{place_key}
-use Rattle.pt_desk_rules.specs.Step.{IsOutcome}
+use Rattle.pt_desk.specs.State.{place_key}
+use Rattle.pt_desk.specs.Step.{IsOutcome}
 use Rattle.pt_requests.specs.declared.request.Answer.{Answer}
 use Rattle.pt_requests.specs.declared.request.Read.TheVariants as read
 use Rattle.pt_requests.specs.declared.request.Request.{Request}

@@ -3,7 +3,7 @@ use Rattle.std.proofs.Common.{◌≡◌, inl, inr, ℕ, List, Option, Some, None
 use Rattle.pt_base.specs.declared.rule.Rule.TheVariants as rule
 use Rattle.pt_base.specs.declared.trip.Wish.{Wish}
 use Rattle.pt_base.specs.declared.moment.Moment.{Moment}
-use Rattle.pt_booking.specs.Planning.{SomeVehicleCan}
+use Rattle.pt_desk_laws.specs.Planning.{SomeVehicleCan}
 use Rattle.pt_desk.specs.Refusals.{IsFacts, IsInquiryBy, RefusalsAreTold}
 use Rattle.pt_store.specs.Store.{Answers, Store}
 use Rattle.pt_store.specs.declared.keeper.StoreFault.{StoreFault}

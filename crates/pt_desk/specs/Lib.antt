@@ -3,3 +3,7 @@ pub mod Crash
 pub mod Fitting
 pub mod Places
 pub mod Refusals
+pub use Rattle.pt_desk_rules.specs.Booking
+pub use Rattle.pt_desk_rules.specs.Sound
+pub use Rattle.pt_desk_rules.specs.State
+pub use Rattle.pt_desk_rules.specs.Step

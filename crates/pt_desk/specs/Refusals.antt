@@ -3,7 +3,7 @@ use Rattle.std.specs.Prelude.{◌≡◌, ℕ, List, Option, Some, None}
 use Rattle.pt_base.specs.declared.rule.Rule.TheVariants as rule
 use Rattle.pt_base.specs.declared.trip.Wish.{Wish}
 use Rattle.pt_base.specs.declared.moment.Moment.{Moment}
-use Rattle.pt_booking.specs.Planning.{SomeVehicleCan}
+use Rattle.pt_desk_laws.specs.Planning.{SomeVehicleCan}
 use Rattle.pt_desk_rules.specs.Booking.{AreTimes}
 use Rattle.pt_desk_reads.specs.Inquiry.{IsInquiry}
 use Rattle.pt_desk_rules.specs.Facts.{wish_facts}

@@ -1,7 +1,7 @@
 -- Requests, their replies, and whole runs.
 use Rattle.std.specs.Prelude.{◌≡◌, ◌≢◌, ◌⊎◌, ℕ, ◌<◌, List, [], ◌∷◌, Option, Some, None, Result, Ok, Err}
 use Rattle.std.specs.Prelude.{IsOk}
-use Rattle.pt_records.specs.Records.{Each}
+use Rattle.pt_store.specs.Records.{Each}
 use Rattle.pt_desk_laws.specs.Again.{IsToldAgain}
 use Rattle.pt_desk_laws.specs.Numbers.{committed, AreCalls, AreMadeBy, Call as Made}
 use Rattle.pt_desk_rules.specs.Sound.{IsSound}

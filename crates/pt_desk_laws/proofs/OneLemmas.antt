@@ -17,10 +17,10 @@ use Rattle.pt_booking.specs.Request.{Request}
 use Rattle.pt_booking.specs.Window.{promised_window, wished_window}
 use Rattle.pt_desk_rules.specs.ServiceTimes.{IsLeastSchedule}
 use Rattle.pt_desk_rules.specs.Stop.{Stop}
-use Rattle.pt_insertion.specs.Choice.{IsBestIn, IsNoWorseThan}
-use Rattle.pt_insertion.specs.Insertion.{with_trip}
-use Rattle.pt_insertion.specs.declared.asked.Asked.{Asked}
-use Rattle.pt_insertion.specs.declared.chosen.Chosen.{Chosen}
+use Rattle.pt_scheduling.specs.Choice.{IsBestIn, IsNoWorseThan}
+use Rattle.pt_scheduling.specs.Insertion.{with_trip}
+use Rattle.pt_scheduling.specs.Asked.{Asked}
+use Rattle.pt_scheduling.specs.Chosen.{Chosen}
 use Rattle.pt_desk_rules.specs.Fare.{fare_of}
 use Rattle.pt_desk_rules.specs.FailingRules.{first_failing}
 use Rattle.pt_desk_rules.specs.Outcome.{Outcome}

@@ -17,7 +17,7 @@ use Rattle.pt_rights.specs.Suspension.{is_suspended}
 use Rattle.pt_rights.specs.declared.entry.Entered.{Entered}
 use Rattle.pt_scheduling.specs.Plan.{Plan}
 use Rattle.pt_scheduling.specs.Uses.{AreUses}
-use Rattle.pt_visitors.specs.Periods.{MayUse}
+use Rattle.pt_booking.specs.Periods.{MayUse}
 use Rattle.pt_desk_rules.specs.Booking.{IsBooking}
 use Rattle.pt_desk_rules.specs.Facts.{FactsOf}
 use Rattle.pt_desk_rules.specs.Ranges.{PutsInRange}

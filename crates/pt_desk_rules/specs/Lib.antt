@@ -60,5 +60,5 @@ pub use Rattle.pt_rights.specs.declared.entry.Grant
 pub use Rattle.pt_rights.specs.declared.tally.Outcome
 pub use Rattle.pt_travel.specs.Chain
 pub use Rattle.pt_travel.specs.Table
-pub use Rattle.pt_visitors.specs.Periods
-pub use Rattle.sha2.specs.Sha256
+pub use Rattle.pt_booking.specs.Periods
+pub use Rattle.pt_requests.specs.Sha256

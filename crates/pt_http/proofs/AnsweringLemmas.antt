@@ -10,8 +10,8 @@ use Rattle.pt_base.specs.declared.moment.Moment.{Moment}
 use Rattle.pt_desk.proofs.CrashLemmas.{lasts_further, lasts_still}
 use Rattle.pt_store.specs.Store.{Answers, IsFault, IsLeft, Store}
 use Rattle.pt_http.specs.Answering.{AnswersOne, CanBeAskedAgain, ExchangesOne, GoesOn, TellsFailure}
-use Rattle.pt_desk_rules.specs.State.{State}
-use Rattle.pt_desk_rules.specs.Step.{IsOutcome}
+use Rattle.pt_desk.specs.State.{State}
+use Rattle.pt_desk.specs.Step.{IsOutcome}
 use Rattle.pt_http_request.specs.declared.message.Message.{Message}
 use Rattle.pt_requests.specs.declared.request.Answer.{Answer}
 use Rattle.pt_store.specs.declared.keeper.StoreFault.{StoreFault}

@@ -5,8 +5,8 @@ use Rattle.pt_store.specs.Store.{Answers, FindsContent, Goes, Store}
 use Rattle.pt_store.specs.declared.keeper.StoreFault.{StoreFault}
 use Rattle.pt_store.specs.declared.keeper.StoreFault.TheVariants.{Memory, Store as failed}
 use Rattle.pt_store.proofs.StoreLemmas.{leaves_nothing}
-use Rattle.pt_desk_rules.specs.State.{State}
-use Rattle.pt_desk_rules.specs.Step.{IsOutcome, sender, state_after}
+use Rattle.pt_desk.specs.State.{State}
+use Rattle.pt_desk.specs.Step.{IsOutcome, sender, state_after}
 use Rattle.pt_requests.specs.declared.request.Answer.{Answer}
 use Rattle.pt_requests.specs.declared.request.Request.{Request}
 use Rattle.pt_desk_laws.proofs.OutcomeLemmas.{commits_nothing}

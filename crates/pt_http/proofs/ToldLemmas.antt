@@ -5,7 +5,7 @@ use Rattle.std.specs.Prelude.{option_map}
 use Rattle.pt_base.specs.declared.rule.Rule.TheVariants.{Key}
 use Rattle.pt_base.specs.declared.moment.Moment.{Moment}
 use Rattle.pt_store.specs.declared.keeper.StoreFault.TheVariants.{Memory}
-use Rattle.pt_desk_rules.specs.Step.{sender, state_after}
+use Rattle.pt_desk.specs.Step.{sender, state_after}
 use Rattle.pt_requests.specs.declared.request.Answer.{Answer}
 use Rattle.pt_requests.specs.declared.request.Answer.TheVariants.{Booked, Denied, Done, Entered}
 use Rattle.pt_desk_laws.proofs.OutcomeLemmas.{is_of_write, commits_nothing}

@@ -6,7 +6,7 @@ use Rattle.pt_base.specs.declared.fault.Fault.{Fault}
 use Rattle.pt_base.specs.declared.moment.Moment.{Moment}
 use Rattle.pt_desk.specs.Crash.{Lasts}
 use Rattle.pt_store.specs.Store.{IsSettled, Store}
-use Rattle.pt_desk_rules.specs.State.{State}
+use Rattle.pt_desk.specs.State.{State}
 use Rattle.pt_http.specs.Exchange.{IsCommittedFrom, IsExchangedOver, IsUnanswered, IsWritten, ServesOver}
 use Rattle.pt_http.specs.Input.{HasInput}
 use Rattle.pt_http_inbox.specs.Inbox.{ReadsOn}

@@ -6,8 +6,8 @@ use Rattle.pt_base.specs.declared.fault.Cause.TheVariants as cause
 use Rattle.pt_base.specs.declared.rule.Rule.TheVariants.{Key}
 use Rattle.pt_base.specs.declared.moment.Moment.{Moment}
 use Rattle.pt_store.specs.Store.{Store, FindsContent, IsLeft, TellsBy, Fails}
-use Rattle.pt_desk_rules.specs.State.{State}
-use Rattle.pt_desk_rules.specs.Step.{IsOutcome}
+use Rattle.pt_desk.specs.State.{State}
+use Rattle.pt_desk.specs.Step.{IsOutcome}
 use Rattle.pt_store.specs.declared.keeper.StoreFault.{StoreFault}
 use Rattle.pt_store.specs.declared.keeper.StoreFault.TheVariants.{Memory}
 use Rattle.pt_requests.specs.declared.request.Answer.{Answer}

@@ -3,7 +3,7 @@ use Rattle.std.specs.Prelude.{◌≡◌, ℕ, Bool, false, List, Option}
 use Rattle.pt_base.specs.declared.moment.Moment.{Moment}
 use Rattle.pt_http_reply.specs.declared.response.Response.{Response}
 use Rattle.pt_http_reply.specs.declared.response.Response.TheVariants as response
-use Rattle.pt_desk_rules.specs.State.{State}
+use Rattle.pt_desk.specs.State.{State}
 use Rattle.pt_http.specs.Exchange.{Desk, AnswersMessage, IsCommittedBy, is_last}
 use Rattle.httparse.specs.Grammar.{RequestHead}
 use Rattle.pt_http_request.specs.Messages.{SpellsMessage, IsMessageFault}

@@ -6,7 +6,7 @@ ghost use Rattle.pt_store.specs.Store.{Store};
 ghost use Rattle.pt_http.specs.Answering.{AnswersOne, CanBeAskedAgain, ExchangesOne, GoesOn};
 ghost use Rattle.pt_http.specs.Exchange.{IsExchangedOver, KeepsFound, desk_of};
 ghost use Rattle.pt_http.specs.Input.{HasInput};
-ghost use Rattle.pt_desk_rules.specs.State.{State};
+ghost use Rattle.pt_desk.specs.State.{State};
 ghost use Rattle.pt_http.specs.Received.{CommitsReceived, Responds};
 ghost use Rattle.pt_http_reply.specs.Reply.{IsSent, bytes_of};
 ghost use Rattle.pt_http_reply.specs.declared.response.Response.{Response};

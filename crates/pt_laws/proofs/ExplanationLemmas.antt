@@ -3,9 +3,9 @@ use Rattle.std.proofs.Common.{◌≡◌, ◌∙◌, ℕ, List, Option, Some, Non
 use Rattle.pt_base.specs.declared.moment.Moment.{Moment}
 use Rattle.pt_base.specs.declared.rule.Rule.{Rule}
 use Rattle.pt_base.specs.declared.trip.Wish.{Wish}
-use Rattle.pt_booking.specs.Planning.{OnDuty, booking_rules}
-use Rattle.pt_booking.specs.Request.{Request}
-use Rattle.pt_booking.specs.Rules.{IsFirstFailing}
+use Rattle.pt_desk_laws.specs.Planning.{OnDuty, booking_rules}
+use Rattle.pt_desk_laws.specs.Request.{Request}
+use Rattle.pt_desk_laws.specs.Rules.{IsFirstFailing}
 use Rattle.pt_desk_laws.proofs.DutyLemmas.{has_routes}
 use Rattle.pt_desk_laws.specs.Laws.{IsFirstOfBooking}
 use Rattle.pt_desk_rules.specs.Booking.{IsAnswered, routes_for}
@@ -15,13 +15,13 @@ use Rattle.pt_desk_rules.specs.Rules.{explain_rules}
 use Rattle.pt_desk_rules.specs.Step.{IsOutcomeBy}
 use Rattle.pt_desk_rules.specs.declared.facts.WishFacts.{WishFacts}
 use Rattle.pt_laws.specs.Explanations.{ExplanationsAreRight, IsFirstOfWish}
-use Rattle.pt_requests.specs.declared.caller.Caller.{Caller}
-use Rattle.pt_requests.specs.declared.request.Answer.TheVariants as answer
-use Rattle.pt_requests.specs.declared.request.Request.TheVariants as request
-use Rattle.pt_rights.specs.Rules.{first_failing}
-use Rattle.pt_scheduling.specs.Scheduling.{AreRoutes, IsScheduled}
-use Rattle.pt_scheduling.specs.declared.scheduling.Scheduled.{Scheduled}
-use Rattle.pt_scheduling.specs.declared.scheduling.Scheduled.TheVariants as scheduled
+use Rattle.pt_desk_rules.specs.Caller.{Caller}
+use Rattle.pt_desk_rules.specs.Answer.TheVariants as answer
+use Rattle.pt_desk_rules.specs.Request.TheVariants as request
+use Rattle.pt_desk_rules.specs.FailingRules.{first_failing}
+use Rattle.pt_desk_laws.specs.Scheduling.{AreRoutes, IsScheduled}
+use Rattle.pt_desk_laws.specs.Scheduled.{Scheduled}
+use Rattle.pt_desk_laws.specs.Scheduled.TheVariants as scheduled
 
 -- if the vehicles have routes, a denial names the first rule to fail
 denied_first : (minutes : ℕ → ℕ → Option ℕ) (vehicles : List OnDuty) (asked : Request) (rule : Rule)

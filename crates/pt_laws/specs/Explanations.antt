@@ -11,10 +11,10 @@ use Rattle.pt_desk_rules.specs.Sound.{IsSound}
 use Rattle.pt_desk_rules.specs.State.{State}
 use Rattle.pt_desk_rules.specs.Step.{IsOutcome, sender}
 use Rattle.pt_desk_rules.specs.declared.facts.WishFacts.{WishFacts}
-use Rattle.pt_requests.specs.declared.caller.Caller.{Caller}
-use Rattle.pt_requests.specs.declared.request.Answer.TheVariants as answer
-use Rattle.pt_requests.specs.declared.request.Request.TheVariants as request
-use Rattle.pt_rights.specs.Rules.{first_failing}
+use Rattle.pt_desk_rules.specs.Caller.{Caller}
+use Rattle.pt_desk_rules.specs.Answer.TheVariants as answer
+use Rattle.pt_desk_rules.specs.Request.TheVariants as request
+use Rattle.pt_desk_rules.specs.FailingRules.{first_failing}
 
 -- this is the first of all rules of a wish to fail: first those before its trip's, then its trip's
 abbrev pub IsFirstOfWish : Wish → Caller → Moment → WishFacts → Rule → Type 0

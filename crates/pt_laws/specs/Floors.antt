@@ -2,8 +2,8 @@
 use Rattle.std.specs.Prelude.{◌≤◌, ℕ, List, Option}
 use Rattle.pt_base.specs.Ranges.{last_minute}
 use Rattle.pt_base.specs.declared.vehicle.Vehicle.{Vehicle}
-use Rattle.pt_feasible.specs.ServiceTimes.{IsLeastSchedule, IsNeverLater, TimesFit}
-use Rattle.pt_feasible.specs.declared.stop.Stop.{Stop}
+use Rattle.pt_desk_rules.specs.ServiceTimes.{IsLeastSchedule, IsNeverLater, TimesFit}
+use Rattle.pt_desk_rules.specs.Stop.{Stop}
 use Rattle.pt_insertion.specs.Insertion.{IsWithout, with_trip}
 use Rattle.pt_insertion.specs.Removal.{times_without_trip}
 use Rattle.pt_insertion.specs.TravelTimes.{KeepsTriangleLaw}

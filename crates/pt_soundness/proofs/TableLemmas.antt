@@ -15,7 +15,7 @@ use Rattle.pt_desk_rules.specs.State.{State}
 use Rattle.pt_scheduling.specs.Plan.{IsRoutePlan}
 use Rattle.pt_desk_rules.specs.TableNames.{all_tables, number_of, part_of, table_count}
 use Rattle.pt_soundness.specs.Tables.{has_driven, has_rider, HasDriven, HasRider, IsSoundIn, IsSoundTo, KeepsLinesIn, KeepsRangesIn, keeps_ranges}
-use Rattle.pt_spelling.specs.Ranges.{IsVehicle}
+use Rattle.pt_store.specs.Ranges.{IsVehicle}
 use Rattle.pt_desk_rules.specs.Ranges.{FitsIn, KeepsRanges}
 use Rattle.pt_desk_rules.specs.declared.table_name.TableName.{TableName}
 use Rattle.pt_desk_rules.specs.declared.table_name.TableName.TheVariants as table

@@ -24,7 +24,7 @@ use Rattle.pt_desk_rules.specs.declared.change.FiledEntry.{FiledEntry}
 use Rattle.pt_desk_rules.specs.Parts.{Part, records_of}
 use Rattle.pt_desk_rules.specs.Ranges.{FitsIn}
 use Rattle.pt_desk_rules.specs.TableNames.{all_tables, number_of, part_of}
-use Rattle.pt_spelling.specs.Ranges.{IsWord}
+use Rattle.pt_store.specs.Ranges.{IsWord}
 use Rattle.pt_desk_rules.specs.declared.table_name.TableName.{TableName}
 use Rattle.pt_desk_rules.specs.declared.table_name.TableName.TheVariants as table
 

@@ -1,6 +1,6 @@
 -- The desk's first state.
 use Rattle.std.specs.Prelude.{◌≡◌, ℕ, List, [], ◌∷◌}
-use Rattle.sha2.specs.Sha256.{sha256}
+use Rattle.pt_desk_rules.specs.Sha256.{sha256}
 use Rattle.pt_base.specs.declared.policy.Policy.{Policy}
 use Rattle.pt_desk_rules.specs.State.{State, new_state}
 use Rattle.pt_requests.specs.declared.caller.Role.TheVariants.{Admin}

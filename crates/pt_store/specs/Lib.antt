@@ -3,3 +3,6 @@ pub mod LeastState
 pub mod Listed
 pub mod Store
 pub mod Wished
+pub use Rattle.pt_feasible.specs.Route
+pub use Rattle.pt_records.specs.Records
+pub use Rattle.pt_spelling.specs.Ranges

@@ -8,8 +8,8 @@ use Rattle.sqlite.specs.View.{View, doubt}
 use Rattle.sqlite_catalog.proofs.ReadLemmas.{lists_once}
 use Rattle.sqlite_catalog.specs.Listing.{Lists}
 use Rattle.sqlite_trees.specs.Objects.{catalog_tree}
-use Rattle.pt_desk_rules.specs.State.{State}
-use Rattle.pt_desk_rules.specs.declared.table_name.TableName.TheVariants as name
+use Rattle.pt_tables_keeper.specs.State.{State}
+use Rattle.pt_tables_keeper.specs.TableName.TheVariants as name
 use Rattle.pt_base.specs.declared.fault.Cause.TheVariants as cause
 use Rattle.pt_base.proofs.FaultLemmas.{other_cause}
 use Rattle.pt_tables.specs.RefusedBy.{RefusedBy}

@@ -12,9 +12,9 @@ use Rattle.sqlite.specs.Tree.{Trees}
 use Rattle.sqlite.proofs.Callers.{survives_begin}
 use Rattle.sqlite.proofs.StateLemmas.{survives_then}
 use Rattle.sqlite_trees.proofs.ListLemmas.{all_both}
-use Rattle.pt_desk_rules.specs.State.{State}
-use Rattle.pt_desk_rules.specs.declared.table_name.TableName.{TableName}
-use Rattle.pt_desk_rules.specs.declared.table_name.TableName.TheVariants as name
+use Rattle.pt_tables_keeper.specs.State.{State}
+use Rattle.pt_tables_keeper.specs.TableName.{TableName}
+use Rattle.pt_tables_keeper.specs.TableName.TheVariants as name
 use Rattle.pt_tables.specs.Migration.{IsMigrated, IsMigratedDesk, IsMigratedFrom, IsRaised}
 use Rattle.pt_tables_opening.specs.Opening.{IsEarlierVersion}
 use Rattle.pt_tables_rows.specs.Rows.{desk_row, versioned_row, versioned_rows, rows_in}

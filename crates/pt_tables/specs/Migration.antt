@@ -2,7 +2,7 @@
 use Rattle.std.specs.Prelude.{◌≡◌, ℕ, IsTrue}
 use Rattle.sqlite.specs.State.{State as Connected}
 use Rattle.sqlite.specs.Tree.{Trees}
-use Rattle.pt_desk_rules.specs.State.{State}
+use Rattle.pt_tables_keeper.specs.State.{State}
 use Rattle.pt_tables_opening.specs.Opening.{IsEarlierVersion}
 use Rattle.pt_tables_rows.specs.Schema.{desk_schema, schema_of}
 use Rattle.pt_tables_rows.specs.Tables.{HasRows, HasRowsOf}

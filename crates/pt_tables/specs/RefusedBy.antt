@@ -3,7 +3,7 @@ use Rattle.std.specs.Prelude.{◌≡◌, ◌≢◌, IsTrue}
 use Rattle.sqlite.specs.State.{State as Connected}
 use Rattle.sqlite.specs.Tree.{Trees}
 use Rattle.sqlite.specs.View.{View}
-use Rattle.pt_desk_rules.specs.State.{State}
+use Rattle.pt_tables_keeper.specs.State.{State}
 use Rattle.pt_base.specs.declared.fault.Cause.TheVariants as cause
 use Rattle.pt_tables_opening.specs.Refused.{AreUnsound, HasOtherTables, SparesOtherVersion}
 use Rattle.pt_tables_opening.specs.Standing.{IsFirstAtFault}

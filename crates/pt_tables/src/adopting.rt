@@ -3,7 +3,7 @@
 ghost use Rattle.std.specs.Prelude.{◌≡◌, ◌⊎◌, ◌≤◌, IsTrue, IfOk, IfErr, IsErrAnd, MatchResult, false};
 ghost use Rattle.pt_base.specs.declared.fault.Cause.TheVariants as cause;
 ghost use Rattle.pt_store.specs.Store.{IsSettled};
-ghost use Rattle.pt_desk_rules.specs.Sound.{IsSound};
+ghost use Rattle.pt_tables_keeper.specs.Sound.{IsSound};
 ghost use Rattle.sqlite.specs.Held.{state};
 ghost use Rattle.sqlite.specs.State.{HasCleanDisk};
 ghost use Rattle.sqlite.specs.Tree.{Trees};

@@ -4,8 +4,8 @@ ghost use Rattle.std.specs.Prelude.{◌≡◌, ◌⊎◌, ◌↔◌, IsTrue, IfO
 ghost use Rattle.pt_base.specs.declared.fault.Cause.TheVariants as cause;
 ghost use Rattle.pt_store.specs.LeastState.{IsLeastState};
 ghost use Rattle.pt_store.specs.Store.{IsSettled};
-ghost use Rattle.pt_desk_rules.specs.Sound.{IsSound};
-ghost use Rattle.pt_desk_rules.specs.State.{State};
+ghost use Rattle.pt_tables_keeper.specs.Sound.{IsSound};
+ghost use Rattle.pt_tables_keeper.specs.State.{State};
 ghost use Rattle.sqlite.specs.Held.{state};
 ghost use Rattle.sqlite.specs.State.{HasCleanDisk, Survives};
 ghost use Rattle.sqlite.specs.Tree.{Trees};

@@ -4,8 +4,8 @@ ghost use Rattle.std.specs.Prelude.{◌≡◌, false};
 ghost use Rattle.pt_store.specs.Store.{IsSettled};
 ghost use Rattle.sqlite.specs.Held.{state};
 ghost use Rattle.sqlite.specs.State.{HasCleanDisk};
-ghost use Rattle.pt_records.specs.Records.{Each};
-ghost use Rattle.pt_tables_asking.specs.Plans.{HasVersionAmong};
+ghost use Rattle.pt_store.specs.Records.{Each};
+ghost use Rattle.pt_tables_opening.specs.Plans.{HasVersionAmong};
 ghost use Rattle.pt_tables_rows.specs.Tables.{IsWellFormed, IsKept};
 ghost use Rattle.pt_tables_writing.specs.Committing.{LeavesDesk};
 

@@ -15,7 +15,7 @@ use Rattle.pt_records.specs.Keys.{pair_key}
 use Rattle.pt_records.specs.Records.{Each, IsInOrder, record_at}
 use Rattle.pt_records.proofs.OrderLemmas.{Each-weaker}
 use Rattle.pt_scheduling.specs.Plan.{Plan, plan_key}
-use Rattle.pt_spelling.specs.Ranges.{IsVehicle}
+use Rattle.pt_tables_reading.specs.Ranges.{IsVehicle}
 use Rattle.pt_tables_rows.specs.Tables.{IsWellFormed}
 use Rattle.pt_tables_asking.specs.Plans.{HasVersionAmong, vehicle_ids}
 use Rattle.pt_tables_asking.proofs.StopLemmas.{day_low, filter_alike, filter_found, same_key}

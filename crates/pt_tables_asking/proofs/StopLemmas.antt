@@ -24,7 +24,7 @@ use Rattle.pt_scheduling.specs.Plan.{Plan, plan_key}
 use Rattle.pt_scheduling.specs.declared.planned.PlannedStop.{PlannedStop}
 use Rattle.pt_scheduling.proofs.PlanLemmas.{found_key}
 use Rattle.pt_scheduling.proofs.RouteLemmas.{Each-found}
-use Rattle.pt_spelling.specs.Replies.{IsId}
+use Rattle.pt_tables_reading.specs.Replies.{IsId}
 use Rattle.pt_tables_reading.specs.Fitting.{FitsStopAt, stop_row}
 use Rattle.pt_tables_reading.specs.declared.stops.StopAt.{StopAt}
 use Rattle.pt_tables_rows.specs.Rows.{number_value, stop_number, stop_rows, stop_rows_from}

@@ -4,7 +4,7 @@ use Rattle.sqlite.specs.Effect.{Database}
 use Rattle.sqlite.specs.Order.{Row}
 use Rattle.pt_records.specs.Records.{record_at, within}
 use Rattle.pt_records.specs.declared.span.Span.{Span}
-use Rattle.pt_spelling.specs.Ranges.{IsWord}
+use Rattle.pt_tables_reading.specs.Ranges.{IsWord}
 use Rattle.pt_tables_asking.specs.Asking.{HasAnswer}
 use Rattle.pt_tables_asking.specs.declared.marks.Mark.{Mark}
 use Rattle.pt_tables_rows.specs.Rows.{number_value, row_if}

@@ -7,7 +7,7 @@ ghost use Rattle.sqlite.specs.Held.{state};
 ghost use Rattle.sqlite.specs.Listing.{reads_listing, understood};
 ghost use Rattle.sqlite.specs.State.{HasCleanDisk};
 ghost use Rattle.pt_records.specs.Records.{Each, IsInOrder, record_at};
-ghost use Rattle.pt_spelling.specs.Ranges.{IsWord};
+ghost use Rattle.pt_tables_reading.specs.Ranges.{IsWord};
 ghost use Rattle.pt_tables_rows.specs.Rows.{number_value};
 ghost use Rattle.pt_tables_rows.specs.Schema.{desk_schema};
 ghost use Rattle.pt_tables_reading.specs.Reading.{Reads};

@@ -14,7 +14,7 @@ use Rattle.sqlite.specs.Table.{Table}
 use Rattle.sqlite.specs.Term.{Term, col, eval_all}
 use Rattle.sqlite_schema.specs.Names.{place_of}
 use Rattle.sqlite_schema.specs.declared.schema.Column.{Column}
-use Rattle.sqlite_tied.specs.Compute.{everything}
+use Rattle.pt_tables_rows.specs.Compute.{everything}
 use Rattle.sqlite_value.specs.Keys.{ascending}
 use Rattle.sqlite_value.specs.declared.keys.Key.{Key}
 use Rattle.pt_desk_rules.specs.Ranges.{FitsFiled, FitsKept, FitsPlace, FitsRider, FitsTravel, FitsTrip}

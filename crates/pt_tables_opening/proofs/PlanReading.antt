@@ -5,7 +5,7 @@ use Rattle.std.proofs.lemmas.List.{map-append, take_more}
 use Rattle.sqlite.specs.Order.{Row}
 use Rattle.pt_base.specs.Day.{IsDay}
 use Rattle.pt_desk_rules.specs.Travel.{TravelTable}
-use Rattle.pt_feasible.specs.declared.stop.StopKind.TheVariants.{Pickup}
+use Rattle.pt_desk_rules.specs.StopKind.TheVariants.{Pickup}
 use Rattle.pt_records.specs.Records.{Each}
 use Rattle.pt_scheduling.specs.Plan.{Plan}
 use Rattle.pt_scheduling.specs.declared.planned.PlannedStop.{PlannedStop}

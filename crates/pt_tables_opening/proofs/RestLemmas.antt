@@ -9,7 +9,7 @@ use Rattle.sqlite.specs.State.{State as Connected, HasCleanDisk, IsUnchanged, Is
 use Rattle.sqlite.specs.declared.error.Error.{Error}
 use Rattle.sqlite.proofs.Callers.{never_commits, unchanged_then}
 use Rattle.sqlite.proofs.StateLemmas.{survives_then, survives_weaker}
-use Rattle.sqlite_resolve.specs.declared.compiled.Compiled.{Compiled}
+use Rattle.pt_tables_asking.specs.Compiled.{Compiled}
 use Rattle.sqlite_schema.specs.declared.command.Returning.{Returning}
 use Rattle.sqlite.specs.Schema.{Schema}
 use Rattle.pt_tables_opening.specs.Opening.{Stays, Rests, RestsOn}

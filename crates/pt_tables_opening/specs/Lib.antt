@@ -8,3 +8,4 @@ pub mod Refused
 pub mod Standing
 pub mod Steps
 pub mod Tables
+pub use Rattle.pt_tables_asking.specs.Plans

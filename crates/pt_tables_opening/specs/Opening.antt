@@ -10,7 +10,7 @@ use Rattle.sqlite.specs.State.{State as Connected, HasCleanDisk, IsUnchanged, Su
 use Rattle.sqlite.specs.Table.{Table}
 use Rattle.sqlite.specs.Tree.{Trees}
 use Rattle.sqlite_catalog.specs.Listing.{Lists}
-use Rattle.sqlite_trees.specs.Objects.{catalog_tree}
+use Rattle.pt_tables_asking.specs.Objects.{catalog_tree}
 use Rattle.pt_tables_asking.specs.Asking.{IsAnswer}
 use Rattle.pt_tables_rows.specs.Rows.{number_value}
 use Rattle.pt_tables_rows.specs.Schema.{IsEarlier, schema_of, desk_schema, desk_table, tables}

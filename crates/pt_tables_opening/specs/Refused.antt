@@ -4,7 +4,7 @@ use Rattle.sqlite.specs.Effect.{Database}
 use Rattle.sqlite.specs.Tree.{Trees}
 use Rattle.sqlite_catalog.specs.Listing.{Lists}
 use Rattle.sqlite_schema.specs.declared.schema.Schema.{Schema}
-use Rattle.sqlite_trees.specs.Objects.{catalog_tree}
+use Rattle.pt_tables_asking.specs.Objects.{catalog_tree}
 use Rattle.pt_desk_rules.specs.Sound.{IsSound}
 use Rattle.pt_desk_rules.specs.State.{State}
 use Rattle.pt_base.specs.declared.fault.Cause.TheVariants as cause

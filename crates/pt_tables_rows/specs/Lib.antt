@@ -3,3 +3,12 @@ pub mod Rows
 pub mod Schema
 pub mod Step
 pub mod Tables
+pub use Rattle.sqlite_schema.specs.Rules
+pub use Rattle.sqlite_schema.specs.declared.command.Conflict
+pub use Rattle.sqlite_schema.specs.declared.command.Returning
+pub use Rattle.sqlite_schema.specs.declared.command.Upsert
+pub use Rattle.sqlite_schema.specs.declared.program.Program
+pub use Rattle.sqlite_schema.specs.declared.schema.Keys
+pub use Rattle.sqlite_sql.specs.declared.ops.BinaryOp
+pub use Rattle.sqlite_sql.specs.declared.ops.CompareOp
+pub use Rattle.sqlite_tied.specs.Compute

@@ -21,12 +21,12 @@ use Rattle.sqlite.specs.Table.{Table}
 use Rattle.sqlite.specs.Term.{Term, lit, col, holds}
 use Rattle.sqlite.specs.Tree.{Trees, rowid, IsTable}
 use Rattle.sqlite.proofs.Callers.{IsPlain, command_of, statement_of, runs_as, one_step}
-use Rattle.sqlite_schema.specs.declared.program.Program.{Program}
-use Rattle.sqlite_schema.specs.declared.schema.Keys.TheVariants.{Enforced}
-use Rattle.sqlite_schema.specs.Rules.{equal}
-use Rattle.sqlite_sql.specs.declared.ops.BinaryOp.TheVariants.{Compare}
-use Rattle.sqlite_sql.specs.declared.ops.CompareOp.TheVariants.{Ge}
-use Rattle.sqlite_sql.specs.Ops.{binary, is_true}
+use Rattle.pt_tables_rows.specs.Program.{Program}
+use Rattle.pt_tables_rows.specs.Keys.TheVariants.{Enforced}
+use Rattle.pt_tables_rows.specs.Rules.{equal}
+use Rattle.pt_tables_rows.specs.BinaryOp.TheVariants.{Compare}
+use Rattle.pt_tables_rows.specs.CompareOp.TheVariants.{Ge}
+use Rattle.sqlite.specs.Ops.{binary, is_true}
 use Rattle.sqlite_rules.specs.Action.{works}
 use Rattle.sqlite_rules.specs.Calls.{ids_of}
 use Rattle.sqlite_keyed.proofs.ListLemmas.{map-map, map-flat_map, filter-map, filter_same, filter_as_flat_map, flat_map_same_on, IsPermutation-filter}

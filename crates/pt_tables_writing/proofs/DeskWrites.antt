@@ -10,7 +10,7 @@ use Rattle.sqlite.specs.Term.{lit, col}
 use Rattle.sqlite.specs.Tree.{without_rowid}
 use Rattle.sqlite.specs.declared.types.Value.TheVariants.{Null}
 use Rattle.sqlite_keyed.proofs.ListLemmas.{IsPermutation-same}
-use Rattle.sqlite_tied.specs.Compute.{everything}
+use Rattle.pt_tables_rows.specs.Compute.{everything}
 use Rattle.sqlite_value.specs.Keys.{first_key}
 use Rattle.sqlite_value.proofs.OrderLemmas.{value_cmp-Int}
 use Rattle.pt_base.specs.declared.policy.Policy.{Policy}

@@ -14,10 +14,10 @@ use Rattle.sqlite_rules.specs.Action.{Work, works, work_by, deed_for, pairs}
 use Rattle.sqlite_rules.specs.Calls.{ids_of}
 use Rattle.sqlite_rules.specs.Keys.{AreConflicts}
 use Rattle.sqlite_rules.specs.declared.error.Refusal.{Refusal}
-use Rattle.sqlite_schema.specs.declared.command.Conflict.TheVariants.{Abort}
-use Rattle.sqlite_schema.specs.Rules.{parent_key}
-use Rattle.sqlite_schema.specs.declared.program.Program.{Program}
-use Rattle.sqlite_schema.specs.declared.schema.Keys.TheVariants.{Enforced}
+use Rattle.pt_tables_rows.specs.Conflict.TheVariants.{Abort}
+use Rattle.pt_tables_rows.specs.Rules.{parent_key}
+use Rattle.pt_tables_rows.specs.Program.{Program}
+use Rattle.pt_tables_rows.specs.Keys.TheVariants.{Enforced}
 use Rattle.pt_tables_rows.specs.Schema.{desk_schema}
 use Rattle.pt_tables_rows.specs.Tables.{Others}
 use Rattle.pt_tables_writing.proofs.InsertLemmas.{others_are}

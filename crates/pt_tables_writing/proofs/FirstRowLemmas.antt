@@ -14,7 +14,7 @@ use Rattle.sqlite.specs.Source.TheVariants.{Values}
 use Rattle.sqlite.specs.Listing.{understood}
 use Rattle.sqlite.specs.State.{State, Executes}
 use Rattle.sqlite_keyed.proofs.ListLemmas.{IsPermutation-same}
-use Rattle.sqlite_tied.specs.Compute.{everything}
+use Rattle.pt_tables_rows.specs.Compute.{everything}
 use Rattle.pt_base.specs.declared.policy.Policy.{Policy}
 use Rattle.pt_tables_writing.specs.Least.{first_admin}
 use Rattle.pt_tables_rows.specs.Rows.{number_value, desk_row, caller_row}

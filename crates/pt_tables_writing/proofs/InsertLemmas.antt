@@ -17,7 +17,7 @@ use Rattle.sqlite.specs.Rowids.{Rowids}
 use Rattle.sqlite.specs.Rowids.TheVariants.{Chosen}
 use Rattle.sqlite.specs.State.{State, Executes}
 use Rattle.sqlite.proofs.Callers.{IsPlain, command_of, one_step}
-use Rattle.sqlite_schema.specs.declared.schema.Keys.TheVariants.{Enforced}
+use Rattle.pt_tables_rows.specs.Keys.TheVariants.{Enforced}
 use Rattle.sqlite_rules.specs.Action.{works}
 use Rattle.pt_tables_rows.specs.Schema.{desk_schema, tables}
 use Rattle.pt_tables_rows.specs.Tables.{Others}

@@ -6,10 +6,10 @@ use Rattle.std.proofs.lemmas.Bool.Decides.{nat_tests}
 use Rattle.sqlite.specs.Collation.TheVariants.{Binary}
 use Rattle.sqlite.specs.Order.{Row}
 use Rattle.sqlite.specs.declared.types.Value.TheVariants.{Int}
-use Rattle.sqlite_schema.specs.Rules.{equal}
-use Rattle.sqlite_sql.specs.declared.ops.BinaryOp.TheVariants.{Compare}
-use Rattle.sqlite_sql.specs.declared.ops.CompareOp.TheVariants.{Eq, Ge}
-use Rattle.sqlite_sql.specs.Ops.{binary, is_true}
+use Rattle.pt_tables_rows.specs.Rules.{equal}
+use Rattle.pt_tables_rows.specs.BinaryOp.TheVariants.{Compare}
+use Rattle.pt_tables_rows.specs.CompareOp.TheVariants.{Eq, Ge}
+use Rattle.sqlite.specs.Ops.{binary, is_true}
 use Rattle.sqlite_typed.proofs.TestLemmas.{at_ints}
 use Rattle.pt_records.specs.Keys.{pair_key}
 use Rattle.pt_tables_writing.proofs.DeleteLemmas.{has_columns, has_columns_from}

@@ -17,9 +17,9 @@ use Rattle.sqlite.specs.declared.types.Value.{Value}
 use Rattle.sqlite.specs.declared.types.Value.TheVariants.{Null, Int}
 use Rattle.sqlite.proofs.Callers.{IsPlain, command_of}
 use Rattle.sqlite_rules.specs.Keys.{conflicts}
-use Rattle.sqlite_schema.specs.Rules.{equal}
-use Rattle.sqlite_schema.specs.declared.command.Conflict.TheVariants.{Abort}
-use Rattle.sqlite_tied.specs.Compute.{everything}
+use Rattle.pt_tables_rows.specs.Rules.{equal}
+use Rattle.pt_tables_rows.specs.Conflict.TheVariants.{Abort}
+use Rattle.pt_tables_rows.specs.Compute.{everything}
 use Rattle.sqlite_value.specs.Keys.{first_key}
 use Rattle.pt_desk_rules.specs.Ranges.{FitsKept, FitsPlace, FitsRider, FitsTrip}
 use Rattle.pt_desk_rules.specs.State.{caller_key, kept_key, place_key, rider_key, route_key, trip_key}

@@ -18,8 +18,8 @@ use Rattle.sqlite.specs.declared.types.Value.TheVariants.{Null, Int}
 use Rattle.sqlite.proofs.Callers.{IsPlain, command_of, statement_of, runs_as, one_permutation}
 use Rattle.sqlite_keyed.proofs.ListLemmas.{IsPermutation-same}
 use Rattle.sqlite_rules.specs.Calls.{ids_of}
-use Rattle.sqlite_schema.specs.declared.program.Program.{Program}
-use Rattle.sqlite_tied.specs.Compute.{everything}
+use Rattle.pt_tables_rows.specs.Program.{Program}
+use Rattle.pt_tables_rows.specs.Compute.{everything}
 use Rattle.sqlite_value.specs.Keys.{first_key}
 use Rattle.sqlite_value.proofs.OrderLemmas.{value_cmp-Int}
 use Rattle.pt_base.specs.declared.policy.Policy.{Policy}

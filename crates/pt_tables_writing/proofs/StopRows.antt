@@ -18,9 +18,9 @@ use Rattle.sqlite.specs.Order.{Row}
 use Rattle.sqlite.specs.Rowids.TheVariants.{Chosen}
 use Rattle.sqlite.specs.State.{State, Executes}
 use Rattle.sqlite.specs.Term.{lit, col, op2}
-use Rattle.sqlite_sql.specs.declared.ops.BinaryOp.TheVariants.{Compare}
-use Rattle.sqlite_sql.specs.declared.ops.CompareOp.TheVariants.{Eq, Ge}
-use Rattle.sqlite_tied.specs.Compute.{everything}
+use Rattle.pt_tables_rows.specs.BinaryOp.TheVariants.{Compare}
+use Rattle.pt_tables_rows.specs.CompareOp.TheVariants.{Eq, Ge}
+use Rattle.pt_tables_rows.specs.Compute.{everything}
 use Rattle.sqlite_keyed.proofs.ListLemmas.{filter_all}
 use Rattle.pt_records.specs.Keys.{pair_key}
 use Rattle.pt_records.specs.Records.{Each}

@@ -11,9 +11,9 @@ use Rattle.sqlite.specs.Rowids.TheVariants.{Chosen}
 use Rattle.sqlite.specs.State.{State, Executes}
 use Rattle.sqlite.specs.Term.{lit, col, op2}
 use Rattle.sqlite_keyed.proofs.ListLemmas.{all-map}
-use Rattle.sqlite_sql.specs.declared.ops.BinaryOp.TheVariants.{Compare}
-use Rattle.sqlite_sql.specs.declared.ops.CompareOp.TheVariants.{Eq}
-use Rattle.sqlite_tied.specs.Compute.{everything}
+use Rattle.pt_tables_rows.specs.BinaryOp.TheVariants.{Compare}
+use Rattle.pt_tables_rows.specs.CompareOp.TheVariants.{Eq}
+use Rattle.pt_tables_rows.specs.Compute.{everything}
 use Rattle.pt_desk_rules.specs.State.{travel_key}
 use Rattle.pt_desk_rules.specs.Travel.{TravelTable}
 use Rattle.pt_travel.specs.Chain as travel

@@ -27,10 +27,10 @@ use Rattle.sqlite_keyed.proofs.ListLemmas.{all-filter}
 use Rattle.sqlite_rules.specs.Calls.{ids_of}
 use Rattle.sqlite_rules.specs.Keys.{conflicts, AreConflicts}
 use Rattle.sqlite_rules.specs.Lists.{Has}
-use Rattle.sqlite_schema.specs.Rules.{equal}
-use Rattle.sqlite_schema.specs.declared.command.Conflict.TheVariants.{Abort}
-use Rattle.sqlite_schema.specs.declared.command.Upsert.{Upsert}
-use Rattle.sqlite_sql.specs.Ops.{is_null}
+use Rattle.pt_tables_rows.specs.Rules.{equal}
+use Rattle.pt_tables_rows.specs.Conflict.TheVariants.{Abort}
+use Rattle.pt_tables_rows.specs.Upsert.{Upsert}
+use Rattle.sqlite.specs.Ops.{is_null}
 use Rattle.sqlite_trees.specs.View.{is_int}
 use Rattle.sqlite_value.proofs.OrderLemmas.{value_cmp-Int}
 use Rattle.pt_tables_rows.specs.Schema.{desk_schema, tables}

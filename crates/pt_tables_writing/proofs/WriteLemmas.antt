@@ -12,7 +12,7 @@ use Rattle.sqlite.specs.Effect.{Database, IsDatabase}
 use Rattle.sqlite.specs.Rows.{Task, Written, Then}
 use Rattle.sqlite.specs.State.{State, Writes, mode_of, Executes}
 use Rattle.sqlite.proofs.Callers.{IsPlain, command_of, statement_of, runs_as}
-use Rattle.sqlite_schema.specs.declared.schema.Keys.TheVariants.{Enforced}
+use Rattle.pt_tables_rows.specs.Keys.TheVariants.{Enforced}
 use Rattle.pt_tables_rows.specs.Schema.{desk_schema, tables}
 use Rattle.pt_tables_rows.specs.Tables.{Others}
 use Rattle.pt_tables_rows.proofs.PartLemmas.{went, same_value}

@@ -1,6 +1,6 @@
 use Rattle.std.proofs.Common.{◌∙◌, ℕ, List, ◌++◌, ap, refl, sym}
 use Rattle.std.proofs.lemmas.Result.{IfErr-weaker, IfOk-weaker}
-use Rattle.pt_http.specs.Input.{HasInput}
+use Rattle.pt_rehearsal.specs.Input.{HasInput}
 use Rattle.pt_commands.proofs.rehearsal.rehearse_with_key.Goals as goal
 
 pub returns-clause-finished : goal.returns-clause-finished

@@ -2,8 +2,8 @@ use Rattle.std.proofs.Common.{inr, refl, subst, subst₂, sym, arith}
 use Rattle.sqlite.specs.Held.{Held, state}
 use Rattle.sqlite.specs.State.{HasCleanDisk}
 use Rattle.sqlite.specs.Tree.{Trees}
-use Rattle.pt_desk_rules.specs.Sound.{IsSound}
-use Rattle.pt_desk_rules.specs.State.{State}
+use Rattle.pt_tables_keeper.specs.Sound.{IsSound}
+use Rattle.pt_tables_keeper.specs.State.{State}
 use Rattle.pt_tables_rows.specs.Tables.{HasRows}
 use Rattle.pt_tables.proofs.AdoptLemmas.{adopted, desk_adopted, left_before, read_committed, refused_for, refused_otherwise, still_committed}
 use Rattle.pt_tables_keeper.proofs.CarriedLemmas.{sound_carried}

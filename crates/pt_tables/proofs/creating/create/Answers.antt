@@ -3,8 +3,8 @@ use Rattle.sqlite.specs.Held.{Held, state}
 use Rattle.sqlite.specs.State.{HasCleanDisk, Survives}
 use Rattle.sqlite.specs.Tree.{Trees}
 use Rattle.pt_store.specs.LeastState.{IsLeastState}
-use Rattle.pt_desk_rules.specs.Sound.{IsSound}
-use Rattle.pt_desk_rules.specs.State.{State}
+use Rattle.pt_tables_keeper.specs.Sound.{IsSound}
+use Rattle.pt_tables_keeper.specs.State.{State}
 use Rattle.pt_tables_writing.specs.Least.{IsLeastDesk, IsNew, IsNewDesk}
 use Rattle.pt_tables_rows.specs.Schema.{no_schema}
 use Rattle.pt_tables_rows.specs.Tables.{IsKept}

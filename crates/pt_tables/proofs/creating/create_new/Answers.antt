@@ -1,7 +1,7 @@
 use Rattle.std.proofs.Common.{◌≡◌, OnOk, arith, subst, rules}
 use Rattle.sqlite.specs.Held.{state}
 use Rattle.sqlite.specs.State.{HasCleanDisk, Survives}
-use Rattle.pt_desk_rules.specs.State.{State}
+use Rattle.pt_tables_keeper.specs.State.{State}
 use Rattle.pt_tables_writing.specs.Least.{IsDeskDatabase, IsNew, IsNewDesk}
 use Rattle.pt_tables_rows.specs.Tables.{IsKept}
 use Rattle.pt_tables_rows.proofs.PartLemmas.{on_ok}

@@ -3,7 +3,7 @@ use Rattle.sqlite.specs.Held.{state}
 use Rattle.pt_records.specs.Records.{is_within, within}
 use Rattle.pt_records.specs.declared.span.Span.{Span}
 use Rattle.pt_records.proofs.TableLemmas.{Each-filter, IsInOrder-filter}
-use Rattle.pt_spelling.specs.Ranges.{IsWord}
+use Rattle.pt_tables_reading.specs.Ranges.{IsWord}
 use Rattle.pt_tables_asking.specs.Marks.{has_mark}
 use Rattle.pt_tables_asking.proofs.MarkLemmas.{answer_by_marks, marks_fit, marks_in_order, marks_of, own_marks_tell}
 use Rattle.pt_tables_asking.proofs.marks.is_marked.Goals as goal
