@@ -1,6 +1,6 @@
 -- Rows, in any order, determine the records in the order of their keys.
 use Rattle.std.proofs.Common.{◌≡◌, ℕ, suc, ◌+◌, ◌<◌, ◌≤◌, Bool, true, false, not, cond, List, [], ◌∷◌, ◌++◌, length}
-use Rattle.std.proofs.Common.{map, filter, flat_map, get_or, length-append, append-nil, refl, sym, ap, ap₂, ◌∙◌, subst}
+use Rattle.std.proofs.Common.{filter, flat_map, get_or, length-append, append-nil, refl, sym, ap, ap₂, ◌∙◌, subst}
 use Rattle.std.proofs.Common.{arith}
 use Rattle.std.specs.Prelude.{◌==◌, IsPermutation}
 use Rattle.std.specs.List.{AllByRecursion}

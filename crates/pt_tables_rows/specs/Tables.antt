@@ -53,7 +53,7 @@ abbrev pub HasRows : State → Trees → Type 0
 HasRows content trees = (t : TableName) → HasRowsIn content trees t
 
 -- The tables of this version have the rows of the content, and the agency's row has this version. In the tables that
--- later versions add, the content has no row.
+-- later versions add, the content has no row: a content of version 1 has no wheelchair, and no place for one.
 pub record HasRowsOf (version : ℕ) (content : State) (trees : Trees) : Type 0 where
   pub rows : AllByRecursion (λ t. AreRows (table_in t) trees (versioned_rows version t content)) (names_of version)
   pub none : AllByRecursion (λ t. rows_in t content ≡ []) (names_between version table_version)
