@@ -115,7 +115,7 @@ fn make_desk<S: Alter + Drop>(
     }
 }
 
-/// Migrates the tables of the first version to this version, and prints `done`.
+/// Migrates the tables of an earlier version to this version, and prints `done`.
 fn migrate_desk<S: Alter + Drop>(rt: &HostRuntime, conn: Connection<S>) -> Result<Ending, Fault> {
     let mut conn = conn;
     match migrate(rt.alloc(), &mut conn) {
@@ -201,7 +201,7 @@ pub(crate) fn init(rt: &HostRuntime, file: &str, key: &str) -> Result<Ending, Fa
     over_file(rt, file, Work::Make { key })
 }
 
-/// Migrates the tables of the first version in a file to this version, and prints `done`.
+/// Migrates the tables of an earlier version in a file to this version, and prints `done`.
 pub(crate) fn migrate_file(rt: &HostRuntime, file: &str) -> Result<Ending, Fault> {
     over_known_file(rt, file, Work::Migrate)
 }

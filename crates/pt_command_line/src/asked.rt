@@ -60,7 +60,7 @@ pub enum Line<'a> {
         file: &'a str,
         key: &'a str,
     },
-    /// Migrates a database of the first version to this version.
+    /// Migrates a database of an earlier version to this version.
     Migrate {
         file: &'a str,
     },

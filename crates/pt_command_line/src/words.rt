@@ -25,7 +25,7 @@ const VERSION: &str = "0.9.0";
 const EXIT_STATUS: &str = "Exit status: 0 done, 1 denied, `possible` or `no`, 2 wrong words, \
 3 out of memory or the store failed, 4 another fault. With 3 and 4 standard error has the line \
 `fault C row R`.\n\
-A file of version 1 is refused with fault 30: `desk migrate FILE` turns it into one of this version.\n\
+A file of an earlier version is refused with fault 30: `desk migrate FILE` turns it into one of this version.\n\
 The codes of faults:\n\
 0 out of memory\n\
 1 no such date\n\
@@ -60,7 +60,7 @@ minute of that day. Replies go to standard output. For example: desk rehearse KE
 const INIT: &str = "Makes a new database with one caller, the admin, who has number 1. \
 For example: desk init desk.db KEY";
 
-const MIGRATE: &str = "Turns a file of version 1 into one of this version, and prints `done`. \
+const MIGRATE: &str = "Turns a file of an earlier version into one of this version, and prints `done`. \
 For example: desk migrate desk.db";
 
 const SERVE: &str = "Answers HTTP requests on 127.0.0.1, one on each connection, one connection \

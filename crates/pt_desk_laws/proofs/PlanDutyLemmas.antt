@@ -110,18 +110,10 @@ outcome_duty outcome (Some trip) s decided duties is = accepted_duty s decided _
 decided_duty : (asked : Write) (me : Caller) (now : Moment) (s : State) (made : Decision) → IsSound s
     → PlansAreOnDuty s → AllHold (rules_of asked me now (facts_of asked s))
     → IsDecidedBy asked me.id now.day (facts_of asked s) made → IsRequest asked → DutyAfter made s
-decided_duty (write.PutCaller new) me now s made sound duties hold is asked = accepted_duty s made _ _ is duties
-decided_duty (write.PutPolicy new) me now s made sound duties hold is asked = accepted_duty s made _ _ is duties
-decided_duty (write.PutPlace new) me now s made sound duties hold is asked = accepted_duty s made _ _ is duties
-decided_duty (write.PutRoute new) me now s made sound duties hold is asked = accepted_duty s made _ _ is duties
-decided_duty (write.PutRider new) me now s made sound duties hold is asked = accepted_duty s made _ _ is duties
-decided_duty (write.Enter rider entry) me now s made sound duties hold is asked =
-    accepted_duty s made _ _ is duties
 decided_duty (write.PutVehicle new) me now s made sound duties hold is asked =
     accepted_duty s made _ _ is
     (vehicle_duties new s sound asked.from_day
     (not_true (is_booked_from (Some new.id) new.from_day s.trips) hold.1.1.0) duties)
-decided_duty (write.Travel day rows) me now s made sound duties hold is asked = accepted_duty s made _ _ is duties
 decided_duty (write.Book rider wish) me now s made sound duties hold is asked =
     booking_duty now.day rider wish s made sound duties asked.1.day is
 decided_duty (write.Change trip wish) me now s made sound duties hold is asked =
@@ -132,6 +124,7 @@ decided_duty (write.Cancel trip) me now s made sound duties hold is asked =
     cancel_duty (trip_of trip s) trip s made sound duties refl is
 decided_duty (write.Outcome trip outcome) me now s made sound duties hold is asked =
     outcome_duty outcome (trip_of trip s) s made duties is
+decided_duty other me now s made sound duties hold is asked = accepted_duty s made _ _ is duties
 
 -- the kept request changes no plan
 kept_duty : (me : ℕ) (sent : Sent) (s : State) (made : Decision) → DutyAfter made s

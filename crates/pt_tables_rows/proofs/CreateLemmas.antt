@@ -1,8 +1,7 @@
 -- What the statements that create the tables do, one after the other, and which rows a new desk then has.
 use Rattle.std.proofs.Common.{◌≡◌, ◌≢◌, ◌<◌, ◌≤◌, ◌+◌, ℕ, zero, suc, List, [], ◌∷◌, ◌++◌, IsPermutation, false, None}
-use Rattle.std.proofs.Common.{inl, inr, Some, Result, Ok, Err, refl, sym, ap, subst, ◌∙◌, arith, slice_get, slice_index_or, fold, map, flat_map, drop}
+use Rattle.std.proofs.Common.{Some, Result, Ok, Err, refl, sym, ap, subst, ◌∙◌, arith, slice_get, slice_index_or, fold, map, flat_map, drop}
 use Rattle.std.proofs.Common.{take, length}
-use Rattle.std.proofs.lemmas.Bool.{cases_lt}
 use Rattle.std.proofs.lemmas.List.{append-nil, append_assoc, append_cancel_left, map-append, take-append-drop, take-take, take_all}
 use Rattle.std.proofs.lemmas.List.Concat.{flat_map-append}
 use Rattle.std.proofs.lemmas.List.Sums.{sum_by-append}
@@ -30,7 +29,7 @@ use Rattle.pt_desk_rules.specs.TableNames.{all_tables}
 use Rattle.pt_desk_rules.specs.declared.table_name.TableName.{TableName}
 use Rattle.pt_desk_rules.specs.declared.table_name.TableName.TheVariants as name
 use Rattle.pt_tables_rows.specs.Rows.{desk_row, caller_row}
-use Rattle.pt_tables_rows.specs.Schema.{Version, versions, table_version, table_in, names_of, names_between, tables_of, tables_between, indexes_of, statement_count, schema_of}
+use Rattle.pt_tables_rows.specs.Schema.{Version, versions, table_version, table_in, names_of, names_between, tables_of, tables_between, statement_count, schema_of}
 use Rattle.pt_tables_rows.specs.Schema.{desk_schema, no_schema, first_tables, chairs_tables}
 use Rattle.pt_tables_rows.specs.Schema.{desk_table, callers_table, kept_table, places_table, fixed_table}
 use Rattle.pt_tables_rows.specs.Schema.{vehicles_table, riders_table}
@@ -230,36 +229,6 @@ pub of_all : (P : TableName → Type 0) (version : ℕ) → version ≤ table_ve
     → AllByRecursion P (names_between version table_version) → (t : TableName) → P t
 of_all P version low first later =
     at_table P (subst (AllByRecursion P) (sym (names_split version table_version low)) (all-append P (names_of version) (names_between version table_version) first later))
-
--- each version adds an index
-adds_index : (version : ℕ) → version < table_version → length (indexes_of version) < length (indexes_of (version + 1))
-adds_index zero low = omega arith
-adds_index (suc zero) low = omega arith
-adds_index (suc (suc version)) low = absurd (omega arith)
-
-indexes_rise : (version later : ℕ) → version < later → later ≤ table_version → length (indexes_of version) < length (indexes_of later)
-indexes_rise version zero less low = absurd (omega arith)
-indexes_rise version (suc later) less low =
-    let one_more : later + 1 ≡ suc later = omega arith in
-    let next : length (indexes_of later) < length (indexes_of (suc later)) =
-    subst (λ n. length (indexes_of later) < length (indexes_of n)) one_more (adds_index later (omega arith)) in
-    elim (cases_lt version later) [
-      | inl before ↦ let rest = indexes_rise version later before (omega arith) in omega (arith, rest, next)
-      | inr at ↦ let same : later ≡ version = omega (arith, less, at) in subst (λ n. length (indexes_of n) < length (indexes_of (suc later))) same next
-    ]
-
--- two versions never have the same schema
-pub versions_differ : (one other : ℕ) → one ≤ table_version → other ≤ table_version → schema_of one ≡ schema_of other → one ≡ other
-unfolding schema_of
-versions_differ one other low top same =
-    let counts : length (indexes_of one) ≡ length (indexes_of other) = ap (λ (s : Schema). length s.indexes) same in
-    elim (cases_lt one other) [
-      | inl less ↦ absurd (let rise = indexes_rise one other less top in omega (arith, counts, rise))
-      | inr over ↦ elim (cases_lt other one) [
-        | inl more ↦ absurd (let rise = indexes_rise other one more low in omega (arith, counts, rise))
-        | inr under ↦ omega (arith, over, under)
-      ]
-    ]
 
 -- ---- what a statement does
 
