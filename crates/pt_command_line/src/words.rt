@@ -60,7 +60,8 @@ minute of that day. Replies go to standard output. For example: desk rehearse KE
 const INIT: &str = "Makes a new database with one caller, the admin, who has number 1. \
 For example: desk init desk.db KEY";
 
-const MIGRATE: &str = "Turns a file of an earlier version into one of this version, and prints `done`. \
+const MIGRATE: &str =
+    "Turns a file of an earlier version into one of this version, and prints `done`. \
 For example: desk migrate desk.db";
 
 const SERVE: &str = "Answers HTTP requests on 127.0.0.1, one on each connection, one connection \
