@@ -104,7 +104,7 @@ ROWS = [
     ("a wheelchair without a place", "INSERT INTO trip_chairs VALUES(1)", UNSOUND, "trip_chairs"),
     ("two persons on one seat", "UPDATE vehicles SET capacity = 1; UPDATE trips SET companions = 1 WHERE id = 1",
      UNSOUND, "trip_chairs"),
-    ("version 3", "UPDATE desk SET version = 3", OTHER_TABLES, None),
+    ("version 9", "UPDATE desk SET version = 9", OTHER_TABLES, None),
     ("version 7", "UPDATE desk SET version = 7", OTHER_TABLES, None),
     ("version 1 with the tables of version 2", "UPDATE desk SET version = 1", OTHER_TABLES, None),
     ("a file of version 1", f"UPDATE desk SET version = 1; {dropped(TABLES[11:])}", OTHER_TABLES, None),
