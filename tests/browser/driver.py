@@ -224,7 +224,7 @@ def two_outcomes_without_a_line_are_done_once_after_a_reload(at):
     becomes(at, 6, "missed-rider")
     at.browser.sees_no("to be sent")
     same("the writes that the desk got", ["/trips/5/outcome", "/trips/6/outcome"], [it for it in at.town.middle.writes() if "outcome" in it])
-    same("what waits", [], waits(at))
+    until("nothing waits", lambda: not waits(at))
 
 
 @check
@@ -242,7 +242,7 @@ def what_waits_can_be_taken_back(at):
         press_stop(at, "Pick up Walter Hughes")
         at.browser.press("Take back: we did not come")
         is_next(at, "Pick up Walter Hughes")
-        same("what waits", [], waits(at))
+        until("nothing waits", lambda: not waits(at))
     pause(2)
     same("the writes that the desk got", [], at.town.middle.writes())
     same("the trip", "booked", status(at, 7))
