@@ -79,13 +79,20 @@ def received_from(connection):
     return b"".join(pieces)
 
 
+# The numbers that this process was given last. Each is a socket of Linux's abstract names, gone when the process ends.
+PORTS_GIVEN = collections.deque(maxlen=64)
+
+
 def free_port():
-    """A port that nobody listens on, below those that connections are given."""
+    """A port that nobody listens on, below those that connections are given. No other test takes it meanwhile."""
     while True:
-        number = random.randint(10_000, HIGHEST_PORT)
-        with socket.socket() as tried, contextlib.suppress(OSError):
+        number, given = random.randint(10_000, HIGHEST_PORT), socket.socket(socket.AF_UNIX)
+        with contextlib.suppress(OSError), socket.socket() as tried:
+            given.bind(f"\0desk-test-port-{number}")
             tried.bind(("127.0.0.1", number))
+            PORTS_GIVEN.append(given)
             return number
+        given.close()
 
 
 def forget_clock(number):
