@@ -225,6 +225,7 @@ def two_outcomes_without_a_line_are_done_once_after_a_reload(at):
     at.browser.sees_no("to be sent")
     same("the writes that the desk got", ["/trips/5/outcome", "/trips/6/outcome"], [it for it in at.town.middle.writes() if "outcome" in it])
     until("nothing waits", lambda: not waits(at))
+    same("what waits", [], waits(at))
 
 
 @check
@@ -243,6 +244,7 @@ def what_waits_can_be_taken_back(at):
         at.browser.press("Take back: we did not come")
         is_next(at, "Pick up Walter Hughes")
         until("nothing waits", lambda: not waits(at))
+        same("what waits", [], waits(at))
     pause(2)
     same("the writes that the desk got", [], at.town.middle.writes())
     same("the trip", "booked", status(at, 7))
