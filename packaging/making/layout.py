@@ -94,6 +94,7 @@ def put_tools(layout):
     for name in "desk-setup", "take-over":
         layout.copy(f"packaging/{name}", f"usr/lib/desk/packaging/{name}", 0o755)
     layout.copy_tree("packaging/setting_up", "usr/lib/desk/packaging/setting_up")
+    layout.copy_tree("python/desk_tools", "usr/lib/desk/python/desk_tools")
     layout.link("usr/sbin/desk-setup", "../lib/desk/packaging/desk-setup")
     layout.copy_tree("pages", "usr/share/desk/pages")
     layout.link("usr/lib/desk/pages", "../../share/desk/pages")
