@@ -59,9 +59,10 @@ export function hearServersTime(header) {
 /** Milliseconds since 1970, by the server's clock. */
 export const serverNow = () => Date.now() + ahead;
 
-function parts() {
+/** @param {number} [at] milliseconds of the server's clock */
+function parts(at = serverNow()) {
     const shown = new Intl.DateTimeFormat("en-CA", { timeZone: zone, hourCycle: "h23", year: "numeric", month: "2-digit", day: "2-digit",
-        hour: "2-digit", minute: "2-digit", second: "2-digit" }).formatToParts(new Date(serverNow()));
+        hour: "2-digit", minute: "2-digit", second: "2-digit" }).formatToParts(new Date(at));
     return Object.fromEntries(shown.map(({ type, value }) => [type, value]));
 }
 
@@ -70,11 +71,14 @@ export function today() {
     return `${year}-${month}-${day}`;
 }
 
-/** Now by the agency's clocks: YYYY-MM-DDTHH:MM:SS. */
-export function momentNow() {
-    const { year, month, day, hour, minute, second } = parts();
+/** A moment by the agency's clocks, YYYY-MM-DDTHH:MM:SS: now, or of these milliseconds of the server's clock.
+ * @param {number} [at] */
+export function momentAt(at) {
+    const { year, month, day, hour, minute, second } = parts(at);
     return `${year}-${month}-${day}T${hour}:${minute}:${second}`;
 }
+
+export const momentNow = () => momentAt();
 
 export function minuteNow() {
     const { hour, minute } = parts();

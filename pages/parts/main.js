@@ -210,6 +210,12 @@ async function signOut(words) {
     say(words);
 }
 
+/** A screen has found that nobody has the key any more, and what was read with it is gone.
+ * @param {any} event */
+function keyGone({ detail }) {
+    detail.left = signOut(detail.said).then(() => note("key", detail.shown));
+}
+
 /** Who does nothing for long is signed out, and is told a minute before. */
 async function lookIdle() {
     const minutes = agency().idle_minutes, idle = Date.now() - active;
@@ -239,6 +245,7 @@ await Promise.all([loadAgency(), desk.comeBack()]);
 await chooseLanguage(languageFor(agency().languages));
 await useWords("common", "denials", "fields", "signing");
 window.addEventListener("hashchange", () => show());
+window.addEventListener("desk.key-gone", keyGone);
 for (const event of ["pointerdown", "keydown", "scroll"]) window.addEventListener(event, isActive, { passive: true, capture: true });
 found("skip").addEventListener("click", (event) => {
     event.preventDefault();

@@ -1,0 +1,42 @@
+// When this phone locks: so many minutes after the desk last answered (parts/lock.js). What it goes by is kept beside the copies, for each key.
+
+import { agency } from "../parts/agency.js";
+import { heardNow, later, leftUntilLock } from "../parts/lock.js";
+import { copyOf, keepCopy } from "../parts/queue.js";
+
+const NAME = "heard", WRITTEN = 15_000;
+
+export function lockOfPhone() {
+    /** @type {import("../parts/lock.js").Heard | null} */
+    let heard = null;
+    let ranUntil = performance.now(), written = 0;
+
+    const left = () => (heard ? leftUntilLock(heard, Date.now(), agency().lock_minutes) : 0);
+    const keep = () => {
+        written = performance.now();
+        return keepCopy(NAME, heard).catch(() => {});
+    };
+
+    return {
+        /** Reads what an earlier page has kept; milliseconds until the lock. */
+        async read() {
+            const kept = await copyOf(NAME).catch(() => null);
+            heard ??= kept;
+            return left();
+        },
+        /** The desk has answered. */
+        answered() {
+            heard = heardNow(Date.now());
+            ranUntil = performance.now();
+            return keep();
+        },
+        /** Goes on with the clock; milliseconds until the lock. */
+        tick() {
+            const now = performance.now(), open = left();
+            if (!heard) return 0;
+            heard = later(heard, Date.now(), now - ranUntil);
+            ranUntil = now;
+            if (now - written > WRITTEN) keep();
+            return Math.min(open, left());
+        } };
+}
