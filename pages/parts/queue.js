@@ -5,7 +5,7 @@
 import { asked } from "./ask.js";
 import { serverNow } from "./clock.js";
 import * as desk from "./desk.js";
-import { sendTally } from "./tally.js";
+import { countPath } from "./tally.js";
 import { t, useWords } from "./words.js";
 
 /**
@@ -263,15 +263,13 @@ async function lookAgain() {
     if (times.length) looking = setTimeout(sendAll, Math.min(LOOKED, ...times));
 }
 
-/** Tells the site's log what is old enough to be told. */
+/** Counts what is old enough to be told to the site. */
 export async function sendTallies() {
-    if (!desk.digest() || navigator.onLine === false) return;
+    if (!desk.digest()) return;
     for (const entry of await entries()) {
         if (!entry.tally || entry.since > serverNow() - HELD) continue;
-        for (let paths = [entry.tally].flat(); paths.length; paths = paths.slice(1)) {
-            if (!await sendTally(paths[0])) return;
-            await changed(entry.order, (now) => ({ ...now, tally: paths.length > 1 ? paths.slice(1) : null }));
-        }
+        for (const path of [entry.tally].flat()) await countPath(path);
+        await changed(entry.order, (now) => ({ ...now, tally: null }));
     }
 }
 

@@ -6,6 +6,7 @@ import * as desk from "../parts/desk.js";
 import { button, part } from "../parts/element.js";
 import { dropNote } from "../parts/notes.js";
 import { dropWaiting, forgetKey } from "../parts/queue.js";
+import { forgetTexts } from "../parts/tally.js";
 import { t } from "../parts/words.js";
 import { callLink } from "./driver-list.js";
 import { didWords, timeOf } from "./driver-stop.js";
@@ -34,6 +35,7 @@ export async function forgetAndLeave() {
     if (isUnderWay || !digest) return;
     isUnderWay = true;
     const waiting = await forgetKey(digest);
+    await forgetTexts(digest);
     const detail = { said: t("driver.key-replaced", { count: waiting.length }), shown: noteOf(digest, waiting), left: Promise.resolve() };
     window.dispatchEvent(new CustomEvent("desk.key-gone", { detail }));
     await detail.left;

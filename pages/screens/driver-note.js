@@ -1,13 +1,11 @@
 // A note of the day: one line on a trip or on the van, which dispatch reads.
 
+import { lineOf } from "../parts/counting.js";
 import { button, fresh, make, part } from "../parts/element.js";
+import { EVENTS } from "../parts/events.js";
 import { t } from "../parts/words.js";
 
-const MOST = 200;
-
-/** What is wanted of a typed note: one line without blanks around it, or nothing.
- * @param {string} typed */
-export const noteIn = (typed) => [...typed.replace(/\s+/g, " ").trim()].slice(0, MOST).join("");
+const MOST = EVENTS.notes.text.most ?? 0;
 
 /** Asks for a note; empty where none is given.
  * @param {string} about the stop, or empty for the van @returns {Promise<string>} */
@@ -25,7 +23,7 @@ export function askNote(about) {
         dialog.addEventListener("close", () => {
             dialog.remove();
             if (before instanceof HTMLElement && before.isConnected) before.focus({ preventScroll: true });
-            answer(dialog.returnValue === "kept" ? noteIn(field.value) : "");
+            answer(dialog.returnValue === "kept" ? lineOf(field.value, MOST) : "");
         });
         document.body.append(dialog);
         dialog.showModal();

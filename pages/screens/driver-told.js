@@ -1,6 +1,6 @@
 // What the driver's phone tells the site's log: taps at stops, no-shows with what speaks for them, notes of the day, and outcomes that disagree.
 
-import { newId, stopPath } from "../parts/tally.js";
+import { eventPath, stopPath } from "../parts/tally.js";
 
 /** @typedef {import("./driver-day.js").What} What */
 /** @typedef {import("./driver-day.js").Evidence} Evidence */
@@ -10,20 +10,16 @@ import { newId, stopPath } from "../parts/tally.js";
 const EVENTS = { arrived: "arrived", aboard: "aboard", ridden: "dropped", left: "left", "missed-rider": "no-show-rider", "missed-operator": "no-show-agency" };
 const MINUTE = 60, LONGEST_WAIT = 1439;
 
-/** @param {string} kind @param {Record<string, string | number>} fields */
-const pathOf = (kind, fields) => `/tally/${kind}?${new URLSearchParams({ id: newId(), ...Object.fromEntries(Object.entries(fields)
-    .map(([name, value]) => [name, String(value)])) })}`;
-
 /** @param {{ vehicle: number, trip: number, what: What, at: string }} tap */
 export const stopTold = ({ vehicle, trip, what, at }) => stopPath({ vehicle, trip, event: String(EVENTS[what]), at });
 
 /** A no-show with its promised window, the arrival and the minutes of wait.
  * @param {{ vehicle: number, day: string, trip: number, at: string }} tap @param {Evidence} evidence */
-export const noShowTold = ({ vehicle, day, trip, at }, { promise, arrived, waited }) => (promise ? [pathOf("no-shows", { vehicle, day, trip, from: promise[0],
-    to: promise[1], wait: Math.min(LONGEST_WAIT, Math.floor(waited / MINUTE)), at, ...(arrived === null ? {} : { arrived }) })] : []);
+export const noShowTold = (tap, { promise, arrived, waited }) => (promise ? [eventPath("no-shows", { ...tap, from: promise[0], to: promise[1],
+    wait: Math.min(LONGEST_WAIT, Math.floor(waited / MINUTE)), ...(arrived === null ? {} : { arrived }) })] : []);
 
 /** @param {{ vehicle: number, day: string, trip: number, text: string, at: string }} note trip is 0 where it is of the van */
-export const noteTold = ({ vehicle, day, trip, text, at }) => pathOf("notes", { vehicle, day, trip, text, at });
+export const noteTold = (note) => eventPath("notes", note);
 
-/** @param {{ vehicle: number, trip: number, record: string, told: string, at: string }} disagreement */
-export const disagreementTold = ({ vehicle, trip, record, told, at }) => pathOf("disagreements", { vehicle, trip, record, told, at });
+/** @param {{ vehicle: number, trip: number, record: any, told: any, at: string }} disagreement */
+export const disagreementTold = (disagreement) => eventPath("disagreements", disagreement);
