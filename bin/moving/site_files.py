@@ -27,8 +27,6 @@ def texts_of(agency, roster=None, drivers=None):
         "agency.json": agency_file.text_of({it: agency[it] for it in PUBLIC if agency.get(it, False) is not False}),
         "places.json": agency_file.text_of(hidden),
         "staff/places.json": agency_file.text_of(lists),
-        # A driver has to find the homes of the riders on the manifest.
-        "drivers/places.json": agency_file.text_of({"places": lists["places"]}),
     }
     for rider in sorted({it["private"] for it in lists["places"] if is_riders(it)}):
         own = [it for it in lists["places"] if is_riders(it) and it["private"] == rider]
@@ -36,6 +34,7 @@ def texts_of(agency, roster=None, drivers=None):
     if roster:
         texts["staff/roster.csv"] = roster_file.text_of(roster.riders, roster.columns)
     if drivers:
+        # The site has no address for it: bin/driver-files takes from it what each van's driver needs.
         texts["drivers/roster.csv"] = roster_file.text_of(drivers.riders, roster_file.DRIVERS_COLUMNS)
     return texts
 

@@ -43,7 +43,7 @@ export async function choose({ question, detail, choices, none = t("common.no-go
         dialog?.close(String(at));
     };
     const answer = await dialogOf(question, detail, (close) => [...choices.map(([, text], at) => button(text, () => close(String(at)),
-        { class: "main", autofocus: at === 0 && !careful, on: { click: () => close(String(at)), keydown: keyed } })),
+        { class: careful && (at > 0 || choices.length === 1) ? null : "main", autofocus: at === 0 && !careful, on: { click: () => close(String(at)), keydown: keyed } })),
     button(none, () => close(""), { autofocus: careful, on: { click: () => close(""), keydown: keyed } })]);
     return answer === "" || !(Number(answer) in choices) ? null : choices[Number(answer)][0];
 }

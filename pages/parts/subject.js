@@ -65,8 +65,9 @@ const subjectField = (what, label, chosen) => comboField(what, label, { ...KINDS
 
 /** A field for the number, and below it what draw(number) gives of the number that was chosen. Where one person has one number, the field is
  * folded away once it is known. focus names the element that has the focus once a number was chosen.
- * @param {{ what: What, label: string, action: string, draw: (id: number) => any, folded?: boolean, focus?: string }} given */
-export function withSubject({ what, label, action, draw, folded: folds = false, focus = `${what}-below` }) {
+ * @param {{ what: What, label: string, action: string, draw: (id: number) => any, folded?: boolean, focus?: string, change?: string }} given
+ *     change: what the folded field says where what is below tells whose it is */
+export function withSubject({ what, label, action, draw, folded: folds = false, focus = `${what}-below`, change: other = "" }) {
     /** @type {any} */
     let tools = null;
     const field = subjectField(what, label, () => tools?.change({ typed: field.control.value.trim() }));
@@ -82,7 +83,7 @@ export function withSubject({ what, label, action, draw, folded: folds = false, 
         draw: ({ shown, typed, open }, { kept, change }) => {
             tools = { change };
             const same = shown !== null && meant(typed) === shown, name = shown !== null && what === "rider" ? riderName(shown) : "";
-            const summary = part("summary", {}, shown === null ? t("fields.type-number") : `${label}: ${textOf(shown)}`);
+            const summary = part("summary", {}, shown === null ? t("fields.type-number") : other || `${label}: ${textOf(shown)}`);
             return [folds ? part("details", { class: "folded", open: open || !same, on: { toggle: (event) => change({ open: event.target.open }) } }, summary, ask)
                 : part("div", { class: "card" }, ask, same && name && part("p", { class: "whose" }, riderLabel(shown))),
             shown !== null && !same && part("p", { class: "note", role: "status" }, t("fields.other-number", { typed: typed || "…", action })),

@@ -146,5 +146,5 @@ export function listOf(state, acts) {
         part("ol", { class: "driver-stops" }, stops.map((stop) => part("li", { key: stop.name }, button([
             part("span", { class: "driver-time" }, clock(stop.at)), " ", part("span", {}, `${stopWords(stop, names)}, ${placeNameAt(stop.place, names)}`), " ",
             part("span", { class: "driver-state" }, stateWords(stop))], () => acts.open(stop.name),
-        { class: `driver-row${stop.done ? " done" : ""}${stop.isNext ? " next" : ""}`, "aria-current": stop.isNext ? "step" : null })))));
+        { id: `stop-${stop.name.replace(" ", "-")}`, class: `driver-row${stop.done ? " done" : ""}${stop.isNext ? " next" : ""}`, "aria-current": stop.isNext ? "step" : null })))));
 }

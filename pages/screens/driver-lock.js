@@ -18,11 +18,12 @@ export function lockOfPhone() {
     };
 
     return {
-        /** Reads what an earlier page has kept; milliseconds until the lock. */
+        /** Reads what an earlier page has kept; milliseconds until the lock, or null where nothing has ever answered.
+         * @returns {Promise<number | null>} */
         async read() {
             const kept = await copyOf(NAME).catch(() => null);
             heard ??= kept;
-            return left();
+            return heard && left();
         },
         /** The desk has answered. */
         answered() {

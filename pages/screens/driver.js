@@ -120,8 +120,8 @@ function readerOf(screen, lock) {
             const { vehicle, kept, loose, begun, locked } = screen.state;
             screen.change({ ...stateOf(vehicle, day), kept, loose, locked, waits: waitingIn(kept).length, begun: begun && day === today() });
             await forgetOld(screen.state);
-            const read = await lock.read() > 0 ? await keptDay(vehicle, day) : null;
-            if (screen.state.day === day && !screen.state.read) screen.change({ read });
+            const left = await lock.read(), read = left ? await keptDay(vehicle, day) : null;
+            if (screen.state.day === day && !screen.state.read) screen.change({ read, locked: left === 0 });
             await Promise.all([reader.refresh(), reader.lookBack()]);
         },
         /** Whether the day before is closed. */
@@ -217,7 +217,8 @@ function drawManifest() {
     const drawIt = async () => {
         const vehicle = subjectOf("vehicle") ?? await keptVehicle();
         if (vehicle) keepSubject("vehicle", vehicle);
-        place.append(withSubject({ what: "vehicle", label: t("driver.vehicle"), action: t("driver.show"), draw: manifestOf, folded: true }));
+        place.append(withSubject({ what: "vehicle", label: t("driver.vehicle"), action: t("driver.show"), draw: manifestOf, folded: true,
+            change: t("driver.change-van") }));
     };
     drawIt();
     return place;

@@ -1,5 +1,8 @@
 """The driver's phone: what is shown next, what is kept without a line, and what the desk has of it in the end."""
+import hashlib
+import json
 import re
+import urllib.parse
 
 from selenium.webdriver.common.keys import Keys
 
@@ -180,7 +183,7 @@ def the_drop_of_a_rider_aboard_is_next_in_its_order(at):
     at.browser.sees("General Hospital", "door of the day clinic")
     becomes(at, 2, "ridden")
     same("the first rider", "booked", status(at, 1))
-    holds(f"aboard and ridden are shown: {rows(at)[:5]}", "aboard" in rows(at)[1] and "ridden" in rows(at)[3])
+    holds(f"aboard and ridden are shown: {rows(at)[:5]}", "aboard" in rows(at)[1] and "dropped off" in rows(at)[3])
     tell(at, "Dropped off", "Yes: dropped off")
     becomes(at, 1, "ridden")
     same("stops that are shown", 28, len(rows(at)))
@@ -504,7 +507,7 @@ def a_driver_finds_private_places_where_the_site_has_the_file(at):
     sign_in(at, "06:05")
     press_stop(at, "6:17 AM Pick up Rosa")
     at.browser.sees("12 Oak Street", "gate code 4411#")
-    at.town.write_file("drivers/places.json", None)
+    at.town.write_file("drivers/1/places.json", None)
     try:
         at.browser.fresh()
         sign_in(at, "06:05")
@@ -588,6 +591,258 @@ def the_files_are_the_sites_with_a_line_and_the_kept_ones_without(at):
         at.browser.reload()
         at.browser.sees("You’re offline")
         same("a kept file is used without a line", "1", at.browser.script(HAS_STALE).strip())
+
+
+# A day of its own for what goes wrong: each check has a trip of it.
+BAD_DAY, GRANT, NUNEZ, HUGHES, ALVAREZ, ONEILL = "2025-03-13", 1005, 1006, 1007, 1001, 1002
+WISHES = [(GRANT, 500, 6, 8), (NUNEZ, 560, 3, 2), (HUGHES, 620, 9, 8), (ALVAREZ, 700, 11, 2), (ONEILL, 760, 12, 6), (GRANT, 840, 8, 6)]
+BOOKED = {}
+EVERYTHING = """
+const done = arguments[0];
+(async () => {
+    const all = [JSON.stringify({ ...localStorage }), JSON.stringify({ ...sessionStorage }), document.documentElement.outerHTML];
+    for (const { name } of await indexedDB.databases()) await new Promise((go) => {
+        const opened = indexedDB.open(name);
+        opened.onsuccess = () => {
+            const stores = [...opened.result.objectStoreNames], change = opened.result.transaction(stores), read = stores.map((it) => change.objectStore(it).getAll());
+            change.oncomplete = () => { opened.result.close(); all.push(JSON.stringify(read.map(({ result }) => result))); go(); };
+        };
+    });
+    for (const name of await caches.keys()) {
+        const cache = await caches.open(name);
+        for (const request of await cache.keys()) if (!/\\.(js|css|svg)$/.test(request.url)) all.push(await (await cache.match(request)).text());
+    }
+    done(all.join("\\n"));
+})();
+"""
+NAMES = re.compile("Álvarez|O'Neill|Samuel Grant|Núñez|Hughes|12 Oak Street|gate code|speaks Spanish|hard of hearing|VEHICLE 1")
+
+
+def names_here(at):
+    """The names, notes and manifests that are anywhere on this phone."""
+    return sorted(set(NAMES.findall(at.browser.driver.execute_async_script(EVERYTHING))))
+
+
+def events(at, kind):
+    """What the site's log has of a kind of event, as its fields."""
+    try:
+        with open(f"{at.folder}/tally.log", encoding="utf-8") as log:
+            parts = [line.split("\t") for line in log.read().splitlines()]
+    except FileNotFoundError:
+        return []
+    return [dict(urllib.parse.parse_qsl(it[2])) for it in parts if it[1] == f"/tally/{kind}"]
+
+
+def put_key(at, key):
+    """The admin gives driver 1 another key, by another device that the line of this phone does not matter to."""
+    at.town.number += 1_000
+    fields = {"id": 101, "role": "driver", "subject": 1, "digest": hashlib.sha256(key.encode()).hexdigest()}
+    reply = at.town.desk.ask("POST", "/callers", at.keys["admin"], at.town.number, fields)
+    holds(f"the key is put: {reply}", "denied" not in reply)
+
+
+def begin_bad(at, clock, index):
+    """A phone whose next stop is the pickup of one of the trips of the bad day; the trip's number."""
+    if not BOOKED:
+        at.town.set_clock(AFTER, "12:00")
+        BOOKED.update({at_: at.town.book(rider, BAD_DAY, wish, start, end) for at_, (rider, wish, start, end) in enumerate(WISHES)})
+    at.browser.fresh()
+    sign_in(at, clock, BAD_DAY)
+    name = f"stop-PICK-{BOOKED[index]}"
+    at.browser.script("document.getElementById(arguments[0]).click()", name)
+    if at.browser.all("button", "This is my next stop"):
+        at.browser.press("This is my next stop")
+        at.browser.press("Yes: go on from here")
+    return BOOKED[index]
+
+
+@check
+def a_key_that_was_replaced_takes_all_names_off_the_phone(at):
+    trip = begin_bad(at, "08:00", 0)
+    files_are_kept(at)
+    holds("the phone has names before", len(names_here(at)) > 3)
+    at.browser.press("Note about the van")
+    at.browser.fill("What dispatch has to know", "Mrs. O'Neill asks for a call")
+    at.browser.press("Save note")
+    with at.browser.no_line(at.town):
+        tell(at, "We missed this pickup", "Yes: we missed it")
+        at.browser.sees("1 outcome waits to be sent")
+        put_key(at, "another key of driver 1")
+    try:
+        at.browser.sees("This key was replaced or canceled. 1 outcome was not sent: tell dispatch.", f"Trip {trip}, rider 1005: missed by us, Thu, Mar 13")
+        at.browser.find("button", "Sign in")
+        same("names on the phone", [], names_here(at))
+        entries, copies = kept(at)
+        same("what is left", [("waiting", trip)], [(it["state"], it["tap"]["trip"]) for it in entries])
+        same("copies", [], copies)
+        at.browser.press("I have told dispatch")
+        until("it is forgotten once it was told", lambda: not kept(at)[0])
+        at.browser.reload()
+        at.browser.find("button", "Sign in")
+        same("names after a reload", [], names_here(at))
+        same("the trip", "booked", status(at, trip, BAD_DAY))
+    finally:
+        put_key(at, at.keys["driver 1"])
+
+
+@check
+def without_a_line_the_phone_locks_in_time_and_a_clock_that_is_set_back_does_not_open_it(at):
+    at.town.write_files(lock_minutes=60)
+    try:
+        with at.browser.clock(hurry=20):
+            begin_bad(at, "08:00", 1)
+            files_are_kept(at)
+            with at.browser.no_line(at.town):
+                at.browser.reload()
+                at.browser.sees("You’re offline.", "It stays on screen until 9:0", "Ana María Núñez")
+                at.browser.passes(59 * 60)
+                at.browser.settled(500)
+                at.browser.sees("Ana María Núñez")
+                at.browser.passes(2 * 60)
+                at.browser.sees("The desk has not answered for 1 hour", "Call dispatch, 555-0100")
+                same("names of a locked phone", [], names_here(at))
+                at.browser.passes(-60 * 60)
+                at.browser.settled(500)
+                same("names once the clock is set back", [], names_here(at))
+                at.browser.reload()
+                at.browser.sees("The desk has not answered")
+                same("names after a reload", [], names_here(at))
+            at.browser.sees("Ana María Núñez", "All stops")
+            at.browser.sees_no("has not answered")
+    finally:
+        at.town.write_files()
+
+
+@check
+def a_no_show_after_a_late_van_is_asked_about_and_can_be_undone_also_after_a_reload(at):
+    before = len(events(at, "no-shows"))
+    trip = begin_bad(at, "09:00", 1)
+    until("the wait for the window", lambda: "Pickup window" in card(at))
+    at.browser.sees("Arrived")
+    moves_to(at, "09:58", BAD_DAY)
+    at.browser.sees("The pickup window has closed.")
+    at.browser.press("Arrived")
+    at.browser.sees("Arrived at 9:58 AM")
+    big = at.browser.script("return [...document.querySelectorAll('.driver-choices button')].map((it) => [it.innerText, it.offsetWidth * it.offsetHeight])")
+    names = [name for name, _ in big]
+    holds(f"our fault comes before a no-show, and is larger: {big}", names.index("We missed this pickup") < names.index("No-show")
+          and dict(big)["We missed this pickup"] > dict(big)["No-show"])
+    moves_to(at, "10:05", BAD_DAY)
+    at.browser.sees("wait is over")
+    no_show(at, "You arrived after the pickup window closed.")
+    at.browser.sees("Marked no-show: Ana María Núñez, rider 1006. It is sent in")
+    at.browser.reload()
+    at.browser.sees("Marked no-show: Ana María Núñez, rider 1006. It is sent in")
+    same("what the desk has", "booked", status(at, trip, BAD_DAY))
+    at.browser.press("Undo “no-show”")
+    at.browser.sees_no("It is sent in")
+    until("nothing waits", lambda: not waits(at))
+    with at.browser.clock(hurry=20):
+        at.browser.reload()
+        press_stop(at, "Pick up Ana María")
+        no_show(at, "You arrived after the pickup window closed.")
+        at.browser.sees("It is sent in")
+        moves_to(at, "10:07", BAD_DAY)
+        becomes(at, trip, "missed-rider", BAD_DAY)
+        until("the evidence is not told", lambda: len(events(at, "no-shows")) > before)
+    told = events(at, "no-shows")[before:]
+    window = next(it for it in at.town.trips_of(NUNEZ) if it["trip"] == trip)
+    same("no-shows of the log", 1, len(told))
+    same("its evidence", (str(trip), "1", str(window["window_from"]), str(window["window_to"]), str(9 * 60 + 58), "7"),
+         tuple(told[0][it] for it in ("trip", "vehicle", "from", "to", "arrived", "wait")))
+
+
+@check
+def a_second_outcome_of_a_trip_reads_what_is_on_record_and_dispatch_sees_it(at):
+    before = len(events(at, "disagreements"))
+    trip = begin_bad(at, "10:20", 2)
+    with at.browser.clock(hurry=20):
+        at.browser.reload()
+        at.browser.press("Aboard")
+        # (another phone of the same van)
+        at.town.post("driver 1", f"/trips/{trip}/outcome", {"outcome": "missed-rider"})
+        at.town.write_drivers_files()
+        moves_to(at, "10:50", BAD_DAY)
+        at.browser.sees("Drop off Walter Hughes")
+        tell(at, "Dropped off", "Yes: dropped off")
+        at.browser.sees("The desk did not take “dropped off”.", "On record: no-show.", "If “dropped off” is right, call dispatch now.")
+        denied = at.browser.script("return document.querySelector('.driver-denied')")
+        same("the call", "tel:5550100", at.browser.find("link", "Call dispatch, 555-0100", within=denied).get_attribute("href"))
+        moves_to(at, "10:52", BAD_DAY)
+        until("dispatch does not hear of it", lambda: len(events(at, "disagreements")) > before)
+    told = events(at, "disagreements")[before:]
+    same("disagreements", [(str(trip), "missed-rider", "ridden")], [(it["trip"], it["record"], it["told"]) for it in told])
+
+
+@check
+def no_tap_is_dropped_while_another_is_under_way(at):
+    begin_bad(at, "11:35", 3)
+    at.browser.find("button", "Arrived")
+    at.browser.script("for (const name of ['Arrived', 'Aboard']) [...document.querySelectorAll('.driver-choices button')].find((it) => it.innerText === name).click()")
+    is_next(at, "Drop off Rosa Álvarez")
+    same("the taps", ["arrived", "aboard"], [it["tap"]["what"] for it in kept(at)[0] if it["tap"]["what"] != "left"])
+
+
+@check
+def notes_and_lateness_are_there_and_the_log_has_the_moment_of_the_tap(at):
+    before = len(events(at, "notes"))
+    trip = begin_bad(at, "12:30", 4)
+    with at.browser.clock(hurry=20):
+        at.browser.reload()
+        at.browser.sees("Planned")
+        planned = re.search(r"Planned (\d+):(\d+) PM", card(at))
+        minute = (int(planned[1]) % 12 + 12) * 60 + int(planned[2]) + 11
+        moves_to(at, f"{minute // 60:02}:{minute % 60:02}", BAD_DAY)
+        at.browser.sees("11 min late")
+        at.browser.press("Arrived")
+        at.browser.press("Aboard")
+        at.browser.sees("now about", "11 min late")
+        press_stop(at, "Pick up Dorothy")
+        with at.browser.no_line(at.town):
+            at.browser.press("Add a note")
+            at.browser.fill("What dispatch has to know", "left at the side door, señora dijo «sí»")
+            at.browser.press("Save note")
+            at.browser.sees("left at the side door, señora dijo «sí»")
+        moves_to(at, f"{minute // 60 + 2:02}:{minute % 60:02}", BAD_DAY)
+        until("the note is not told", lambda: len(events(at, "notes")) > before)
+    told = events(at, "notes")[-1]
+    same("the note", (str(trip), "1", "left at the side door, señora dijo «sí»"), tuple(told[it] for it in ("trip", "vehicle", "text")))
+    holds(f"it has its own moment: {told['at']}", told["at"].startswith(f"{BAD_DAY}T{minute // 60:02}:{minute % 60:02}"))
+
+
+@check
+def a_drivers_files_hold_the_riders_and_places_of_the_own_stops_alone(at):
+    at.town.set_clock(BAD_DAY, "12:00")
+    key = {"Desk-Key": at.keys["driver 1"]}
+    _, _, roster = at.town.answer("/drivers/1/roster.csv", key)
+    _, _, places = at.town.answer("/drivers/1/places.json", key)
+    riders = [line.split(",")[0] for line in roster.splitlines()[1:]]
+    same("riders of the own stops", ["1001", "1002", "1005", "1006", "1007"], sorted(riders))
+    numbers = {it["id"] for it in json.loads(places)["places"]}
+    holds(f"places of the own stops: {numbers}", {5, 11, 12} <= numbers and not numbers & {10, 13, 14})
+    same("all riders", 404, at.town.answer("/drivers/roster.csv", key)[0])
+
+
+@check
+def a_van_is_typed_by_its_name_or_its_number(at):
+    at.town.write_files(vehicles=[{"id": 1, "name": "Van 30"}, {"id": 30, "name": "Van 130"}])
+    try:
+        for typed in ["Van 30", "1"]:
+            at.browser.fresh()
+            at.browser.sign_in(at.keys["driver 1"], "driver")
+            at.browser.fill(VAN_FIELD, typed)
+            at.browser.keys(Keys.ENTER)
+            at.browser.sees("All stops", "Van 30")
+        at.browser.fresh()
+        at.browser.sign_in(at.keys["driver 1"], "driver")
+        at.browser.fill(VAN_FIELD, "30")
+        at.browser.press("Show the manifest")
+        at.browser.sees("Several vans fit. Choose one of the list.")
+        at.browser.fill(VAN_FIELD, "130")
+        at.browser.press("Show the manifest")
+        at.browser.sees("Your key is not for Van 130.")
+    finally:
+        at.town.write_files()
 
 
 @check

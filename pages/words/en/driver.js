@@ -10,6 +10,7 @@ const hours = (minutes) => (minutes % 60 ? many(minutes, "minute", "minutes") : 
 export const words = {
     "driver.manifest": "Manifest",
     "driver.vehicle": "Van, by name or number",
+    "driver.change-van": "Change van",
     "driver.show": "Show the manifest",
     "driver.day": "Day",
     "driver.yesterday": "Yesterday",

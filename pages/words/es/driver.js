@@ -10,6 +10,7 @@ const hours = (minutes) => (minutes % 60 ? many(minutes, "minuto", "minutos") : 
 export const words = {
     "driver.manifest": "Hoja de ruta",
     "driver.vehicle": "Vehículo, por nombre o número",
+    "driver.change-van": "Cambiar de vehículo",
     "driver.show": "Mostrar la hoja de ruta",
     "driver.day": "Día",
     "driver.yesterday": "Ayer",
