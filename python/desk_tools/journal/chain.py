@@ -116,7 +116,7 @@ def safe(line: bytes) -> bytes:
         found = json.loads(line)
     except (ValueError, RecursionError):
         found = None
-    if isinstance(found, dict) and "note" not in found and b"\r" not in line:
+    if isinstance(found, dict) and "note" not in found and not {*b"\r\n"} & {*line}:
         return line
     return json.dumps({"unreadable": base64.b64encode(line).decode()}).encode()
 
