@@ -26,8 +26,7 @@ const digestOf = (key) => crypto.createHash('sha256').update(key).digest('hex');
 function without(key, text) {
     let told = text.replace(KEY_SHAPE, '(key)');
     // (a shorter key than that is a word of many texts)
-    if (key && key.length > 7) told = told.split(key.toString('latin1')).join('(key)').split(key.toString()).join('(key)');
-    return told;
+    return key && key.length > 7 ? told.split(key.toString()).join('(key)') : told;
 }
 
 // A caller's record as the desk reads it. A digest that is none could be a key, and is left out.
@@ -55,8 +54,8 @@ function addBody(line, r, key) {
     }
     const text = kept.toString();
     if (Buffer.from(text).equals(kept)) line.body = without(key, text);
-    else line.body64 = kept.toString('base64');
-    if (line.body !== undefined && line.body !== text) line.hidden = true;
+    else if (!key || key.length < 8 || sent.indexOf(key) < 0) line.body64 = kept.toString('base64');
+    if (line.body64 === undefined && line.body !== text) line.hidden = true;
     if (kept.length < sent.length) line.bytes = sent.length;
 }
 
@@ -75,7 +74,17 @@ function ascii(text) {
     });
 }
 
+// What stays of a line that could not be made: that there was a request, and why.
 function line(r) {
+    try {
+        return ascii(JSON.stringify(lineOf(r)));
+    } catch (error) {
+        const v = r.variables;
+        return ascii(JSON.stringify({ at: new Date(Number(v.msec) * 1000).toISOString(), from: v.remote_addr, error: String(error).slice(0, 200) }));
+    }
+}
+
+function lineOf(r) {
     const v = r.variables, key = keyOf(r), number = v.http_desk_number;
     const told = { at: new Date(Number(v.msec) * 1000).toISOString(), door: v.desk_door || 'site', from: v.desk_from || v.remote_addr,
         who: key ? digestOf(key).slice(0, DIGITS) : '-' };
@@ -90,7 +99,7 @@ function line(r) {
         addBody(told, r, key);
         if (v.desk_reply) told.reply = v.desk_reply;
     }
-    return ascii(JSON.stringify(told));
+    return told;
 }
 
 // Keeps what the desk answers to a write, and passes it on.

@@ -21,17 +21,22 @@ NO_NGINX = Path("/nonexistent")
 def line(number: int, at: str = "2026-11-29T12:00:00.000Z", **more: object) -> bytes:
     """A line as the site writes it."""
     told = {"at": at, "door": "site", "from": "127.0.0.1", "who": "2cf24dba5fb0", "method": "GET"}
-    return json.dumps({**told, "path": f"/riders/{number}/trips", "status": 200, "took": 0.001, **more}).encode()
+    return json.dumps(
+        {**told, "path": f"/riders/{number}/trips", "status": 200, "took": 0.001, **more}
+    ).encode()
 
 
 class Office:
     """A record in a folder, whose day is what the test says."""
 
-    def __init__(self, folder: Path, monkeypatch: pytest.MonkeyPatch, site: str = "desk.example.org") -> None:
+    def __init__(
+        self, folder: Path, monkeypatch: pytest.MonkeyPatch, site: str = "desk.example.org"
+    ) -> None:
         self.places = Places(folder, site, timezone.utc)
         self.patch, self.day = monkeypatch, TODAY.isoformat()
         folder.mkdir(exist_ok=True)
         monkeypatch.setattr(Places, "today", lambda _: self.day)
+        monkeypatch.setattr(taking, "is_open", lambda _: False)
 
     def write(self, *found: bytes) -> None:
         """What nginx writes."""
@@ -94,7 +99,14 @@ def test_midnight_does_not_break_the_chain(office: Office) -> None:
 
 
 def test_a_clock_that_went_back_or_ahead_neither_stops_nor_breaks(office: Office) -> None:
-    for day in (day_after(0), "2032-01-01", day_after(0), day_after(-1), day_after(0), day_after(1)):
+    for day in (
+        day_after(0),
+        "2032-01-01",
+        day_after(0),
+        day_after(-1),
+        day_after(0),
+        day_after(1),
+    ):
         office.take(line(1), day=day)
     assert len(chain.files_in(office.places.record)) == 6
     assert office.verify()[0] == verifying.HOLDS, office.verify()
@@ -107,7 +119,9 @@ def test_what_nginx_wrote_after_the_last_taking_is_read_too(office: Office) -> N
 
 
 @pytest.mark.parametrize("stop", range(6))
-def test_a_taking_that_is_ended_anywhere_loses_nothing_and_doubles_nothing(office: Office, stop: int) -> None:
+def test_a_taking_that_is_ended_anywhere_loses_nothing_and_doubles_nothing(
+    office: Office, stop: int
+) -> None:
     """The part is there; `stop` lines of it were added when the machine fell."""
     office.take(line(0))
     part = office.places.folder / "part-000002"
@@ -129,7 +143,11 @@ def test_a_torn_last_line_is_named_then_kept_in_a_note(office: Office) -> None:
     assert status == verifying.BROKEN and "it has no end" in said
     office.take(line(3))
     assert office.verify()[0] == verifying.HOLDS
-    torn = [it.fields for it in chain.entries_of(chain.files_in(office.places.record)[-1]) if it.note == "torn"]
+    torn = [
+        it.fields
+        for it in chain.entries_of(chain.files_in(office.places.record)[-1])
+        if it.note == "torn"
+    ]
     assert base64.b64decode(torn[0]["base64"]) == b'{"n":5,"chain":"00'
     assert office.requests() == [f"/riders/{it}/trips" for it in (1, 2, 3)]
 
@@ -138,7 +156,9 @@ def test_half_a_line_at_the_end_of_what_nginx_wrote_is_there(office: Office) -> 
     with office.places.requests.open("wb") as file:
         file.write(line(1) + b"\n" + line(2)[:40])
     assert office.take() == 2
-    assert office.verify()[0] == verifying.HOLDS and "1 lines could not be read" in office.verify()[1]
+    assert (
+        office.verify()[0] == verifying.HOLDS and "1 lines could not be read" in office.verify()[1]
+    )
 
 
 def changed(path: Path, old: bytes, new: bytes) -> None:
@@ -196,7 +216,11 @@ def test_a_copy_elsewhere_shows_what_was_rewritten_whole(office: Office, tmp_pat
     elsewhere = tmp_path / "elsewhere"
     elsewhere.mkdir()
     three_days(office)
-    signing.sent(office.places.record, str(elsewhere), signing.head_of(chain.files_in(office.places.record)[-1]))
+    signing.sent(
+        office.places.record,
+        str(elsewhere),
+        signing.head_of(chain.files_in(office.places.record)[-1]),
+    )
     for path in [*office.places.record.iterdir(), *(office.places.folder / "heads").iterdir()]:
         path.unlink()
     for count in (-2, -1, 0):
@@ -216,7 +240,10 @@ def test_two_sites_are_told_apart(tmp_path: Path, monkeypatch: pytest.MonkeyPatc
     for path in (other.file(1), other.file(2)):
         (one.places.record / path.name).write_bytes(path.read_bytes())
     status, said = one.verify()
-    assert status == verifying.BROKEN and "is of other.example.org, and the files before it are of" in said
+    assert (
+        status == verifying.BROKEN
+        and "is of other.example.org, and the files before it are of" in said
+    )
 
 
 def test_nothing_that_is_elsewhere_is_changed(office: Office, tmp_path: Path) -> None:
@@ -227,8 +254,10 @@ def test_nothing_that_is_elsewhere_is_changed(office: Office, tmp_path: Path) ->
     signing.sent(office.places.record, str(elsewhere), head)
     kept = {it.name: it.read_bytes() for it in elsewhere.iterdir()}
     changed(office.file(0), b"/riders/", b"/Riders/")
+    (office.places.folder / "sent").unlink()
     signing.sent(office.places.record, str(elsewhere), head)
     assert kept == {it.name: it.read_bytes() for it in elsewhere.iterdir()}
+    (office.places.folder / "sent").unlink()
     with pytest.raises(Wrong):
         signing.sent(office.places.record, str(tmp_path / "none"), head)
 
@@ -248,7 +277,9 @@ def test_retention_removes_nothing_by_a_wrong_clock(office: Office) -> None:
     three_days(office)
     for wrong in (TODAY + timedelta(days=3000), TODAY - timedelta(days=3)):
         with pytest.raises(Wrong, match="nothing is removed"):
-            retention.keep_journal(office.places, retention.Rule("journal", 365, ""), wrong, is_plan=False)
+            retention.keep_journal(
+                office.places, retention.Rule("journal", 365, ""), wrong, is_plan=False
+            )
     assert office.verify()[0] == verifying.HOLDS
 
 

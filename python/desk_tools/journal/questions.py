@@ -192,9 +192,9 @@ def of_keys(asked: Asked) -> Answer:
                 former = before.setdefault(caller, set())
                 key = Key(caller, digits, event, stood=now.get(caller, ""))
                 # (a key that stood before the record began is known by its uses, or by a row of callers.csv)
-                key.is_back = digits != now.get(caller) and (
-                    digits in former or caller in last and digits in seen
-                )
+                is_others = any(digits in it for other, it in before.items() if other != caller)
+                is_older = caller in last and digits in seen and not is_others
+                key.is_back = digits != now.get(caller) and (digits in former or is_older)
                 if digits != now.get(caller):
                     keys.append(key)
                     last[caller] = key

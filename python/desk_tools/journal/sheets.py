@@ -6,12 +6,12 @@ import io
 from collections.abc import Sequence
 
 # What a spreadsheet takes for a formula at the start of a cell.
-FORMULAS = ("=", "+", "-", "@", "\t", "\r", "\n")
+FORMULAS = ("=", "+", "-", "@", "\t", "\n")
 
 
 def cell(value: object) -> str:
     """A cell that no spreadsheet takes for a formula. An empty cell stays empty, and a number stays one."""
-    text = "" if value is None else str(value)
+    text = "" if value is None else str(value).replace("\r\n", "\n").replace("\r", "\n")
     is_number = text.removeprefix("-").isdecimal()
     return f"'{text}" if text.startswith(FORMULAS) and text != "-" and not is_number else text
 

@@ -93,16 +93,10 @@ def is_signed(head: bytes, signature: Path, public: Path) -> bool:
 
 
 def marked(folder: Path, head: Head) -> Path:
-    """The folder with the one head that says how far the open file goes: made anew each hour."""
+    """The folder with the one head that says how far the open file goes."""
     now = folder.parent / "heads"
     now.mkdir(mode=0o750, exist_ok=True)
     before = list(now.iterdir())
-    if (
-        before
-        and time.time() - before[0].stat().st_mtime < HOUR
-        and before[0].name.startswith(head.file)
-    ):
-        return now
     written(now / f"{head.file}-{head.last}.now", head.text().encode())
     for old in before:
         if old.name != f"{head.file}-{head.last}.now":
@@ -111,26 +105,24 @@ def marked(folder: Path, head: Head) -> Path:
 
 
 def sent(folder: Path, offsite: str, head: Head) -> None:
-    """Adds the closed files, heads and signatures to the copy elsewhere, and how far the open file goes. Nothing that is
-    there is changed: a file of the same name and other bytes is a fault that is said."""
-    now = marked(folder, head)
-    closed = [
-        it for it in sorted(folder.iterdir()) if it.name.endswith((".jsonl.gz", ".head", ".sig"))
-    ]
+    """Adds, once an hour, the closed files, heads and signatures to the copy elsewhere, and how far the open file goes.
+
+    Nothing that is there is changed: a file of the same name and another size is a fault that is said.
+    """
+    now, stamp = marked(folder, head), folder.parent / "sent"
+    if stamp.exists() and time.time() - stamp.stat().st_mtime < HOUR:
+        return
+    ends = (".jsonl.gz", ".head", ".sig")
+    found = [it for it in sorted(folder.iterdir()) if it.name.endswith(ends)] + list(now.iterdir())
     # (a path has a slash before any colon)
     if ":" in offsite.partition("/")[0]:
-        told = ran(
-            "rsync",
-            "--ignore-existing",
-            "--times",
-            *map(str, [*closed, *now.iterdir()]),
-            f"{offsite}/",
-        )
+        told = ran("rsync", "--ignore-existing", "--times", *map(str, found), f"{offsite}/")
         if told.returncode:
             raise Wrong(f"{offsite} took no copy: {told.stderr.decode(errors='replace').strip()}")
-        return
-    for path in [*closed, *now.iterdir()]:
-        copied(path, Path(offsite))
+    else:
+        for path in found:
+            copied(path, Path(offsite))
+    written(stamp, b"")
 
 
 def copied(path: Path, folder: Path) -> None:
