@@ -128,7 +128,9 @@ export function callers() {
     });
     /** @type {any} */
     let number = null;
-    const offerNext = () => { if (!number.control.value) number.write(nextNumber(given()) ?? ""); };
+    /** @type {any} */
+    let person = null;
+    const offerNext = () => number.write(nextNumber(given()) ?? "");
 
     /** @param {Caller} caller */
     async function cancel(caller) {
@@ -152,11 +154,11 @@ export function callers() {
     function makeForm() {
         const roles = /** @type {[string, string][]} */ (ROLES.map((role) => [role, roleName(role)]));
         number = idField("id", t("admin.caller-number"), { hint: t("admin.caller-hint") });
+        person = textField("name", t("admin.person"), { optional: true, hint: t("admin.person-hint"), judge: nameOf, wants: t("admin.name-wants") });
         offerNext();
         return form({ name: t("admin.a-caller"), action: t("admin.make-key"), purpose: "caller", check: faultOf, ask: question,
             begun: () => screen.change({ key: "", copied: false, said: null }),
-            fields: [number, textField("name", t("admin.person"), { optional: true, hint: t("admin.person-hint"), judge: nameOf, wants: t("admin.name-wants") }),
-                choiceField("role", t("admin.role"), roles, { empty: t("admin.choose") }),
+            fields: [number, person, choiceField("role", t("admin.role"), roles, { empty: t("admin.choose") }),
                 numberField("subject", t("admin.subject"), 1, HIGHEST_ID, { optional: true, hint: t("admin.subject-hint"), wants: t("admin.subject-wants") })],
             send: async ({ id, role, subject }) => {
                 const key = desk.newKey(), digest = await desk.digestOf(key), reply = await desk.putCaller({ id, role, subject: subject ?? 0, digest }, key);
@@ -165,6 +167,8 @@ export function callers() {
             done: ({ key, digits }, { id, name, role, subject }) => {
                 const before = given().find((it) => it.id === id), caller = { id, name: name ?? before?.name ?? "", role, subject: subject ?? 0, day: today(), until: "", digits };
                 keepCaller(caller);
+                offerNext();
+                person.write("");
                 screen.change({ key, caller, at: screen.state.at + 1 }, { focus: "new-key" });
             } });
     }

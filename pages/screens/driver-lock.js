@@ -9,7 +9,7 @@ const NAME = "heard", WRITTEN = 15_000;
 export function lockOfPhone() {
     /** @type {import("../parts/lock.js").Heard | null} */
     let heard = null;
-    let ranUntil = performance.now(), written = 0;
+    let ranUntil = performance.now(), written = 0, wasOpen = true;
 
     const left = () => (heard ? leftUntilLock(heard, Date.now(), agency().lock_minutes) : 0);
     const keep = () => {
@@ -28,16 +28,20 @@ export function lockOfPhone() {
         /** The desk has answered. */
         answered() {
             heard = heardNow(Date.now());
+            wasOpen = true;
             ranUntil = performance.now();
             return keep();
         },
         /** Goes on with the clock; milliseconds until the lock. */
         tick() {
-            const now = performance.now(), open = left();
+            const now = performance.now();
             if (!heard) return 0;
             heard = later(heard, Date.now(), now - ranUntil);
             ranUntil = now;
-            if (now - written > WRITTEN) keep();
-            return Math.min(open, left());
+            const until = left(), locksNow = until === 0 && wasOpen;
+            wasOpen = until > 0;
+            // (what has locked stays so over a reload)
+            if (now - written > WRITTEN || locksNow) keep();
+            return until;
         } };
 }

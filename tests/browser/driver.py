@@ -790,8 +790,8 @@ def notes_and_lateness_are_there_and_the_log_has_the_moment_of_the_tap(at):
     with at.browser.clock(hurry=20):
         at.browser.reload()
         at.browser.sees("Planned")
-        planned = re.search(r"Planned (\d+):(\d+) PM", card(at))
-        minute = (int(planned[1]) % 12 + 12) * 60 + int(planned[2]) + 11
+        hour, minutes, half = re.search(r"Planned (\d+):(\d+) ([AP])M", card(at)).groups()
+        minute = (int(hour) % 12 + 12 * (half == "P")) * 60 + int(minutes) + 11
         moves_to(at, f"{minute // 60:02}:{minute % 60:02}", BAD_DAY)
         at.browser.sees("11 min late")
         at.browser.press("Arrived")
