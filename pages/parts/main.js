@@ -262,6 +262,14 @@ async function finish() {
     if (reply) note("finished", reply.denied ? [part("p", {}, t("common.was-denied")), denialOf(reply)] : t("common.was-done"));
 }
 
+/** Asks at once for what the screen takes that will be shown, while the agency's file is on its way. */
+function askAhead() {
+    const screen = wanted().screen ?? screenOf(kept(SCREEN) ?? "");
+    for (const name of screen?.first ?? []) document.head.append(make("link", { rel: "modulepreload", href: name }));
+    if (screen?.first) useStyles(screen.styles[0]);
+}
+
+askAhead();
 whenRefused(showCounts);
 desk.whenOthersWrote(() => note("others", t("common.others-wrote")));
 await Promise.all([loadAgency(), desk.comeBack()]);

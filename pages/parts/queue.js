@@ -153,11 +153,11 @@ export async function putAside(order) {
  * @type {Map<number, { write?: Write, state?: State, denied?: string | null }>} */
 const unwritten = new Map();
 
-/** @type {{ denied?: string } | null} */
+/** @type {{ denied?: string, digest: string | null } | null} */
 let stopped = null;
 
-/** Why nothing is sent any more: the key was taken away. */
-export const whyStopped = () => stopped;
+/** Why nothing is sent any more: the key that is signed in with was taken away. */
+export const whyStopped = () => (stopped && stopped.digest === desk.digest() ? stopped : null);
 
 /** @param {Entry} entry @param {{ write?: Write, state?: State, denied?: string | null }} patch @returns {Promise<Entry>} */
 async function marked(entry, patch) {
@@ -208,7 +208,7 @@ async function sendFirst() {
         if (desk.digest() !== digest) return "end";
         if ("silent" in reply) return "later";
         if (reply.denied === "desk.key") {
-            stopped = reply;
+            stopped = { denied: reply.denied, digest };
             return "end";
         }
         const lost = reply.denied === "desk.over" && write.tries > 1;
@@ -341,6 +341,7 @@ export async function forgetKey(digest) {
     await forgetHere(digest);
     try {
         await dropped(ENTRIES, (entry) => entry.digest === digest && entry.state !== "waiting");
+        tell();
         return await within(ENTRIES, "readonly", (store) => store.index("digest").getAll(digest));
     } catch {
         return [];

@@ -117,6 +117,11 @@ given(), { rowKey: ({ id }) => id }) : part("p", {}, t("admin.none-given")));
 
 export function callers() {
     /** @type {any} */
+    let number = null;
+    /** @type {any} */
+    let person = null;
+    const offerNext = () => number.write(nextNumber(given()) ?? "");
+    /** @type {any} */
     const screen = makeScreen({
         state: { key: "", caller: /** @type {any} */ (null), copied: false, at: 0, said: /** @type {import("../types").Given} */ (null) },
         draw: ({ key, caller, copied, said }, { kept, change }) => [
@@ -126,12 +131,6 @@ export function callers() {
                 part("div", { class: "row" }, given().length > 0 && button(t("admin.save-callers"), () => saveCsv(FILE, rowsOf(given()))), kept("file", chooser)),
                 part("div", { role: "status", id: "callers-said" }, said))],
     });
-    /** @type {any} */
-    let number = null;
-    /** @type {any} */
-    let person = null;
-    const offerNext = () => number.write(nextNumber(given()) ?? "");
-
     /** @param {Caller} caller */
     async function cancel(caller) {
         const told = await cancelKey(caller);

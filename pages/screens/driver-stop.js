@@ -42,7 +42,7 @@ export const timeOf = (moment) => clock(Number(moment.slice(11, 13)) * HOUR + Nu
 function latenessOf(stop, { day, now, isOver, behind }) {
     const minutes = minutesUntil(stop, day, now);
     if (!stop.isNext || isOver || minutes >= HOUR * 2) return null;
-    if (minutes < 0) return part("strong", { class: "driver-late" }, t("driver.late", { minutes: -minutes }));
+    if (minutes < 0 && behind <= -minutes) return part("strong", { class: "driver-late" }, t("driver.late", { minutes: -minutes }));
     if (behind > 0) return part("strong", { class: "driver-late" }, t("driver.about", { time: clock((stop.at + behind) % DAY) }));
     return part("span", { class: "driver-early" }, minutes ? t("driver.in", { minutes }) : t("driver.now"));
 }

@@ -3,9 +3,10 @@
 
 import { agency, vehicleName } from "../parts/agency.js";
 import { clock, dayInWords, momentAt, momentNow, plus, serverNow, today } from "../parts/clock.js";
+import * as desk from "../parts/desk.js";
 import { make, part, say } from "../parts/element.js";
 import { sheetOf } from "../parts/paper.js";
-import { annotate, entries, onChange, prune, sendAll, sendTallies, whyStopped } from "../parts/queue.js";
+import { annotate, entries, isKnownHere, onChange, prune, sendAll, sendTallies, whyStopped } from "../parts/queue.js";
 import { makeScreen } from "../parts/screen.js";
 import { keepSubject, subjectOf, withSubject } from "../parts/subject.js";
 import { t } from "../parts/words.js";
@@ -98,6 +99,8 @@ function readerOf(screen, lock) {
             if (whyStopped()) return forget();
             const kept = await entries().catch(() => []), known = disputed(screen.state).length;
             screen.change({ kept, now: momentNow(), waits: waitingIn(kept).length });
+            // (another window may have found that nobody has this key any more)
+            if (screen.state.read && !await isKnownHere(desk.digest() ?? "")) return reader.refresh();
             return disputed(screen.state).length > known ? reader.refresh() : undefined;
         },
         /** Asks once; what is shown stays until the answer is there.

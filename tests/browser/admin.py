@@ -137,6 +137,7 @@ def who_cancels_the_own_key_is_not_locked_out(at):
     at.browser.sign_in(at.keys["admin"], "admin", "callers")
     make_key(at, 50, "Admin")
     at.browser.press("Yes, make a key for caller 50, Admin")
+    at.browser.sees("The key of caller 50, Admin")
     own = at.browser.script("return document.querySelector('output.key').textContent")
     at.browser.sign_in(own, "admin", "callers")
     at.browser.press("Cancel this key: caller 50, Admin")
