@@ -2,6 +2,7 @@
 
 import { agency, forgetPlaces, loadAgency, loadPlaces, troubles } from "./agency.js";
 import { asked } from "./ask.js";
+import { plus, today } from "./clock.js";
 import * as desk from "./desk.js";
 import { denialOf } from "./denials.js";
 import { button, drawInto, found, make, part, say } from "./element.js";
@@ -270,6 +271,14 @@ function askAhead() {
 }
 
 askAhead();
+/** A phone that a driver has used drops manifests that are two days old, whoever opens these pages on it. */
+async function forgetManifests() {
+    const stores = await globalThis.indexedDB?.databases?.().catch(() => []) ?? [];
+    if (!stores.some(({ name }) => name === "desk")) return;
+    const { forgetDaysBefore } = await import("./manifest-copies.js");
+    await forgetDaysBefore(plus(today(), -1));
+}
+
 whenRefused(showCounts);
 desk.whenOthersWrote(() => note("others", t("common.others-wrote")));
 await Promise.all([loadAgency(), desk.comeBack()]);
@@ -285,3 +294,4 @@ found("skip").addEventListener("click", (event) => {
 setInterval(lookIdle, LOOKED);
 await show();
 if (desk.signedIn()) finish();
+forgetManifests().catch(() => {});

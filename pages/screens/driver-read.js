@@ -4,7 +4,8 @@
 import { placeOf, placeWord } from "../parts/agency.js";
 import { momentNow } from "../parts/clock.js";
 import * as desk from "../parts/desk.js";
-import { copyOf, forgetCopies, keepCopy } from "../parts/queue.js";
+import { copyName } from "../parts/manifest-copies.js";
+import { copyOf, keepCopy } from "../parts/queue.js";
 import { cellsOf, riderOf } from "../parts/roster.js";
 import { manifestsIn, rowsIn } from "../parts/texts.js";
 import { t } from "../parts/words.js";
@@ -19,19 +20,6 @@ import { t } from "../parts/words.js";
 
 /** @type {Names} */
 export const NO_NAMES = { places: {}, riders: {}, fares: {} };
-
-/** @param {number} vehicle @param {string} day */
-const copyName = (vehicle, day) => `manifest ${vehicle} ${day}`;
-
-/** Drops the copies of days that are over, but for those of which something is open.
- * @param {string} today @param {string[]} open vehicles and days, as "1 2025-03-11" */
-export const forgetOldDays = (today, open) => forgetCopies((name) => {
-    const [, vehicle, day] = /^manifest (\d+) (\S+)$/.exec(name) ?? [];
-    return Boolean(day) && day < today && !open.includes(`${vehicle} ${day}`);
-});
-
-/** Drops all copies that have names. */
-export const forgetAllDays = () => forgetCopies((name) => name.startsWith("manifest "));
 
 /** @param {string} text */
 const stopsIn = (text) => /** @type {import("./driver-day.js").Stop[]} */ (manifestsIn(text)[0]?.stops ?? []);

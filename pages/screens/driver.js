@@ -5,6 +5,7 @@ import { agency, vehicleName } from "../parts/agency.js";
 import { clock, dayInWords, momentAt, momentNow, plus, serverNow, today } from "../parts/clock.js";
 import * as desk from "../parts/desk.js";
 import { make, part, say } from "../parts/element.js";
+import { forgetAllDays, forgetDaysBefore } from "../parts/manifest-copies.js";
 import { sheetOf } from "../parts/paper.js";
 import { annotate, entries, isKnownHere, onChange, prune, sendAll, sendTallies, whyStopped } from "../parts/queue.js";
 import { makeScreen } from "../parts/screen.js";
@@ -16,7 +17,7 @@ import { keepFiles } from "./driver-files.js";
 import { forgetAndLeave } from "./driver-gone.js";
 import { footOf, headOf, listOf, noticesOf } from "./driver-list.js";
 import { lockOfPhone } from "./driver-lock.js";
-import { forgetAllDays, forgetOldDays, keepVehicle, keptDay, keptVehicle, NO_NAMES, readDay, whoAt } from "./driver-read.js";
+import { keepVehicle, keptDay, keptVehicle, NO_NAMES, readDay, whoAt } from "./driver-read.js";
 import { behind, heldIn, logOf, namesOf, shownDay, stateOf, waitingIn } from "./driver-state.js";
 import { stopCard, TITLE } from "./driver-stop.js";
 import { disagreementTold } from "./driver-told.js";
@@ -72,7 +73,7 @@ async function compare(state, records) {
  * @param {State} state */
 function forgetOld(state) {
     const sheets = [...new Set(state.kept.map(({ sheet }) => sheet))];
-    return forgetOldDays(today(), sheets.filter((it) => leftOpen(state.kept.filter(({ sheet }) => sheet === it)) > 0));
+    return forgetDaysBefore(today(), sheets.filter((it) => leftOpen(state.kept.filter(({ sheet }) => sheet === it)) > 0));
 }
 
 /** Reads the manifest that is shown, and the log.

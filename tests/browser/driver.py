@@ -720,6 +720,24 @@ def without_a_line_the_phone_locks_in_time_and_a_clock_that_is_set_back_does_not
 
 
 @check
+def manifests_of_days_that_are_over_are_dropped_whoever_opens_the_page(at):
+    begin_bad(at, "08:00", 0)
+    at.browser.press("Tomorrow")
+    at.browser.sees("Friday, March 14, 2025")
+    until("both days are kept", lambda: {"manifest 1 2025-03-13", "manifest 1 2025-03-14"} <= set(kept(at)[1]))
+    at.town.set_clock("2025-03-14", "08:00")
+    at.browser.reload()
+    at.browser.sees("Friday, March 14, 2025")
+    until("the day before is dropped", lambda: "manifest 1 2025-03-13" not in kept(at)[1])
+    at.browser.script("sessionStorage.clear()")
+    at.town.set_clock("2025-03-16", "08:00")
+    at.browser.reload()
+    at.browser.find("button", "Sign in")
+    until("all are dropped", lambda: not [it for it in kept(at)[1] if it.startswith("manifest")])
+    same("names on the phone", [], names_here(at))
+
+
+@check
 def a_no_show_after_a_late_van_is_asked_about_and_can_be_undone_also_after_a_reload(at):
     before = len(events(at, "no-shows"))
     trip = begin_bad(at, "09:00", 1)
