@@ -1,8 +1,12 @@
 // The records that the pages speak of, for the type checker alone.
 
-export type Denied = { denied: string, field?: string, value?: undefined };
+declare const ofReply: unique symbol;
+/** A denial. Only parts/desk.js makes one, of a reply: nothing else has the type. */
+export type Denied = { readonly denied: string, readonly field?: string, readonly value?: undefined, readonly [ofReply]: true };
+/** Whoever asked went away before there was a reply. */
+export type Left = { readonly denied: "left", readonly field?: undefined, readonly value?: undefined };
 export type Accepted<Value> = { value: Value, denied?: undefined, field?: undefined };
-export type Reply<Value> = Accepted<Value> | Denied;
+export type Reply<Value> = Accepted<Value> | Denied | Left;
 
 export type Status = "booked" | "cancelled" | "ridden" | "missed-rider" | "missed-operator";
 export type Wish = { day: string, wish: number, from: number, to: number, by: number | null, attendant: boolean, companions: number };

@@ -38,7 +38,9 @@ import { LAST_MINUTE, NEGOTIATED_MINUTES } from "./limits.js";
  */
 /** @typedef {{ value: Window, denied?: undefined } | { denied: string, value?: undefined }} AnyReply */
 
-/** Each mode, in the order in which it is offered. @type {Mode[]} */
+/** Each mode, in the order in which it is offered.
+ * @type {Mode[]}
+ */
 export const MODES = ["around", "not-before", "by"];
 export const DEFAULT_LEAD = 15;
 
@@ -49,7 +51,9 @@ const FULL = "no vehicle";
 /** Rules that may hold of one minute and not of another. */
 const OF_MINUTE = [FULL, "37.131(e)", "37.123(b)"];
 
-/** A minute of the day. @param {number} minute */
+/** A minute of the day.
+ * @param {number} minute
+ */
 const cut = (minute) => Math.max(0, Math.min(LAST_MINUTE, minute));
 
 /** Minutes of driving between two places, guessed: the desk's table is not told.
@@ -85,10 +89,14 @@ export function isMadeUp({ wish, by }, drive) {
     return beyond >= 0 && beyond < NEGOTIATED_MINUTES + HALF_WINDOW + SLACK + NAMED;
 }
 
-/** The pickup that being there in time comes to. @param {Said} said */
+/** The pickup that being there in time comes to.
+ * @param {Said} said
+ */
 const latestPickup = ({ minute, drive }) => minute - drive - SLACK;
 
-/** The minute that decides which denial is told: that of the pickup which the rider named. @param {Said} said */
+/** The minute that decides which denial is told: that of the pickup which the rider named.
+ * @param {Said} said
+ */
 const namedOf = (said) => cut(said.mode === "by" ? latestPickup(said) : said.minute);
 
 /** @param {Said} said @returns {[number, number | null, boolean][]} wish, by, bound */
@@ -101,7 +109,9 @@ function wishesOf(said) {
     return steps.flatMap((wish) => /** @type {[number, number | null, boolean][]} */ ([[wish, bound, isBound], ...(isBound && !change ? [[wish, by, false]] : [])]));
 }
 
-/** Each plan's requests, made once. @type {WeakMap<Said, Request[]>} */
+/** Each plan's requests, made once.
+ * @type {WeakMap<Said, Request[]>}
+ */
 const made = new WeakMap();
 
 /** All requests that a plan may send, in their order. A wish is cut to the day and never left out.
@@ -207,7 +217,9 @@ export function searched(said) {
     return [cut(Math.min(...requestsOf(said).map(({ wish }) => wish)) - NEGOTIATED_MINUTES), minute];
 }
 
-/** The pickups that one wish may give. @param {number} wish @returns {[number, number]} */
+/** The pickups that one wish may give.
+ * @param {number} wish @returns {[number, number]}
+ */
 export const pickupsOf = (wish) => [cut(wish - NEGOTIATED_MINUTES), cut(wish + NEGOTIATED_MINUTES)];
 
 /** @typedef {"earlier" | "later" | "either"} Side */
@@ -236,5 +248,7 @@ export function underWay({ mode, minute, drive }) {
     return mode === "by" ? [minute - drive - SLACK, minute] : [minute, minute + HALF_WINDOW + drive];
 }
 
-/** The same of a trip that is booked. @param {Window} window @param {number} drive @returns {[number, number]} */
+/** The same of a trip that is booked.
+ * @param {Window} window @param {number} drive @returns {[number, number]}
+ */
 export const underWayOf = ({ window_from: from, window_to: to }, drive) => [from, to + drive];

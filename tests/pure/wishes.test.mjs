@@ -133,6 +133,8 @@ test("a wish is cut to the day and never dropped", () => {
         for (const said of saidAt(minute, 15, false)) {
             const all = requestsOf(said);
             assert.ok(all.length > 0 && all.every(({ wish, by }) => isMinute(wish) && (by === null || isMinute(by))), JSON.stringify([said, all]));
+            const first = { "around": minute + HOUR - 15, "not-before": minute + HOUR, "by": minute - 15 - 20 + HOUR }[said.mode];
+            assert.equal(all[0].wish, Math.max(0, Math.min(LAST, first)), JSON.stringify(said));
         }
     }
 });
