@@ -248,7 +248,7 @@ ROUTE_PAIRS = [("first", "last", rising, "first and last go together, and first 
 FIELDS = {
     "name": text, "telephone": telephone, "address": lines, "zone": zone, "first_weekday": whole(1, 7),
     "place_word": text, "clock": clock, "languages": several(language, 1),
-    "wait_minutes": whole(0, 60), "idle_minutes": whole(0, LAST_MINUTE), "appeal": obj(APPEAL),
+    "wait_minutes": whole(0, 60), "lead": whole(0, 60), "idle_minutes": whole(0, LAST_MINUTE), "appeal": obj(APPEAL),
     "subscription_share": share, "unproved": yes_or_no,
     "places": records(PLACE, ["id"], PLACE_PAIRS),
     "routes": records(ROUTE, ["id", "width", "points"], ROUTE_PAIRS),

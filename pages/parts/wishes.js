@@ -42,7 +42,6 @@ import { LAST_MINUTE, NEGOTIATED_MINUTES } from "./limits.js";
  * @type {Mode[]}
  */
 export const MODES = ["around", "not-before", "by"];
-export const DEFAULT_LEAD = 15;
 
 const FEET_A_MINUTE = 1760, DETOUR = 1.3, UNKNOWN_DRIVE = 15, SLACK = 20, QUARTER = 15, HALF_WINDOW = 15, MOST_TRIES = 10, STEPS = [30, 60], MOST_TIGHTER = 2;
 /** A minute that the plan makes is never one that people name: 3 more than a multiple of 5. */
