@@ -95,7 +95,7 @@ const usualOf = (rider) => {
 /** What matters of a trip, of the way there or back.
  * @param {string} name @param {string} legend @param {import("../parts/wishes.js").Mode} value
  */
-const modeField = (name, legend, value) => radioField(name, legend, MODES.map((mode) => [mode, t(`booking.${mode}`)]), { value, class: "modes" });
+const modeField = (name, legend, value) => radioField(name, legend, MODES.map((mode) => [mode, t(`booking.mode-${mode}`)]), { value, class: "modes" });
 
 /** A field that counts only while isShown() says so; else it is hidden, and null.
  * @param {Field} field @param {() => boolean} isShown @returns {Field & { look: () => void }}
@@ -141,7 +141,8 @@ export function wishFields({ rider, again }) {
         wish.look();
     } };
     const companion = tickField("companion", t("booking.with-companion")), attendant = tickField("attendant", t("booking.with-attendant"));
-    return { fields: [from, to, days, wish, by, chosen, ...(again ? [] : backFields()), companion, attendant], days, map: mapFor(from, to) };
+    const [back, backMode] = backFields(), ofBack = again ? [] : [backMode];
+    return { fields: [from, to, days, wish, ...(again ? [] : [back]), by, chosen, ...ofBack, companion, attendant], days, map: mapFor(from, to) };
 }
 
 /** What is wrong of the values together.
