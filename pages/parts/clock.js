@@ -99,9 +99,9 @@ const speech = () => (language() === "es" ? "es-US" : "en-US");
 const worded = (day, options) => new Intl.DateTimeFormat(speech(), { ...options, timeZone: "UTC" }).format(new Date(Date.parse(day)));
 
 /** Spanish has no comma behind the day of the week.
- * @param {string} text
+ * @param {string} text @param {string} [it] the language
  */
-const asSpoken = (text) => (language() === "es" ? text.replace(/^([^\s,]+), /, "$1 ") : text);
+export const asSpoken = (text, it = language()) => (it === "es" ? text.replace(/^([^\s,]+), /, "$1 ") : text);
 /** "Monday, March 10, 2025".
  * @param {string} day
  */
