@@ -21,10 +21,10 @@ CHANNEL, MODE = "standing-order", "around"
 class Night:
     """What one run needs."""
 
-    def __init__(self, orders, today, state, clerk, share, at=None):
+    def __init__(self, orders, today, state, clerk, share, closed=(), at=None):
         self.at = at
         self.orders, self.state, self.clerk, self.share, self.today = orders, state, clerk, share, today
-        self.days = table.days_of(today, DAYS_AHEAD)
+        self.days = [it for it in table.days_of(today, DAYS_AHEAD) if it.isoformat() not in closed]
         self.keys = {it.key for it in orders}
         self.standing, self.notes, self.is_new = collections.Counter(), [], False
 

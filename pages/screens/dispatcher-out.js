@@ -4,7 +4,7 @@ import { placeName, vehicleName } from "../parts/agency.js";
 import { asked } from "../parts/ask.js";
 import { clock, dayInWords, dayShort, plus, today } from "../parts/clock.js";
 import * as desk from "../parts/desk.js";
-import { denialOf, inWords } from "../parts/denials.js";
+import { inWords, keptDenialOf } from "../parts/denials.js";
 import { button, part, table } from "../parts/element.js";
 import { dayField, form, idField } from "../parts/fields.js";
 import { printCalls, printManifests } from "../parts/paper-day.js";
@@ -241,7 +241,7 @@ export function outOfService() {
             const { found, reading, plan } = state;
             return [part("section", { class: "card" }, part("h2", {}, t("dispatcher.out-heading")), part("p", { class: "hint" }, t("dispatcher.out-hint")), ask),
                 reportCard(state, acts), part("div", { id: "out-found", class: "stack", tabindex: -1 }, reading && part("p", {}, t("dispatcher.reading")),
-                    found && (found.denied !== undefined ? denialOf(found, "manifest") : [todayCard(found), !plan && laterCard(found, (mode) => acts.begin(found, mode))]))];
+                    found && (found.denied !== undefined ? keptDenialOf(found.denied, "manifest") : [todayCard(found), !plan && laterCard(found, (mode) => acts.begin(found, mode))]))];
         } });
     work.tell = () => screen.change({ plan: work.plan, running: work.running, unkept: work.unkept });
     takeWork();

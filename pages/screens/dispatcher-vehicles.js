@@ -24,8 +24,9 @@ const nameWords = (id) => (named().some((it) => it.id === id && it.name) ? null 
 export function vehicles() {
     const whole = form({ name: t("dispatcher.vehicle-form"), action: t("dispatcher.put-vehicle"), purpose: "vehicle", fields: fieldsOf(), class: "vehicle",
         begun: () => screen.change({ done: null, booked: null }),
+        check: ({ opens, closes }) => (opens > closes ? { field: "opens", fault: t("dispatcher.opens-wants") } : null),
         send: async (values) => {
-            const reply = await (values.opens > values.closes ? Promise.resolve({ denied: "http.field", field: "opens" }) : desk.putVehicle(values));
+            const reply = await desk.putVehicle(values);
             if (reply.denied === "desk.booked") screen.change({ booked: values.id });
             return reply;
         },
