@@ -2,7 +2,7 @@
 
 import assert from "node:assert/strict";
 import { test } from "node:test";
-import { waysOf } from "../../pages/parts/fields.js";
+import { waysOf } from "../../pages/parts/halves.js";
 
 const HALF_DAY = 720;
 const halvesOf = (hour) => [hour % 12 * 60, hour % 12 * 60 + HALF_DAY];

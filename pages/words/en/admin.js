@@ -43,6 +43,8 @@ export const words = {
     "admin.a-caller": "A caller",
     "admin.make-key": "Make a key",
     "admin.caller-number": "Caller number",
+    "admin.caller-name-hint": "Whose key it is, for the record of who did what. Riders have theirs in the roster.",
+    "admin.caller-name-wants": "Write 100 characters at most.",
     "admin.caller-hint": "Caller 1 is the first admin. A number that is there already gets a new role and key.",
     "admin.role": "Role",
     "admin.choose": "Choose…",

@@ -43,6 +43,8 @@ export const words = {
     "admin.a-caller": "Un usuario",
     "admin.make-key": "Hacer una clave",
     "admin.caller-number": "Número de usuario",
+    "admin.caller-name-hint": "De quién es la clave, para el registro de quién hizo qué. Los nombres de los pasajeros están en la lista.",
+    "admin.caller-name-wants": "Escriba 100 caracteres como máximo.",
     "admin.caller-hint": "El usuario 1 es el primer administrador. Un número que ya existe recibe papel y clave nuevos.",
     "admin.role": "Papel",
     "admin.choose": "Elija…",
