@@ -619,3 +619,20 @@ def the_way_there_stands_where_the_way_back_is_denied(at):
     trip = last_trip(at, 1005)
     holds(f"what stands: {told}", f"The way there stands: trip {trip['trip']}, Fri, Mar 14" in told and "There is no way back yet." in told)
     holds(f"the reason is that of the way back: {told}", "Not booked: Fri, Mar 14, around 11:15 PM, from Senior Center to Public Library" in told)
+
+
+@check
+def a_closed_day_is_said_at_the_field_before_anything_is_sent(at):
+    right = at.town.answer("/agency.json")[2]
+    closed = {**json.loads(right), "closed": [{"day": FRIDAY, "name": "Founders Day"}]}
+    at.town.write_file("agency.json", json.dumps(closed).encode())
+    try:
+        before = len(at.town.trips_of(1005))
+        begin(at, "1005")
+        wish(at, start="library", goal="senior", day=FRIDAY, wish="3 pm")
+        at.browser.sees("There is no service on Fri, Mar 14 (Founders Day). Choose another day.")
+        at.browser.press(BOOK)
+        at.browser.sees("There is no service on Fri, Mar 14 (Founders Day). Choose another day.")
+        same("trips", before, len(at.town.trips_of(1005)))
+    finally:
+        at.town.write_file("agency.json", right if isinstance(right, bytes) else right.encode())
