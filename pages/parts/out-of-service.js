@@ -10,8 +10,11 @@ import { LAST_MINUTE, MOST_DURATION, NEGOTIATED_MINUTES } from "./limits.js";
 /** @typedef {"booked" | "cancelling" | "cancelled" | "booking" | "again" | "nowhere" | "gone" | "changed" | "ended" | "kept" | "elsewhere"} Step
  *   gone: somebody else cancelled it; changed: it is another trip now, and passed over; ended: it has an outcome; kept: the desk did not cancel it;
  *   elsewhere: somebody else booked it anew */
-/** @typedef {{ rider: number, old: Trip, drop: number | null, highest: number, step: Step, ticket: Ticket | null, other: Trip | null,
- *   denied: string | null }} Item drop is the minute of the planned drop; highest the rider's last trip before the plan; other is what somebody else booked or changed */
+/** @typedef {{ wish: number, by: number | null }} Said what a rider asked for */
+/** @typedef {{ rider: number, old: Trip, said?: Said, drop: number | null, highest: number, step: Step, ticket: Ticket | null, other: Trip | null,
+ *   denied: string | null, isChanged?: boolean }} Item said is what the
+ *   rider first asked for, where the trip was booked by such a plan; drop is the minute of the planned drop; highest the rider's last trip before the plan; other is what somebody else
+ *   booked or changed; isChanged says that it came anew into the list since it was changed */
 /** @typedef {{ days: number[], depot: number, capacity: number, chairs: number, opens: number, closes: number, duration: number }} Settings of a vehicle */
 /** @typedef {{ vehicle: number, from: string, back: string | null, mode: "cancel" | "move", depot: number, settings: Settings | null, isOut: boolean, isBack: boolean,
  *   backDenied: string | null, stopped: string | null, done: boolean, counted: number[], items: Item[] }} Plan back is the first day on duty again */
@@ -26,6 +29,7 @@ import { LAST_MINUTE, MOST_DURATION, NEGOTIATED_MINUTES } from "./limits.js";
  * @property {(plan: Plan) => Promise<Item[]>} itemsNow what is booked in the vehicle now
  * @property {(plan: Plan) => Promise<void>} keep
  * @property {(denial: { day: string, minute: number, rule: string }) => void} count
+ * @property {(trip: number, said: Said) => void} keepSaid keeps what the rider of a new trip first asked for
  * @property {() => boolean} isMine whether the key that began it is still signed in with
  */
 
@@ -63,14 +67,19 @@ export function standingOf({ old }, trips) {
 export const anewOf = ({ old, highest }, trips, taken) => trips.find((it) => it.trip > highest && it.status === "booked" && it.day === old.day && !taken.has(it.trip)
     && ((it.from === old.from && it.to === old.to) || (it.window_from <= old.window_to && it.window_to >= old.window_from))) ?? null;
 
+/** What a rider asked for: a trip that was pinned to its old window has the page's words, not the rider's.
+ * @param {Pick<Item, "old" | "said">} item @returns {Said}
+ */
+export const saidOf = ({ old, said }) => said ?? { wish: old.wish, by: old.by };
+
 /** The wishes by which a trip is asked for again. The desk looks within an hour of a wish: with a wish an hour after the old window began, and a
  * drop that is due near the old one, it finds the old window where it can. The last one is what the rider first said.
- * @param {Item} item @returns {{ wish: number, by: number | null }[]}
+ * @param {Item} item @returns {Said[]}
  */
-export function triesOf({ old, drop }) {
-    const first = { wish: old.wish, by: old.by };
+export function triesOf(item) {
+    const { old, drop } = item, first = saidOf(item);
     if (drop === null) return [first];
-    const wish = Math.min(old.window_from + NEGOTIATED_MINUTES, LAST_MINUTE), latest = old.by ?? LAST_MINUTE;
+    const wish = Math.min(old.window_from + NEGOTIATED_MINUTES, LAST_MINUTE), latest = first.by ?? LAST_MINUTE;
     const pinned = [...new Set(LATER.map((minutes) => Math.min(drop + minutes, latest)))].map((by) => ({ wish, by }));
     return [...pinned.filter((it) => it.wish !== first.wish || it.by !== first.by), first];
 }
@@ -83,7 +92,7 @@ export const movedBy = ({ old, ticket }) => (ticket ? ticket.window_from - old.w
 /** Whether a new window begins more than an hour from what the rider asked for.
  * @param {Item} item
  */
-export const isFar = ({ old, ticket }) => ticket !== null && Math.abs(ticket.window_from - old.wish) > NEGOTIATED_MINUTES;
+export const isFar = (item) => item.ticket !== null && Math.abs(item.ticket.window_from - saidOf(item).wish) > NEGOTIATED_MINUTES;
 
 /** How many items of a plan are where.
  * @param {Plan} plan
@@ -104,7 +113,7 @@ const takenIn = ({ items }) => new Set(items.flatMap(({ ticket, other }) => [tic
  */
 export function withNewcomers(plan, fresh) {
     const open = new Set(["booked", "cancelling", "kept"]), known = new Map(plan.items.map((item) => [item.old.trip, item]));
-    const come = fresh.filter(({ old }) => !open.has(known.get(old.trip)?.step ?? "")), numbers = new Set(come.map(({ old }) => old.trip));
+    const come = fresh.filter(({ old }) => !open.has(known.get(old.trip)?.step ?? "")).map((it) => ({ ...it, isChanged: known.has(it.old.trip) })), numbers = new Set(come.map(({ old }) => old.trip));
     return { ...plan, items: [...plan.items.filter(({ old }) => !numbers.has(old.trip)), ...come].sort((a, b) => byPickup(a.old, b.old)) };
 }
 
@@ -176,6 +185,7 @@ const bookOne = (ports) => async (plan, item) => {
     await ports.keep(under);
     for (let at = 0; ; at += 1) {
         const { value, denied } = await ports.book({ rider, day: old.day, from: old.from, to: old.to, attendant: old.attendant, companions: old.companions, ...tries[at] });
+        if (denied === undefined) ports.keepSaid(value.trip, saidOf(item));
         if (denied === undefined) return kept(withItem(under, item, { step: "again", ticket: value, denied: null }), ports.keep);
         if (STOPS.includes(denied)) return { plan: under, stop: denied };
         if (at === last) return kept(counted(withItem(under, item, { step: "nowhere", denied }), item, denied, ports), ports.keep);
@@ -187,9 +197,10 @@ const bookOne = (ports) => async (plan, item) => {
 /** A denial counts once for each rider of a plan.
  * @param {Plan} plan @param {Item} item @param {string} rule @param {Ports} ports @returns {Plan}
  */
-function counted(plan, { rider, old }, rule, ports) {
+function counted(plan, item, rule, ports) {
+    const { rider, old } = item;
     if (plan.counted.includes(rider)) return plan;
-    ports.count({ day: old.day, minute: old.wish, rule });
+    ports.count({ day: old.day, minute: saidOf(item).wish, rule });
     return { ...plan, counted: [...plan.counted, rider] };
 }
 

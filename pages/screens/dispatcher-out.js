@@ -7,7 +7,7 @@ import * as desk from "../parts/desk.js";
 import { denialOf, inWords } from "../parts/denials.js";
 import { button, part } from "../parts/element.js";
 import { dayField, form, valuesOf } from "../parts/fields.js";
-import { byPickup, countsOf, isFar, keyOf, movedBy, toTryAgain } from "../parts/out-of-service.js";
+import { byPickup, countsOf, isFar, keyOf, movedBy, saidOf, toTryAgain } from "../parts/out-of-service.js";
 import { printManifests } from "../parts/paper-day.js";
 import { makeScreen } from "../parts/screen.js";
 import { keepSubject, subjectOf } from "../parts/subject.js";
@@ -68,7 +68,7 @@ function todayCard({ vehicle, todays, drops }) {
 // Later days: what will be tried.
 
 /** @param {Item} item */
-const wishWords = ({ old }) => [clock(old.wish), old.by !== null && t("dispatcher.by", { by: clock(old.by) })].filter(Boolean).join(", ");
+const wishWords = (item) => [clock(saidOf(item).wish), saidOf(item).by !== null && t("dispatcher.by", { by: clock(Number(saidOf(item).by)) })].filter(Boolean).join(", ");
 
 /** What the vehicle has when it comes back: as it was put from here, or to be typed once.
  * @param {Shown} found
@@ -110,7 +110,7 @@ function againWords(item) {
     if (day && day !== old.day) return t("dispatcher.changed-since", { other: tripWords(/** @type {any} */ (ticket)) });
     const said = later === 0 ? t("dispatcher.same-window", { vehicle: where, window: windowOf(ticket) })
         : t(later > 0 ? "dispatcher.later" : "dispatcher.earlier", { minutes: Math.abs(later), window: windowOf(ticket), before: windowOf(old), vehicle: where });
-    return [said, isFar(item) && t("dispatcher.too-far", { wish: clock(old.wish) }), ticket.due !== old.due
+    return [said, isFar(item) && t("dispatcher.too-far", { wish: clock(saidOf(item).wish) }), ticket.due !== old.due
         && t("dispatcher.other-due", { due: dollars(ticket.due), before: dollars(old.due) })].filter(Boolean).join(" ");
 }
 
@@ -123,7 +123,7 @@ function resultWords(item, { mode }) {
     if (step === "nowhere") return t("dispatcher.nowhere", { says: inWords(denied ?? "", "trip").says });
     if (step === "kept") return t("dispatcher.kept", { says: inWords(denied ?? "", "cancel").says });
     if (step === "cancelled" && mode === "move") return t("dispatcher.step-waits");
-    const said = t(`dispatcher.step-${step}`);
+    const said = t(step === "booked" && item.isChanged ? "dispatcher.step-booked-changed" : `dispatcher.step-${step}`);
     if (step === "gone") return `${said} ${other ? tripWords(other) : t("dispatcher.no-other")}`;
     return other ? `${said} ${tripWords(other)}` : said;
 }
@@ -215,11 +215,11 @@ const goOn = (plan, made = (it) => it) => alone(plan, async () => {
 });
 
 /** What was found becomes a plan, once the desk was read again and the call list is on disk.
- * @param {Shown} found @param {Mode} mode
+ * @param {Shown} found @param {Mode} mode @param {() => void} begun
  */
-async function begin(found, mode) {
+async function begin(found, mode, begun) {
     const { vehicle, from, back, items, depot } = found, values = back === null ? null : await valuesOf(found.settings);
-    if (work.running || depot === null || (back !== null && !values) || !await sure(found, mode)) return false;
+    if (work.running || depot === null || (back !== null && !values) || !await sure(found, mode)) return;
     const settings = /** @type {import("../parts/out-of-service.js").Settings | null} */ (values);
     const plan = { vehicle, from, back, mode, depot, settings, items, isOut: false, isBack: false, backDenied: null, stopped: null, done: false, counted: [] };
     await alone(plan, async () => {
@@ -227,9 +227,9 @@ async function begin(found, mode) {
         if (!now) return;
         await keep(now);
         saveCalls(`calls-vehicle-${vehicle}-${from}.csv`, `plan-${keyOf(plan)}`, now.items.map(calledOf), (it) => resultWords(now.items.filter(({ old }) => old.trip === it.trip)[0], now));
+        begun();
         await carryOut(now, keep);
     });
-    return true;
 }
 
 /** @param {{ change: (patch: Partial<State>, options?: any) => void }} screen */
@@ -243,11 +243,7 @@ function actsOf(screen) {
         work.tell();
     };
     return {
-        begin: async (/** @type {Shown} */ found, /** @type {Mode} */ mode) => {
-            if (!await begin(found, mode)) return;
-            screen.change({ found: null });
-            shown();
-        },
+        begin: (/** @type {Shown} */ found, /** @type {Mode} */ mode) => begin(found, mode, () => screen.change({ found: null }, { focus: "out-report" })).then(shown),
         goOn: (/** @type {Plan} */ plan) => goOn(plan).then(shown), retry: (/** @type {Plan} */ plan) => goOn(plan, toTryAgain).then(shown),
         look: (/** @type {Plan} */ plan) => alone(plan, async () => {
             const now = await readAgain(plan);

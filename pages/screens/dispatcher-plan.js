@@ -7,7 +7,7 @@ import { DAYS_AHEAD } from "../parts/limits.js";
 import { byPickup, carryOut as carriedOut, keyOf, readAgain as readPlanAgain } from "../parts/out-of-service.js";
 import { cancelTrip, tellDenial } from "../parts/tally.js";
 import { manifestsIn, rowsIn } from "../parts/texts.js";
-import { keepSettings } from "./dispatcher-settings.js";
+import { firstSaid, keepSaid, keepSettings } from "./dispatcher-settings.js";
 
 /** @typedef {import("../types").Trip} Trip */
 /** @typedef {import("../parts/texts.js").Row} Row */
@@ -115,7 +115,7 @@ async function itemsOf(rows, drops) {
         const all = reply.value.trips, highest = Math.max(...all.map(({ trip }) => trip));
         for (const row of rows.filter((it) => it.rider === rider)) {
             const old = all.find(({ trip }) => trip === row.trip);
-            if (old) items.push({ rider, old, drop: drops.get(old.trip) ?? null, highest, step: "booked", ticket: null, other: null, denied: null });
+            if (old) items.push({ rider, old, said: firstSaid(old.trip), drop: drops.get(old.trip) ?? null, highest, step: "booked", ticket: null, other: null, denied: null });
         }
     }
     return { items: items.sort((a, b) => byPickup(a.old, b.old)) };
@@ -167,7 +167,7 @@ async function putVehicle(fields) {
 function portsOf(vehicle, keep) {
     const whose = desk.digest();
     return { tripsOf: desk.tripsOf, cancel: (trip) => cancelTrip(trip, "agency"), book: desk.book, putVehicle, dutyOn: (days) => dutyOn(vehicle, days), itemsNow, keep,
-        count: tellDenial, isMine: () => desk.digest() === whose };
+        count: tellDenial, keepSaid, isMine: () => desk.digest() === whose };
 }
 
 /** Goes on with a plan to its end, or to where it has to stop.

@@ -38,3 +38,29 @@ export function keepSettings({ id, from_day: from, ...fields }) {
  * @param {number} vehicle @param {string} day @returns {Version | null}
  */
 export const settingsOn = (vehicle, day) => versionsOf(vehicle).filter((it) => it.from_day <= day).sort((a, b) => (a.from_day < b.from_day ? 1 : -1))[0] ?? null;
+
+// What riders first asked for, of trips that were booked again in their old window: the desk has the page's wish of those.
+
+const SAID = "dispatcher.said", MOST_SAID = 2_000;
+
+/** @returns {Record<string, import("../parts/out-of-service.js").Said>} */
+function allSaid() {
+    try {
+        const it = JSON.parse(localStorage.getItem(SAID) ?? "{}");
+        return typeof it === "object" && it !== null && !Array.isArray(it) ? it : {};
+    } catch {
+        return {};
+    }
+}
+
+/** @param {number} trip */
+export const firstSaid = (trip) => allSaid()[trip];
+
+/** @param {number} trip @param {import("../parts/out-of-service.js").Said} said */
+export function keepSaid(trip, said) {
+    try {
+        localStorage.setItem(SAID, JSON.stringify(Object.fromEntries([...Object.entries(allSaid()), [trip, said]].slice(-MOST_SAID))));
+    } catch {
+        // (a browser without room knows the desk's wish alone)
+    }
+}

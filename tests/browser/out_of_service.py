@@ -1,11 +1,11 @@
 """A vehicle out of service: its plan, whom to call, what becomes of each trip, and the vehicles' own records."""
 import csv
+import hashlib
 import io
-import json
 import re
 
 from checks import check, holds, same
-from database import Trouble, until
+from database import until
 from middle import UNHEARD
 from people import key_for
 from scripts import SAVED
@@ -78,6 +78,11 @@ def begin(at, how, count):
     at.browser.press(f"Yes, {how}")
 
 
+def ended(at):
+    """Waits until a plan is at its end, or has to stop."""
+    until("it does not end", lambda: re.search("is out of service from Wed|Not finished", at.browser.text()))
+
+
 def trip_now(at, rider, number):
     return next(it for it in at.town.trips_of(rider) if it["trip"] == number)
 
@@ -124,24 +129,24 @@ def a_trip_that_the_clerk_changed_after_the_list_was_read_is_left_alone(at):
     show_out(at, van, LATER)
     at.browser.sees("What happens next")
     row = before[0]
-    at.town.book(1004, LATER, 900, 2, 6)
     changed = at.town.post("third clerk", f"/trips/{row['trip']}/change", {
         "day": BACK, "wish": 610, "from": int(row["from"]), "to": int(row["to"]), "attendant": False, "companions": 0})
     holds(f"the clerk's change is {changed}", "trip" in changed)
     at.browser.press(f"Take it out of service and book {many(len(before))} again")
     at.browser.press(f"Yes, book {many(len(before))} again")
-    until("it does not end", lambda: re.search("is out of service from Wed|Not finished", at.browser.text()))
+    ended(at)
     now = trip_now(at, int(row["rider"]), int(row["trip"]))
     same("the changed trip", ["booked", BACK, 610], [now["status"], now["day"], now["wish"]])
     same("a trip of the old day", [], booked_of(at, row["rider"]))
-    at.browser.sees("Passed over, because it was changed:")
+    holds("the change is not said", re.search("because it was changed:|Changed meanwhile, and still", at.browser.text()))
     while at.browser.is_there("button", "Go on"):
         at.browser.press("Go on")
-        until("it does not go on", lambda: "is out of service from Wed" in at.browser.text())
+        ended(at)
     # (of the others each has one trip, and as many windows as can be are the old ones)
     for it in before[1:]:
         same(f"trips of rider {it['rider']}", 1, len(booked_of(at, it["rider"])))
     discard(at)
+    at.town.post("third clerk", f"/trips/{max(it['trip'] for it in at.town.trips_of(int(row['rider'])))}/cancel", {})
     holds(f"the van is not on duty again: {van}", "denied" not in put_on_duty(at, van))
 
 
@@ -195,18 +200,19 @@ def another_dispatchers_key_goes_on_where_one_was_replaced(at):
         put_on_duty(at, van)
     van, before = fill_van(at)
     at.keys[SECOND] = key_for(SECOND)
-    digest = at.browser.driver.execute_async_script("""const done = arguments[1];
-        import("/parts/key.js").then((it) => it.digestOf(it.normalKey(arguments[0]))).then(done)""", at.keys[SECOND])
+    digest = hashlib.sha256(at.keys[SECOND].encode()).hexdigest()
     made = at.town.post("admin", "/callers", {"id": 90, "role": "dispatcher", "subject": 0, "digest": digest})
     holds(f"no second dispatcher: {made}", "denied" not in made)
     sign_in(at)
     show_out(at, van, LATER)
+    at.browser.sees("What happens next")
     at.town.middle.writes()
-    with at.town.middle.hold():
-        begin(at, f"cancel {many(len(before))}", len(before))
-        until("nothing is sent", lambda: any(path.endswith("/cancel") for path in at.town.middle.writes()))
-        at.browser.script("sessionStorage.clear()")
-        at.browser.driver.get(f"{at.browser.origin}/icon.svg")
+    at.town.middle.breaks(UNHEARD, times=50)
+    begin(at, f"cancel {many(len(before))}", len(before))
+    until("nothing is sent", lambda: any(path.endswith("/cancel") for path in at.town.middle.writes()))
+    at.browser.script("sessionStorage.clear()")
+    at.browser.driver.get(f"{at.browser.origin}/icon.svg")
+    at.town.middle.planned.clear()
     sign_in(at, holder=SECOND)
     at.browser.sees("Not finished")
     at.browser.press("Go on")
@@ -253,8 +259,6 @@ def the_call_list_is_on_disk_before_the_first_trip_is_cancelled_and_the_van_come
     at.browser.sees("when it is back on Friday, March 14, 2025")
     at.browser.fill_all(NEW_LINES)
     at.town.middle.writes()
-    with at.town.middle.hold():
-        pass
     begin(at, f"book {many(len(before))} again", len(before))
     at.browser.sees("is out of service from", "is back in service on Friday, March 14, 2025.")
     paths = at.town.middle.writes()
@@ -293,8 +297,12 @@ def who_was_called_is_ticked_and_the_tick_stays_with_its_list(at):
 @check
 def a_van_comes_back_with_what_it_had(at):
     van, _ = fill_van(at)
-    sign_in(at)
-    show_out(at, van, LATER, AFTER)
+    sign_in(at, part="vehicles")
+    at.browser.fill_all({"Vehicle": van, "This holds from": AFTER, **NEW_LINES})
+    at.browser.press("Save vehicle")
+    at.browser.sees("is on record from Monday, March 17, 2025.")
+    at.browser.go_part("dispatcher", "out")
+    show_out(at, van, LATER, "2025-03-20")
     at.browser.sees("As it was saved from this browser")
     same("its seats", "4", at.browser.value("Seats"))
     same("its hours", "5:00 AM", at.browser.value("Leaves its depot from"))

@@ -15,7 +15,7 @@ function makeDesk(lists, { fails = () => null, booked = () => undefined } = {}) 
     const riders = new Map(Object.entries(lists).map(([rider, trips]) => [Number(rider), trips.map((it) => ({ ...it }))]));
     const all = () => [...riders.values()].flat();
     let next = Math.max(...all().map((it) => it.trip)) + 1, count = 0;
-    const versions = [], counted = [], keptPlans = [];
+    const versions = [], counted = [], keptPlans = [], first = {};
     const write = (act) => {
         const broken = fails(count += 1);
         if (broken === "before") return { denied: "left" };
@@ -48,9 +48,10 @@ function makeDesk(lists, { fails = () => null, booked = () => undefined } = {}) 
         itemsNow: async () => inVan().map((it) => itemOf(riders, it)),
         keep: async (plan) => { keptPlans.push(structuredClone(plan)); },
         count: (denial) => counted.push(denial),
+        keepSaid: (number, said) => { first[number] = said; },
         isMine: () => true,
     };
-    return { riders, ports, versions, counted, keptPlans, all };
+    return { riders, ports, versions, counted, keptPlans, all, first };
 }
 
 const riderOf = (riders, number) => [...riders].find(([, trips]) => trips.some((it) => it.trip === number))[0];
@@ -245,4 +246,13 @@ test("another key in the window stops it", async () => {
     const desk = makeDesk(THREE);
     const plan = await plans.carryOut(planOf(desk), { ...desk.ports, isMine: () => false });
     assert.deepEqual([plan.stopped, plan.done, bookedOn(desk)], ["left", false, { 1: 1, 2: 1, 3: 1 }]);
+});
+
+test("a trip that was pinned once is asked for by what its rider first said", async () => {
+    const desk = makeDesk({ 1: [trip(10, 1, 600, { wish: 660, by: 650 })] }), plan = planOf(desk);
+    plan.items[0].said = { wish: 595, by: null };
+    assert.deepEqual(plans.triesOf(plan.items[0]).at(-1), { wish: 595, by: null });
+    assert.deepEqual(plans.triesOf(plan.items[0]).map(({ by }) => by), [650, 665, 685, null]);
+    const done = await plans.carryOut(plan, desk.ports);
+    assert.deepEqual(desk.first[done.items[0].ticket.trip], { wish: 595, by: null });
 });

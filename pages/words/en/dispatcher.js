@@ -191,7 +191,7 @@ export const words = {
     "dispatcher.out-later-list": "Trips from that day on",
     "dispatcher.out-tried": "What happens next",
     "dispatcher.out-step-1": ({ count }) => `The call list is saved as a file. Then ${trips(count)} are canceled, because a vehicle with trips can't be changed.`,
-    "dispatcher.out-step-2": ({ vehicle, day }) => `${vehicle} is out of service from ${day}.`,
+    "dispatcher.out-step-2": ({ vehicle, day }) => `${vehicle} goes out of service on ${day}.`,
     "dispatcher.out-step-3": "If you choose so, each trip is booked again, nearest pickup first, in its old pickup window where a vehicle can keep it. Each gets a new number.",
     "dispatcher.out-step-4": "You get a list of what changed for each rider, and of riders who couldn't be placed. Call them.",
     "dispatcher.out-move": ({ count }) => `Take it out of service and book ${trips(count)} again`,
@@ -247,7 +247,7 @@ export const words = {
     "dispatcher.out-over": ({ count }) => `Over by the plan, no outcome yet: ${trips(count)}`,
     "dispatcher.out-over-list": "Over by the plan, no outcome yet",
     "dispatcher.out-begun": "A list for this vehicle and day is above. Finish it, or discard it.",
-    "dispatcher.out-step-return": ({ vehicle, back }) => `${vehicle} is back in service on ${back}, before any trip is booked again.`,
+    "dispatcher.out-step-return": ({ vehicle, back }) => `${vehicle} goes back in service on ${back}, before any trip is booked again.`,
     "dispatcher.out-step-no-return": "Without a day back, all later trips have to find another vehicle.",
     "dispatcher.out-done-gone": ({ gone }) => `${trips(gone)} canceled by somebody else.`,
     "dispatcher.out-done-elsewhere": ({ elsewhere }) => `${trips(elsewhere)} booked anew by somebody else.`,
@@ -270,4 +270,5 @@ export const words = {
     "dispatcher.call-called": "Called",
     "dispatcher.call-not-reached": "Not reached",
     "dispatcher.call-of": ({ rider, trip }) => `Call to ${rider}, trip ${trip}`,
+    "dispatcher.step-booked-changed": "Changed meanwhile, and still booked in this vehicle.",
 };

@@ -191,7 +191,7 @@ export const words = {
     "dispatcher.out-later-list": "Viajes desde ese día",
     "dispatcher.out-tried": "Qué pasará",
     "dispatcher.out-step-1": ({ count }) => `La lista de llamadas se guarda en un archivo. Luego se cancelan ${trips(count)}, porque un vehículo con viajes no se puede cambiar.`,
-    "dispatcher.out-step-2": ({ vehicle, day }) => `${vehicle} queda fuera de servicio desde ${day}.`,
+    "dispatcher.out-step-2": ({ vehicle, day }) => `${vehicle} sale de servicio el ${day}.`,
     "dispatcher.out-step-3": "Si usted lo elige, cada viaje se reserva de nuevo, primero el de recogida más próxima, en su mismo horario si algún vehículo puede. Cada uno recibe un número nuevo.",
     "dispatcher.out-step-4": "Recibe una lista de lo que cambió para cada pasajero y de quiénes quedaron sin lugar. Llámelos.",
     "dispatcher.out-move": ({ count }) => `Sacarlo de servicio y reservar ${trips(count)} de nuevo`,
@@ -247,7 +247,7 @@ export const words = {
     "dispatcher.out-over": ({ count }) => `Terminados según el plan, sin resultado: ${trips(count)}`,
     "dispatcher.out-over-list": "Terminados según el plan, sin resultado",
     "dispatcher.out-begun": "Arriba hay una lista para este vehículo y día. Termínela o descártela.",
-    "dispatcher.out-step-return": ({ vehicle, back }) => `${vehicle} vuelve al servicio el ${back}, antes de reservar ningún viaje de nuevo.`,
+    "dispatcher.out-step-return": ({ vehicle, back }) => `${vehicle} entra de nuevo en servicio el ${back}, antes de reservar ningún viaje de nuevo.`,
     "dispatcher.out-step-no-return": "Sin un día de regreso, todos los viajes posteriores tienen que hallar otro vehículo.",
     "dispatcher.out-done-gone": ({ gone }) => `${trips(gone)} que canceló otra persona.`,
     "dispatcher.out-done-elsewhere": ({ elsewhere }) => `${trips(elsewhere)} que otra persona reservó de nuevo.`,
@@ -270,4 +270,5 @@ export const words = {
     "dispatcher.call-called": "Avisado",
     "dispatcher.call-not-reached": "No contesta",
     "dispatcher.call-of": ({ rider, trip }) => `Llamada a ${rider}, viaje ${trip}`,
+    "dispatcher.step-booked-changed": "Cambiado mientras tanto, y aún reservado en este vehículo.",
 };
