@@ -17,9 +17,9 @@ MOST_TRIES = 5
 class Night:
     """What one run needs."""
 
-    def __init__(self, orders, today, state, clerk, share):
+    def __init__(self, orders, today, state, clerk, share, closed=()):
         self.orders, self.state, self.clerk, self.share, self.today = orders, state, clerk, share, today
-        self.days = table.days_of(today, DAYS_AHEAD)
+        self.days = [it for it in table.days_of(today, DAYS_AHEAD) if it.isoformat() not in closed]
         self.keys = {it.key for it in orders}
         self.standing, self.notes, self.is_new = collections.Counter(), [], False
 

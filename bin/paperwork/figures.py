@@ -38,11 +38,15 @@ FIGURES = [
     Figure("missed_by_operator", "Missed by the operator", lambda it: it["missed by the operator"]),
     Figure("without_outcome", "Over, without an outcome", lambda it: it["booked"]),
     counted("to_come", "To come when the copy was made"),
-    counted("pickups_on_time", "Pickups on time", True),
+    counted("pickups_early", "Pickups before the promised window", True),
+    counted("pickups_on_time", "Pickups in the promised window", True),
     counted("pickups_late", "Pickups late", True),
     counted("pickups_untold", "Pickups whose time no driver tapped", True),
     share("on_time_percent", "On time, in percent", lambda it: 100 * it["pickups_on_time"],
-          lambda it: it["pickups_on_time"] + it["pickups_late"], 1, True),
+          lambda it: it["pickups_early"] + it["pickups_on_time"] + it["pickups_late"], 1, True),
+    counted("appointments_on_time", "Drops by the minute that the rider had named", True),
+    counted("appointments_late", "Drops after the minute that the rider had named", True),
+    counted("appointments_untold", "Drops to a named minute whose time no driver tapped", True),
     share("minutes_aboard_planned", "Minutes aboard a ride, as planned", lambda it: it["planned_minutes"],
           lambda it: it["ridden"], 1),
     share("minutes_aboard_driven", "Minutes aboard a ride, as driven", lambda it: it["driven_seconds"] / 60,
@@ -69,8 +73,9 @@ MEANINGS_OF_LOG = [
     "Rules by which nothing was denied are left out.",
     "A cancellation is late where it came less than {late_minutes} minutes before the promised window. The agency "
     "cancels where a vehicle is out of service.",
-    "A pickup is on time where the vehicle came by the last minute of the promised window. Pickups are those of trips "
-    "that were ridden or that the rider missed.",
+    "A pickup is on time where the vehicle came in the promised window, its first and last minute included; before the "
+    "window it is early. Pickups are those of trips that were ridden or that the rider missed.",
+    "A drop is compared with the minute by which the rider had to be there, of trips that had one and were ridden.",
 ]
 
 

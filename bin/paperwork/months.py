@@ -58,13 +58,21 @@ def count_trips(copy, heard, period, late_minutes, counts):
 def count_times(count, trip, heard):
     """When the vehicle came, and for how long the rider was aboard. The window's last minute is in time."""
     arrived = heard.arrived(trip)
-    is_late = arrived is not None and arrived >= 60 * (trip.window_to + 1)
-    count["pickups_untold" if arrived is None else "pickups_late" if is_late else "pickups_on_time"] += 1
+    count[f"pickups_{when(arrived, trip.window_from, trip.window_to)}"] += 1
+    if trip.latest != copies.NO_NUMBER and trip.status == copies.RIDDEN:
+        count[f"appointments_{when(heard.tapped(trip, 'dropped'), 0, trip.latest)}"] += 1
     seconds = heard.aboard(trip) if trip.status == copies.RIDDEN else None
     if seconds is not None:
         count["rides_timed"] += 1
         count["driven_seconds"] += seconds
         count["rides_over_limit"] += seconds > 60 * trip.ride
+
+
+def when(seconds, first, last):
+    """How a moment of a day, in seconds, lies to a first and a last minute, both of which are in time."""
+    if seconds is None:
+        return "untold"
+    return "early" if seconds < 60 * first else "late" if seconds >= 60 * (last + 1) else "on_time"
 
 
 def count_plans(copy, period, status, counts):

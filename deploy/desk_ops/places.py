@@ -41,6 +41,13 @@ class Desk:
         command = f"systemctl reset-failed {self.unit} 2>/dev/null; systemctl start {self.unit}"
         answer_of(os.environ.get("START") or command)
 
+    def enable(self):
+        """The desk and what looks after it begin at each start of the machine."""
+        backup = f"desk-backup@{self.agency}.timer" if self.agency else "desk-backup.timer"
+        command = (f"systemctl enable {self.unit} && "
+                   f"systemctl enable --now {backup} desk-watch.timer desk-restart.timer")
+        answer_of(os.environ.get("ENABLE") or command)
+
     def is_served(self):
         """Whether the process of the unit has the file open."""
         process = self.process()

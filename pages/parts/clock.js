@@ -119,14 +119,18 @@ function worded(day, options) {
     return format.format(new Date(Date.parse(day)));
 }
 
+/** Spanish has no comma behind the day of the week.
+ * @param {string} text @param {string} [it] the language
+ */
+export const asSpoken = (text, it = language()) => (it === "es" ? text.replace(/^([^\s,]+), /, "$1 ") : text);
 /** "Monday, March 10, 2025".
  * @param {string} day
  */
-export const dayInWords = (day) => worded(day, { dateStyle: "full" });
+export const dayInWords = (day) => asSpoken(worded(day, { dateStyle: "full" }));
 /** "Mon, Mar 10".
  * @param {string} day
  */
-export const dayShort = (day) => worded(day, { weekday: "short", month: "short", day: "numeric" });
+export const dayShort = (day) => asSpoken(worded(day, { weekday: "short", month: "short", day: "numeric" }));
 /** "Monday".
  * @param {string} day
  */

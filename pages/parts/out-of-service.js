@@ -29,7 +29,7 @@ import { LAST_MINUTE, MOST_DURATION, NEGOTIATED_MINUTES } from "./limits.js";
  * @property {(plan: Plan) => Promise<Item[]>} itemsNow what is booked in the vehicle now
  * @property {(plan: Plan) => Promise<void>} keep
  * @property {(denial: { day: string, minute: number, rule: string }) => void} count
- * @property {(trip: number, said: Said) => void} keepSaid keeps what the rider of a new trip first asked for
+ * @property {(item: Item, ticket: Ticket) => void} booked tells of a new trip, whose rider asked for what saidOf says
  * @property {() => boolean} isMine whether the key that began it is still signed in with
  */
 
@@ -185,7 +185,7 @@ const bookOne = (ports) => async (plan, item) => {
     await ports.keep(under);
     for (let at = 0; ; at += 1) {
         const { value, denied } = await ports.book({ rider, day: old.day, from: old.from, to: old.to, attendant: old.attendant, companions: old.companions, ...tries[at] });
-        if (denied === undefined) ports.keepSaid(value.trip, saidOf(item));
+        if (denied === undefined) ports.booked(item, value);
         if (denied === undefined) return kept(withItem(under, item, { step: "again", ticket: value, denied: null }), ports.keep);
         if (STOPS.includes(denied)) return { plan: under, stop: denied };
         if (at === last) return kept(counted(withItem(under, item, { step: "nowhere", denied }), item, denied, ports), ports.keep);

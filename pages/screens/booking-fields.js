@@ -3,10 +3,11 @@
 import { placeName } from "../parts/agency.js";
 import { bookableDays, dayInWords, dayShort } from "../parts/clock.js";
 import { drawInto, fresh, make, part, say } from "../parts/element.js";
-import { choiceField, placeField, tickField, timeField } from "../parts/fields.js";
+import { placeField, radioField, tickField, timeField } from "../parts/fields.js";
 import { NEGOTIATED_MINUTES } from "../parts/limits.js";
 import { map, nearestPlace } from "../parts/map.js";
 import { riderOf } from "../parts/roster.js";
+import { MODES } from "../parts/wishes.js";
 import { t } from "../parts/words.js";
 
 /** @typedef {import("../types").Field} Field */
@@ -91,29 +92,67 @@ const usualOf = (rider) => {
     return known ? [...(known.home === null ? [] : [known.home]), ...known.usual] : [];
 };
 
-/** The fields of a wish. fresh ones are for a new trip: several days, and the way back.
+/** What matters of a trip, of the way there or back.
+ * @param {string} name @param {string} legend @param {import("../parts/wishes.js").Mode} value
+ */
+const modeField = (name, legend, value) => radioField(name, legend, MODES.map((mode) => [mode, t(`booking.mode-${mode}`)]), { value, class: "modes" });
+
+/** A field that counts only while isShown() says so; else it is hidden, and null.
+ * @param {Field} field @param {() => boolean} isShown @returns {Field & { look: () => void }}
+ */
+function whileShown(field, isShown) {
+    const look = () => { field.element.hidden = !isShown(); };
+    look();
+    return { ...field, read: () => (isShown() ? field.read() : { value: null }), look };
+}
+
+/** The way back: its time, and what matters of it, which is asked once there is a time. It begins with not before: the rider is not ready earlier.
+ * @returns {Field[]}
+ */
+function backFields() {
+    const time = timeField("back", t("booking.back"), { optional: true, hint: t("booking.back-hint") });
+    const mode = modeField("backMode", t("booking.back-mode"), "not-before"), label = time.element.querySelector("label");
+    const shown = whileShown(mode, () => time.control.value.trim() !== "");
+    const look = () => {
+        shown.look();
+        if (label) label.textContent = t(mode.read().value === "by" ? "booking.back-by" : "booking.back");
+    };
+    time.control.addEventListener("input", look);
+    mode.element.addEventListener("change", look);
+    const written = (/** @type {Field} */ field) => (/** @type {any} */ value) => {
+        field.write(value);
+        look();
+    };
+    return [{ ...time, write: written(time) }, { ...shown, write: written(mode) }];
+}
+
+/** The fields of a wish: of a new trip with several days and the way back.
  * @param {{ rider: number, again: boolean }} options again where a trip is changed
  */
 export function wishFields({ rider, again }) {
     const usual = () => usualOf(rider);
     const from = placeField("from", t("booking.from"), { rider, usual }), to = placeField("to", t("booking.to"), { rider, usual });
-    const days = daysField({ several: !again });
-    const wish = timeField("wish", t("booking.wish"), { optional: true, hint: t("booking.wish-hint") });
-    const back = timeField("back", t("booking.back"), { optional: true, hint: t("booking.back-hint") });
+    const days = daysField({ several: !again }), mode = modeField("mode", t("booking.mode"), "around");
+    const wish = whileShown(timeField("wish", t("booking.wish"), { optional: true, hint: t("booking.wish-hint") }), () => mode.read().value !== "by");
     const by = timeField("by", t("booking.by"), { optional: true, hint: t("booking.by-hint") });
-    const mode = choiceField("mode", t("booking.mode"), [["near", t("booking.near")], ["not-before", t("booking.not-before")], ["appointment", t("booking.appointment")]]);
+    mode.element.addEventListener("change", wish.look);
+    const chosen = { ...mode, write: (/** @type {any} */ value) => {
+        mode.write(value);
+        wish.look();
+    } };
     const companion = tickField("companion", t("booking.with-companion")), attendant = tickField("attendant", t("booking.with-attendant"));
-    return { fields: [from, to, days, wish, ...(again ? [] : [back]), by, mode, companion, attendant], days, map: mapFor(from, to) };
+    const [back, backMode] = backFields(), ofBack = again ? [] : [backMode];
+    return { fields: [from, to, days, wish, ...(again ? [] : [back]), by, chosen, ...ofBack, companion, attendant], days, map: mapFor(from, to) };
 }
 
 /** What is wrong of the values together.
  * @param {any} values @returns {{ field: string, fault: string } | null}
  */
-export function faultOf({ mode, wish, by, back }) {
-    if (mode === "appointment" && by === null) return { field: "by", fault: t("booking.by-wants") };
-    if (mode !== "appointment" && wish === null) return { field: "wish", fault: t("booking.wish-wants") };
-    const earliest = mode === "near" ? wish - NEGOTIATED_MINUTES : wish;
-    if (mode !== "appointment" && by !== null && by <= earliest) return { field: "by", fault: t("booking.by-early") };
-    if (back !== null && back !== undefined && back <= (mode === "appointment" ? by : wish)) return { field: "back", fault: t("booking.back-early") };
+export function faultOf({ mode, wish, by, back, backMode }) {
+    const there = mode === "by" ? by : by ?? wish;
+    if (mode === "by" && by === null) return { field: "by", fault: t("booking.by-wants") };
+    if (mode !== "by" && wish === null) return { field: "wish", fault: t("booking.wish-wants") };
+    if (mode !== "by" && by !== null && by <= (mode === "around" ? wish - NEGOTIATED_MINUTES : wish)) return { field: "by", fault: t("booking.by-early") };
+    if (back !== null && back !== undefined && back <= there) return { field: "back", fault: t(backMode === "by" ? "booking.back-by-early" : "booking.back-early") };
     return null;
 }

@@ -6,6 +6,7 @@ import { clock, dayShort } from "../parts/clock.js";
 import { button, part, table } from "../parts/element.js";
 import { printCalls } from "../parts/paper-day.js";
 import { riderLabel, riderName, riderOf } from "../parts/roster.js";
+import { count } from "../parts/tally.js";
 import { t } from "../parts/words.js";
 import { windowOf } from "./booking.js";
 import { saveCsv } from "./dispatcher-files.js";
@@ -13,7 +14,7 @@ import { saveCsv } from "./dispatcher-files.js";
 /** @typedef {import("../parts/paper-day.js").Called} Called */
 /** @typedef {(trip: any) => string} More what else has to be said of a trip */
 
-const KEPT = "dispatcher.calls", MOST_LISTS = 60, RESULTS = ["called", "not-reached"];
+const KEPT = "dispatcher.calls", MOST_LISTS = 60, MOST_NAME = 60, RESULTS = ["called", "not-reached"];
 
 /** @returns {Record<string, Record<string, string>>} */
 function ticks() {
@@ -38,6 +39,7 @@ function keepTick(list, trip, result) {
     } catch {
         // (a browser without room keeps none; the paper has a column for them)
     }
+    count("calls", { list: list.slice(0, MOST_NAME), trip, result: /** @type {any} */ (result || "open") });
 }
 
 /** @param {string} list @param {number} trip */

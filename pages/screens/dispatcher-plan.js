@@ -3,9 +3,10 @@
 
 import { plus, today, weekdayOf } from "../parts/clock.js";
 import * as desk from "../parts/desk.js";
+import { EVENTS } from "../parts/events.js";
 import { DAYS_AHEAD } from "../parts/limits.js";
-import { byPickup, carryOut as carriedOut, keyOf, readAgain as readPlanAgain } from "../parts/out-of-service.js";
-import { cancelTrip, tellDenial } from "../parts/tally.js";
+import { byPickup, carryOut as carriedOut, keyOf, readAgain as readPlanAgain, saidOf } from "../parts/out-of-service.js";
+import { cancelTrip, count } from "../parts/tally.js";
 import { manifestsIn, rowsIn } from "../parts/texts.js";
 import { firstSaid, keepSaid, keepSettings } from "./dispatcher-settings.js";
 
@@ -163,11 +164,25 @@ async function putVehicle(fields) {
     return reply;
 }
 
+/** Tells the site what the rider of a trip asked for: the desk has the wish by which the page kept the window.
+ * @param {Item} item @param {import("../types").Ticket} ticket
+ */
+function tellBooked(item, { trip, window_from: from, window_to: to }) {
+    const said = saidOf(item);
+    keepSaid(trip, said);
+    count("bookings", { day: item.old.day, trip, mode: said.by === null ? "around" : "by", minute: said.by ?? said.wish, from, to });
+}
+
+/** @param {{ day: string, minute: number, rule: string }} denial */
+function tellDenial(denial) {
+    if (EVENTS.denials.rule.words?.includes(denial.rule)) count("denials", denial);
+}
+
 /** @param {number} vehicle @param {Ports["keep"]} keep @returns {Ports} */
 function portsOf(vehicle, keep) {
     const whose = desk.digest();
     return { tripsOf: desk.tripsOf, cancel: (trip) => cancelTrip(trip, "agency"), book: desk.book, putVehicle, dutyOn: (days) => dutyOn(vehicle, days), itemsNow, keep,
-        count: tellDenial, keepSaid, isMine: () => desk.digest() === whose };
+        count: tellDenial, booked: tellBooked, isMine: () => desk.digest() === whose };
 }
 
 /** Goes on with a plan to its end, or to where it has to stop.

@@ -46,8 +46,9 @@ export function vehicles() {
     const vehicle = vehicleField("id", t("dispatcher.vehicle-field"), { chosen });
     const whole = form({ name: t("dispatcher.vehicle-form"), action: t("dispatcher.put-vehicle"), purpose: "vehicle", class: "vehicle",
         fields: [vehicle, dayField("from_day", t("dispatcher.holds-from"), { value: today() }), ...settings], begun: () => screen?.change({ done: null, booked: null }),
+        check: ({ opens, closes }) => (opens > closes ? { field: "opens", fault: t("dispatcher.opens-wants") } : null),
         send: async (values) => {
-            const reply = await (values.opens > values.closes ? Promise.resolve({ denied: "http.field", field: "opens" }) : desk.putVehicle(values));
+            const reply = await desk.putVehicle(values);
             if (reply.denied === "desk.booked") screen?.change({ booked: values.id });
             if (reply.denied === undefined) keepSettings(values);
             return reply;

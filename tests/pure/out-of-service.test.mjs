@@ -48,7 +48,7 @@ function makeDesk(lists, { fails = () => null, booked = () => undefined } = {}) 
         itemsNow: async () => inVan().map((it) => itemOf(riders, it)),
         keep: async (plan) => { keptPlans.push(structuredClone(plan)); },
         count: (denial) => counted.push(denial),
-        keepSaid: (number, said) => { first[number] = said; },
+        booked: (item, ticket) => { first[ticket.trip] = plans.saidOf(item); },
         isMine: () => true,
     };
     return { riders, ports, versions, counted, keptPlans, all, first };
