@@ -30,7 +30,8 @@ KNOWN = re.compile(
 )
 LEFT_OUT = re.compile(r"etc/desk/(fenced|.*\.fenced|README)")
 NEEDED = "etc/desk/agency.json", "etc/desk/setup.json"
-NO_MACHINE = "none"
+OF_FIRST = "etc/desk/standby.conf"
+NO_MACHINE, FENCE = "none", "/etc/desk/fenced"
 
 
 def decrypted(path, folder, identity):
@@ -131,6 +132,10 @@ class Restoring:
         """The backup and the machine's copy, looked at. The desk of this machine, if there is one, goes on."""
         copy, *others = self.given.restore
         self.need_machine(copy, others)
+        if self.given.second and (not others or others[0] == NO_MACHINE):
+            raise Failure("a second machine takes the copy of the first one: COPY MACHINE.tar.gz --second")
+        if self.given.second and os.path.exists(steps.FILE):
+            raise Failure(f"{steps.FILE} is there: this machine has a desk, and is no new second one")
         self.copy = decrypted(copy, self.folder, self.given.identity)
         try:
             copies.check_backup(self.copy)
@@ -138,6 +143,8 @@ class Restoring:
             content.check_whole(self.copy)
             if others and others[0] != NO_MACHINE:
                 self.machine = Machine(decrypted(others[0], self.folder, self.given.identity), self.folder)
+                if self.given.second:
+                    self.machine.names = [it for it in self.machine.names if it != OF_FIRST]
                 self.check_zones()
                 self.check_agency()
         except ending.Failure as failure:
@@ -187,7 +194,8 @@ class Restoring:
             for name in told.QUESTIONS:
                 if getattr(self.given, name, None) is None and name in earlier:
                     setattr(self.given, name, earlier[name])
-            self.check_second()
+            if not self.given.second:
+                self.check_second()
 
     def check_second(self):
         """The second machine may serve already: two desks would lose writes."""
