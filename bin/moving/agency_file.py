@@ -6,12 +6,17 @@ its place, and what is right is used.
 import collections
 import datetime
 import json
+import os
 import re
+import sys
 import zoneinfo
 
 from moving import whole_file
 from moving.limits import (DAYS_TO_APPEAL, GREATEST_COORDINATE, GREATEST_WIDTH, HIGHEST_NUMBER, LAST_MINUTE,
                            LEAST_WIDTH, MOST_POINTS, Wrong)
+
+sys.path.append(os.path.join(os.path.dirname(os.path.realpath(__file__)), "..", "..", "python"))
+from desk_tools.journal import lengths
 
 # What a file holds, as far as it is right, and a sentence for each thing that is wrong, led by its place.
 Read = collections.namedtuple("Read", "agency faults")
@@ -102,6 +107,17 @@ def clock(value, *_):
 def share(value, *_):
     """A share in percent, or null where there is no limit."""
     return None if value is None else whole(0, 100)(value)
+
+
+def time_kept(kind):
+    """For how long a kind of record is kept."""
+    def read(value, *_):
+        try:
+            lengths.days_of(kind, value)
+        except ValueError as error:
+            raise Fault(str(error)) from None
+        return value
+    return read
 
 
 def days_to_appeal(value, *_):
@@ -274,8 +290,9 @@ ROUTE_PAIRS = [("first", "last", rising, "first and last go together, and first 
 FIELDS = {
     "name": text, "telephone": telephone, "address": lines, "zone": zone, "first_weekday": whole(1, 7),
     "place_word": text, "clock": clock, "languages": several(language, 1),
-    "wait_minutes": whole(0, 60), "idle_minutes": whole(0, LAST_MINUTE), "lock_minutes": whole(5, 720),
-    "appeal": obj(APPEAL), "subscription_share": share, "closed": closed_days, "unproved": yes_or_no,
+    "wait_minutes": whole(0, 60), "lead": whole(0, 60), "idle_minutes": whole(0, LAST_MINUTE),
+    "lock_minutes": whole(5, 720), "appeal": obj(APPEAL), "subscription_share": share, "closed": closed_days, "unproved": yes_or_no,
+    "retention": obj({it: time_kept(it) for it in lengths.DEFAULTS}),
     "places": records(PLACE, ["id"], PLACE_PAIRS),
     "routes": records(ROUTE, ["id", "width", "points"], ROUTE_PAIRS),
     "vehicles": records(VEHICLE, ["id"], []),

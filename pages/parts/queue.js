@@ -268,8 +268,9 @@ export async function sendTallies() {
     if (!desk.digest()) return;
     for (const entry of await entries()) {
         if (!entry.tally || entry.since > serverNow() - HELD) continue;
-        for (const path of [entry.tally].flat()) await countPath(path);
-        await changed(entry.order, (now) => ({ ...now, tally: null }));
+        let isKept = true;
+        for (const path of [entry.tally].flat()) isKept = await countPath(path) && isKept;
+        if (isKept) await changed(entry.order, (now) => ({ ...now, tally: null }));
     }
 }
 

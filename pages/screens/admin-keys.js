@@ -21,7 +21,7 @@ import { saveCsv } from "./dispatcher-files.js";
 
 /** @typedef {import("./admin-callers.js").Caller} Caller */
 
-const FIRST_ADMIN = 1, WITH_SUBJECT = ["rider", "driver"], FILE = "callers.csv", LONGEST_NAME = 80;
+const FIRST_ADMIN = 1, WITH_SUBJECT = ["rider", "driver"], FILE = "callers.csv", LONGEST_NAME = 100;
 
 const roleName = (/** @type {string} */ role) => t(`signing.${role}`);
 
@@ -49,13 +49,13 @@ const nameAndRole = (caller) => [caller.name, whose(caller)].filter(Boolean).joi
 const nameOf = (text) => (text.length <= LONGEST_NAME ? text : null);
 
 /** Cancels a key. Where it turns out to be the own one, the new one is shown: without an admin's key nobody could make any.
- * @param {Caller} caller @returns {Promise<{ denied?: string, ownKey?: string } | null>} null where it was not wanted */
+ * @param {Caller} caller @returns {Promise<{ reply?: import("../types").Denied | import("../types").Left, ownKey?: string } | null>} null where it was not wanted */
 async function cancelKey(caller) {
-    const { id, role, subject } = caller;
+    const { id, role, subject, name } = caller;
     if (!await asked({ question: t("admin.ask-cancel", { id, who: nameAndRole(caller) }), detail: t("admin.ask-cancel-detail"), yes: t("admin.yes-cancel", { id }),
         danger: true })) return null;
-    const key = desk.newKey(), digest = await desk.digestOf(key), reply = await desk.putCaller({ id, role, subject, digest }, key);
-    if (reply.denied !== undefined) return { denied: reply.denied };
+    const key = desk.newKey(), digest = await desk.digestOf(key), reply = await desk.putCaller({ id, role, subject, digest, ...(name ? { name } : {}) }, key);
+    if (reply.denied !== undefined) return { reply };
     const isOwn = desk.digest() === digest;
     keepCaller({ ...caller, ...(isOwn ? { day: today(), digits: digitsOf(digest) } : { until: today(), digits: "" }) });
     return isOwn ? { ownKey: key } : {};
@@ -110,7 +110,7 @@ const nameField = (caller) => part("input", { type: "text", value: caller.name ?
 /** The list of keys that were given, with what can be done with each.
  * @param {(caller: Caller) => void} cancel */
 const listOf = (cancel) => (given().length ? table(t("admin.given"), [{ head: t("admin.caller"), cell: ({ id }) => String(id) },
-    { head: t("admin.person"), cell: nameField }, { head: t("admin.whose"), cell: whose }, { head: t("admin.since"), cell: stateOf },
+    { head: t("admin.name"), cell: nameField }, { head: t("admin.whose"), cell: whose }, { head: t("admin.since"), cell: stateOf },
     { head: t("admin.key-head"), cell: (caller) => caller.id !== FIRST_ADMIN && !caller.until && button(t("admin.cancel-key"), () => cancel(caller),
         { class: "small", "aria-label": t("admin.cancel-key-of", { id: caller.id, who: nameAndRole(caller) }) }) }],
 given(), { rowKey: ({ id }) => id }) : part("p", {}, t("admin.none-given")));
@@ -135,7 +135,7 @@ export function callers() {
     async function cancel(caller) {
         const told = await cancelKey(caller);
         if (!told) return;
-        const said = told.denied !== undefined ? denialOf(told, "caller") : part("p", { class: "good" }, t(told.ownKey ? "admin.was-own" : "admin.canceled", { id: caller.id }));
+        const said = told.reply ? denialOf(told.reply, "caller") : part("p", { class: "good" }, t(told.ownKey ? "admin.was-own" : "admin.canceled", { id: caller.id }));
         screen.change({ said, at: screen.state.at + 1, ...(told.ownKey ? { key: told.ownKey, caller, copied: false } : {}) },
             { focus: told.ownKey ? "new-key" : "callers-said" });
     }
@@ -153,14 +153,16 @@ export function callers() {
     function makeForm() {
         const roles = /** @type {[string, string][]} */ (ROLES.map((role) => [role, roleName(role)]));
         number = idField("id", t("admin.caller-number"), { hint: t("admin.caller-hint") });
-        person = textField("name", t("admin.person"), { optional: true, hint: t("admin.person-hint"), judge: nameOf, wants: t("admin.name-wants") });
+        person = textField("name", t("admin.name"), { optional: true, hint: t("admin.caller-name-hint"), judge: nameOf, wants: t("admin.caller-name-wants") });
         offerNext();
         return form({ name: t("admin.a-caller"), action: t("admin.make-key"), purpose: "caller", check: faultOf, ask: question,
             begun: () => screen.change({ key: "", copied: false, said: null }),
             fields: [number, person, choiceField("role", t("admin.role"), roles, { empty: t("admin.choose") }),
                 numberField("subject", t("admin.subject"), 1, HIGHEST_ID, { optional: true, hint: t("admin.subject-hint"), wants: t("admin.subject-wants") })],
-            send: async ({ id, role, subject }) => {
-                const key = desk.newKey(), digest = await desk.digestOf(key), reply = await desk.putCaller({ id, role, subject: subject ?? 0, digest }, key);
+            // The desk passes over the name; the site's record keeps it beside the number.
+            send: async ({ id, name, role, subject }) => {
+                const key = desk.newKey(), digest = await desk.digestOf(key), caller = { id, role, subject: subject ?? 0, digest, ...(name ? { name } : {}) };
+                const reply = await desk.putCaller(caller, key);
                 return reply.denied === undefined ? { value: { key, digits: digitsOf(digest) } } : reply;
             },
             done: ({ key, digits }, { id, name, role, subject }) => {

@@ -67,7 +67,7 @@ export function ofResident(rider, draw) {
     const screen = makeScreen({ state: { reply: /** @type {any} */ (null) }, draw: ({ reply }, { kept }) => {
         if (reply === null) return part("p", { role: "status" }, t("cases.reading"));
         if (reply.denied !== undefined) return part("div", { role: "status" }, denialOf(reply, "standing"));
-        if (reply.value.standing.startsWith("visitor")) return [kept("standing", () => standingOf(rider).element), part("div", { role: "status" }, denialOf({ denied: "37.127" }))];
+        if (reply.value.standing.startsWith("visitor")) return [kept("standing", () => standingOf(rider).element), part("div", { role: "status" }, part("p", { class: "note" }, t("denials.37.127"), " ", t("denials.37.127/help")))];
         return [part("h2", { class: "case-of" }, t("cases.case-of", { who: riderLabel(rider) })), kept("case", draw)];
     } });
     desk.standing(rider, today()).then((reply) => {

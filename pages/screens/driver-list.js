@@ -2,7 +2,7 @@
 
 import { agency, vehicleName } from "../parts/agency.js";
 import { clock, dayInWords, dayShort, plus } from "../parts/clock.js";
-import { denialOf } from "../parts/denials.js";
+import { keptDenialOf } from "../parts/denials.js";
 import { button, part } from "../parts/element.js";
 import { heldFor } from "../parts/queue.js";
 import { t } from "../parts/words.js";
@@ -96,7 +96,7 @@ function deniedOne(entry, state, acts) {
     const day = isHere ? "" : `${dayShort(entry.sheet.split(" ")[1])}: `, there = isHere && shownDay(state).stops.some(({ name }) => name === stop);
     const isOver = entry.denied === "desk.over", words = `${day}${whoAt(rider, namesOf(state))}, ${t("driver.trip", { trip })}.`;
     return part("div", { class: "card driver-denied", key: `denied-${entry.order}` },
-        part("p", {}, t("driver.denied-one", { what: didWords(what), stop: words })), isOver ? recordOf(entry) : denialOf({ denied: entry.denied ?? "" }, "outcome"),
+        part("p", {}, t("driver.denied-one", { what: didWords(what), stop: words })), isOver ? recordOf(entry) : keptDenialOf(entry.denied, "outcome"),
         part("div", { class: "driver-choices" }, isOver && onRecord !== what && callLink(),
             there && button(t("driver.open-stop"), () => acts.open(stop), PLAIN), button(t("driver.put-aside"), () => acts.aside(entry), PLAIN)));
 }
@@ -113,7 +113,7 @@ function lineWords({ silent, read, locked, opensUntil }) {
 /** Why the manifest cannot be read, in the words of the screen.
  * @param {State} state */
 const whyDenied = ({ denied, vehicle }) => denied && (denied === "desk.caller" ? part("div", { class: "denial" }, part("p", {}, part("strong", {},
-    t("driver.not-yours", { van: vehicleName(vehicle) }))), part("p", {}, t("driver.choose-yours"))) : denialOf({ denied }, "manifest"));
+    t("driver.not-yours", { van: vehicleName(vehicle) }))), part("p", {}, t("driver.choose-yours"))) : keptDenialOf(denied, "manifest"));
 
 /** What has to be known beside the stops: the line, what waits, what was denied, what is gone.
  * @param {State} state @param {Acts} acts */

@@ -2,7 +2,7 @@
 
 import { agency, placeOf } from "../parts/agency.js";
 import { asked } from "../parts/ask.js";
-import { plus, today } from "../parts/clock.js";
+import { asSpoken, plus, today } from "../parts/clock.js";
 import * as desk from "../parts/desk.js";
 import { denialOf } from "../parts/denials.js";
 import { button, part } from "../parts/element.js";
@@ -33,7 +33,7 @@ const said = (own, key, values) => (own === language() ? t(key, values) : inBoth
 /** @param {string} own @param {string} day @param {Intl.DateTimeFormatOptions} [options] */
 function dayIn(own, day, options = { dateStyle: "full" }) {
     const at = Date.parse(day);
-    return Number.isNaN(at) ? day : new Intl.DateTimeFormat(SPEECH[own], { ...options, timeZone: "UTC" }).format(new Date(at));
+    return Number.isNaN(at) ? day : asSpoken(new Intl.DateTimeFormat(SPEECH[own], { ...options, timeZone: "UTC" }).format(new Date(at)), own);
 }
 
 /** What a condition of a grant says.

@@ -649,6 +649,7 @@ def begin_bad(at, clock, index):
     at.browser.fresh()
     sign_in(at, clock, BAD_DAY)
     name = f"stop-PICK-{BOOKED[index]}"
+    until(f"there is no {name}", lambda: at.browser.script("return Boolean(document.getElementById(arguments[0]))", name))
     at.browser.script("document.getElementById(arguments[0]).click()", name)
     if at.browser.all("button", "This is my next stop"):
         at.browser.press("This is my next stop")

@@ -36,7 +36,6 @@ class Office:
         self.patch, self.day = monkeypatch, TODAY.isoformat()
         folder.mkdir(exist_ok=True)
         monkeypatch.setattr(Places, "today", lambda _: self.day)
-        monkeypatch.setattr(taking, "is_open", lambda _: False)
 
     def write(self, *found: bytes) -> None:
         """What nginx writes."""
@@ -285,7 +284,7 @@ def test_retention_removes_nothing_by_a_wrong_clock(office: Office) -> None:
 
 @pytest.mark.parametrize("wrong", [5, "5", "soon", "1 day", "0 years", "-5 years", None])
 def test_a_retention_that_is_none_is_named(wrong: object) -> None:
-    with pytest.raises(Wrong, match="retention.journal"):
+    with pytest.raises(Wrong, match="retention: .*no time such as"):
         retention.rules_of({"retention": {"journal": wrong}})
 
 

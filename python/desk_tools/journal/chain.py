@@ -143,7 +143,8 @@ class Writer:
         self.file: File | None = None
         self.place, self.chain, self.is_closed = 0, FIRST, True
         self.part, self.taken, self.count = 0, 0, 0
-        self.day = ""
+        # (the record keeps the name of its first file, whatever the site is called later)
+        self.day = self.site = ""
         files = files_in(folder)
         if files:
             self.resume(files[-1])
@@ -174,6 +175,7 @@ class Writer:
         self.is_closed = note == "closed"
         if note == "opened":
             self.part, self.taken = int(fields.get("part", 0)), -1
+            self.site = str(fields.get("site", ""))
         elif note == "taken":
             self.part, self.taken = int(fields.get("part", 0)), 0
         elif not note and self.taken >= 0:

@@ -8,6 +8,7 @@ from datetime import date, datetime
 from pathlib import Path
 
 from desk_tools.journal import (
+    answering,
     chain,
     corrections,
     names,
@@ -17,7 +18,7 @@ from desk_tools.journal import (
     replaying,
     retention,
 )
-from desk_tools.journal import sheets, signing, taking, verifying
+from desk_tools.journal import sheets, signing, taking, travelling, verifying
 from desk_tools.journal.places import AGENCY, FOLDER, Places, Wrong, agency_of, zone_of
 
 DONE, NOT_DONE, WRONG_WORDS, ENDS_EARLY, UNEXPLAINED = 0, 1, 2, 3, 4
@@ -128,6 +129,33 @@ def callers(words: argparse.Namespace) -> int:
         added = people.of_copy(words.copy_of_desk, taking.now(), known)
         people.keep(places.callers, known)
     print(f"{added} callers added to {places.callers}")
+    return DONE
+
+
+def begin(words: argparse.Namespace) -> int:
+    """Makes the record's folder and the key that signs each day."""
+    print(travelling.begin(places_of(words), words.key, words.public))
+    return DONE
+
+
+def travel(words: argparse.Namespace) -> int:
+    """Gives driving times as `desk travel` does, and writes a line of it."""
+    given = [str(words.file), words.zone]
+    number, table = words.number, words.table
+    return travelling.give(
+        places_of(words), words.program, given, words.key_file, number, words.day, table
+    )
+
+
+def serve(words: argparse.Namespace) -> int:
+    """Answers the page *Record* until it is ended."""
+    places = places_of(words)
+
+    def ask(first: date | None, last: date | None) -> questions.Asked:
+        known = names.of_agency(agency_of(words.agency), words.roster)
+        return questions.Asked(places, reading.people_of(places), known, {}, first, last)
+
+    answering.serve(words.socket, ask)
     return DONE
 
 
@@ -270,6 +298,19 @@ def add_tasks(parsers: "argparse._SubParsersAction[argparse.ArgumentParser]") ->
     )
     one.set_defaults(do=callers)
     one.add_argument("copy_of_desk", type=Path, metavar="COPY.db")
+    one = parsers.add_parser(
+        "begin", help="makes the record's folder and the key that signs each day"
+    )
+    one.set_defaults(do=begin)
+    one.add_argument("--key", type=Path, default=KEY)
+    one.add_argument("--public", type=Path, default=PUBLIC)
+    add_travel(parsers)
+    one = parsers.add_parser(
+        "serve", help="answers the page Record, to the site by a socket; the unit's work"
+    )
+    one.set_defaults(do=serve)
+    one.add_argument("socket", type=Path, metavar="SOCKET")
+    one.add_argument("--roster", type=Path, default=ROSTER, help=f"the names of riders ({ROSTER})")
     one = parsers.add_parser("keep", help="removes what is kept long enough, and says what")
     one.set_defaults(do=keep)
     one.add_argument(
@@ -278,6 +319,23 @@ def add_tasks(parsers: "argparse._SubParsersAction[argparse.ArgumentParser]") ->
     one.add_argument("--tally", type=Path, default=Path("/var/log/desk"))
     one.add_argument("--exports", type=Path, default=Path("/var/lib/desk-exports"))
     one.add_argument("--backups", type=Path, default=Path("/var/backups/desk"))
+
+
+def add_travel(parsers: "argparse._SubParsersAction[argparse.ArgumentParser]") -> None:
+    """The parser of `travel`."""
+    one = parsers.add_parser(
+        "travel", help="gives driving times as `desk travel` does, with a line in the record"
+    )
+    one.set_defaults(do=travel)
+    one.add_argument("file", type=Path, metavar="FILE.db")
+    one.add_argument("zone", metavar="ZONE", help="the zone rule of the desk's unit")
+    one.add_argument(
+        "key_file", type=Path, metavar="KEYFILE", help="the file with the dispatcher's key"
+    )
+    one.add_argument("number", type=int, metavar="NUMBER", help="the caller's next number")
+    one.add_argument("day", metavar="DAY", help="from which day on")
+    one.add_argument("table", type=Path, metavar="TIMES.csv")
+    one.add_argument("--program", type=Path, default=Path("/usr/bin/desk"), help="the desk")
 
 
 def parser_of() -> argparse.ArgumentParser:

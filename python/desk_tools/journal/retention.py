@@ -1,29 +1,15 @@
 """How long each kind of record is kept, and what is removed when its time is over."""
 
 import logging
-import re
 from dataclasses import dataclass
 from datetime import date, timedelta
 from pathlib import Path
 
 from desk_tools.journal import chain, lines, taking
+from desk_tools.journal.lengths import DEFAULTS, days_of
 from desk_tools.journal.places import Places, Wrong
 
 LOG = logging.getLogger("journal")
-# Each kind with its default in days and why. 49 CFR 27.121(b) has complaints a year and a record of them five years;
-# the others follow the longest time for which somebody may ask.
-DEFAULTS = {
-    "journal": (
-        1827,
-        "five years, as a record of complaints (49 CFR 27.121(b)) and the claims about denials and trips",
-    ),
-    "tally": (3653, "ten years: counts without names, for reviews of denials and of service"),
-    "exports": (1827, "five years: the sheets and reports that answered a reviewer or a court"),
-    "backups": (35, "five weeks: to restore; what is older is in the exports"),
-}
-LENGTH = re.compile(r"(\d{1,5}) (day|week|month|year)s?")
-DAYS = {"day": 1.0, "week": 7.0, "month": 30.44, "year": 365.25}
-LEAST = {"journal": 365, "tally": 365, "exports": 365, "backups": 7}
 # However wrong a clock is, one night removes no more days of the record than this.
 MOST_DAYS, MOST_BEHIND = 31, 2
 
@@ -37,17 +23,6 @@ class Rule:
     why: str
 
 
-def days_of(kind: str, value: object) -> int:
-    """How many days a text such as "5 years" says."""
-    found = LENGTH.fullmatch(value) if isinstance(value, str) else None
-    days = round(int(found[1]) * DAYS[found[2]] + 0.49) if found else 0
-    if days < LEAST[kind]:
-        raise Wrong(
-            f'retention.{kind}: {value!r} is no time such as "5 years" or "35 days", of at least {LEAST[kind]} days'
-        )
-    return days
-
-
 def rules_of(agency: dict[str, object]) -> list[Rule]:
     """The agency's rules, with the defaults where it has none."""
     given = agency.get("retention", {})
@@ -56,10 +31,13 @@ def rules_of(agency: dict[str, object]) -> list[Rule]:
     for name in given:
         if name not in DEFAULTS:
             raise Wrong(f"retention.{name}: there is no such kind; there are {', '.join(DEFAULTS)}")
-    return [
-        Rule(kind, days_of(kind, given[kind]) if kind in given else days, why)
-        for kind, (days, why) in DEFAULTS.items()
-    ]
+    try:
+        return [
+            Rule(kind, days_of(kind, given[kind]) if kind in given else days, why)
+            for kind, (days, why) in DEFAULTS.items()
+        ]
+    except ValueError as error:
+        raise Wrong(f"retention: {error}") from None
 
 
 def age(path: Path, today: date) -> int:

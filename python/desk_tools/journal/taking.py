@@ -1,5 +1,6 @@
 """Takes what the site wrote into the record: the unit's work each five minutes."""
 
+import fcntl
 import json
 import logging
 import os
@@ -22,25 +23,19 @@ def now() -> str:
 
 
 def is_open(path: Path) -> bool:
-    """Whether some process has the file open."""
+    """Whether another process has the file open: then the kernel gives nobody a lease on it to write."""
     try:
-        there = path.stat()
+        number = os.open(path, os.O_RDWR)
     except FileNotFoundError:
         return False
-    for process in Path("/proc").iterdir():
-        if not process.name.isdecimal() or process.name == str(os.getpid()):
-            continue
-        try:
-            for link in (process / "fd").iterdir():
-                try:
-                    found = link.stat()
-                except OSError:
-                    continue
-                if (found.st_dev, found.st_ino) == (there.st_dev, there.st_ino):
-                    return True
-        except OSError:
-            continue
-    return False
+    try:
+        fcntl.fcntl(number, fcntl.F_SETLEASE, fcntl.F_WRLCK)
+        fcntl.fcntl(number, fcntl.F_SETLEASE, fcntl.F_UNLCK)
+        return False
+    except BlockingIOError:
+        return True
+    finally:
+        os.close(number)
 
 
 def wait_for(condition: Callable[[], bool]) -> bool:
@@ -107,7 +102,7 @@ def take(places: Places, pid_file: Path, finish: Callable[[chain.File], None]) -
         if not writer.is_closed and day != writer.day:
             writer.close(now())
         if writer.is_closed:
-            writer.open(day, places.site, now())
+            writer.open(day, writer.site or places.site, now())
         rotate(places, writer.part, pid_file)
         for number, part in places.parts():
             if not wait_for(lambda path=part: not is_open(path)):  # type: ignore[misc]
@@ -124,5 +119,5 @@ def note(places: Places, kind: str, **fields: object) -> None:
     with places.locked():
         writer = chain.Writer(places.record)
         if writer.is_closed:
-            writer.open(places.today(), places.site, now())
+            writer.open(places.today(), writer.site or places.site, now())
         writer.add(json.dumps({"note": kind, "at": now(), **fields}).encode())
