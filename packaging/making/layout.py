@@ -22,7 +22,7 @@ OF_PROOF = """ Every function of the program is proved to meet its contract. The
  the proof is in /usr/share/doc/desk/receipt.json."""
 OF_TRIAL = """ This package is for trial: its program need not be proved. Do not use it for
  real trips."""
-SCRIPTS = ["config", "postinst", "prerm", "postrm"]
+SCRIPTS = ["config", "preinst", "postinst", "prerm", "postrm"]
 
 
 class Layout:
