@@ -10,7 +10,7 @@ from desk_parts import sources
 from making import licences, manual, receipt
 
 # What of bin/ only the sources have a use for.
-OF_SOURCES = {"desk", "desk_parts", "gate", "look.program", "meter", "package", "rehearsal"}
+OF_SOURCES = {"apt-repository", "desk", "desk_parts", "gate", "look.program", "meter", "package", "rehearsal"}
 # Where the tree is installed by hand, and where the package has it. The tools of bin/ come first.
 PLACES = [
     ("/usr/local/lib/desk/bin/", "/usr/lib/desk/bin/"),

@@ -54,8 +54,9 @@ def agency_at(port, name):
 class Services:
     """What runs by itself for one agency."""
 
-    def __init__(self, nightly):
-        timers = {f"desk-{it}.timer": it in nightly.split(", ") for it in NIGHTLY}
+    def __init__(self, settings):
+        timers = {f"desk-{it}.timer": it in settings["nightly"].split(", ") for it in NIGHTLY}
+        timers["desk-acme.timer"] = bool(settings["acme"])
         self.wanted = [*ALWAYS, *[it for it, is_wanted in timers.items() if is_wanted]]
         self.others = [it for it, is_wanted in timers.items() if not is_wanted]
         self.enabled = {it: is_so("is-enabled", it) for it in [*self.wanted, *self.others]}

@@ -1,6 +1,6 @@
 """tests/booted: tries what is installed on Debian machines that are booted under their own systemd.
 
-    tests/booted [--all] [--only PART] PROGRAM
+    tests/booted [--all] [--package FILE.deb] PROGRAM
 
 Each machine is a root of Debian 12 (mmdebstrap, kept in ~/.cache/desk-booted), run by systemd-nspawn with a network of
 its own. Where this machine cannot boot one, that is said and nothing is counted. The last line is 'N passed, M failed',
@@ -10,12 +10,22 @@ and the exit status 1 where something failed.
 from __future__ import annotations
 
 import argparse
+import shutil
 import subprocess
 import sys
 import tempfile
 from pathlib import Path
 
-from desk_tools.booted import nights, packages, removing, roots, setting_up, upgrading
+from desk_tools.booted import (
+    acme,
+    nights,
+    packages,
+    removing,
+    repository,
+    roots,
+    setting_up,
+    upgrading,
+)
 from desk_tools.booted.checks import Checks
 from desk_tools.booted.machines import Machine, NoBoot
 from desk_tools.booted.town import Town
@@ -26,8 +36,9 @@ PARTS = {
     "nights": nights.check,
     "upgrading": upgrading.check,
     "removing": removing.check,
+    "repository": repository.check,
 }
-SLOW = {"full_disk": nights.check_full_disk}
+SLOW = {"full_disk": nights.check_full_disk, "acme": acme.check}
 
 
 def words_of(arguments: list[str]) -> argparse.Namespace:
@@ -37,6 +48,9 @@ def words_of(arguments: list[str]) -> argparse.Namespace:
     )
     words.add_argument("--all", action="store_true", help="the slow parts too")
     words.add_argument("--keep", type=Path, help="a folder in which the machine stays, to look at")
+    words.add_argument(
+        "--package", type=Path, help="a package that is tried in place of this tree's"
+    )
     words.add_argument("program", metavar="PROGRAM", type=Path)
     return words.parse_args(arguments)
 
@@ -54,11 +68,15 @@ def main(arguments: list[str]) -> int:
             checks.step("a root of Debian")
             root = roots.unpacked(folder / "one")
             (folder / "packages").mkdir()
-            package = packages.made(told.program.resolve(), folder / "packages")
+            if told.package:
+                package = Path(shutil.copy(told.package, folder / "packages"))
+            else:
+                package = packages.made(told.program.resolve(), folder / "packages")
             checks.step("it is booted")
             with Machine(root, "one") as machine:
                 town = Town(machine, package, checks)
-                for name, check in {**PARTS, **(SLOW if told.all else {})}.items():
+                slow = SLOW if told.all else {}
+                for name, check in {"setting_up": setting_up.check, **slow, **PARTS}.items():
                     checks.step(name)
                     check(town)
         except (roots.NoRoot, NoBoot) as reason:

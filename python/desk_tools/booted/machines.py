@@ -146,6 +146,7 @@ class Machine:
             "TERM=dumb",
         ]
         words = [*self.in_groups(), *self.entering(), *environment, "sh", "-c", command]
+        begun = time.monotonic()
         try:
             ran = subprocess.run(
                 words,
@@ -158,6 +159,8 @@ class Machine:
             )
         except subprocess.TimeoutExpired:
             return Ran(124, f"`{command}` took longer than it may")
+        if os.environ.get("SLOW_COMMANDS") and time.monotonic() - begun > 2:
+            print(f"{time.monotonic() - begun:5.1f} s {command[:100]}", flush=True)
         if check and ran.returncode:
             raise RuntimeError(
                 f"{self.name}: `{command}`: {ran.returncode}: {ran.stdout.strip()[-400:]}"

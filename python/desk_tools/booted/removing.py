@@ -30,15 +30,15 @@ def check(town: Town) -> None:
         checks.has("a purge names what stays", folder, told)
     checks.holds("and keeps it", machine.run("test -s /var/lib/desk/desk.db", check=False).is_well)
     left = machine.run(
-        "ls /etc/systemd/system | grep desk; ls /etc/nginx/conf.d", check=False
+        "ls /etc/systemd/system | grep ^desk; ls /etc/nginx/conf.d", check=False
     ).output
     checks.equal("no settings of units and no site are left", "", left)
     office.install(machine, "/root/desk.deb")
     machine.run("echo 'desk desk/remove-data boolean true' | debconf-set-selections")
     machine.run("apt-get purge -y -q desk")
-    left = machine.run(
+    data = machine.run(
         "ls -d /var/lib/desk* /etc/desk /etc/ssl/desk /var/log/desk 2>/dev/null", check=False
     )
-    checks.equal("a purge with a yes leaves nothing of them", "", left.output)
+    checks.equal("a purge with a yes leaves nothing of them", "", data.output)
     failed = machine.run("systemctl --failed --no-legend --plain", check=False).output
     checks.equal("no unit failed", "", failed)
