@@ -85,20 +85,19 @@ def check_full_disk(town: Town) -> None:
     machine.run("systemctl start desk")
     checks.holds("the desk on a small disk", office.answers(machine))
     machine.run("cat /dev/zero >/var/lib/desk/full 2>/dev/null; true")
-    status = 200
+    place: dict[str, object] = {}
     for _ in range(400):
-        body = {"id": 1, "x": 0, "y": 0, "core": False}
-        reply = office.ask(machine, "/places", key=town.admin, body=body, number=town.next_number())
-        status = reply.status
+        number = town.next_number()
+        place = {"id": number, "x": number, "y": 0, "core": False}
+        status = office.ask(machine, "/places", key=town.admin, body=place, number=number).status
         if status != 200:
             break
     checks.equal("a write that finds no room", 503, status)
     time.sleep(20)
     machine.run("rm /var/lib/desk/full")
     begun = time.monotonic()
-    number = town.next_number()
     while time.monotonic() - begun < 2 * SECONDS_TO_COME_BACK:
-        reply = office.ask(machine, "/places", key=town.admin, body=body, number=number)
+        reply = office.ask(machine, "/places", key=town.admin, body=place, number=number)
         if reply.status == 200:
             break
         time.sleep(0.5)
