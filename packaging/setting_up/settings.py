@@ -9,6 +9,8 @@ NAME = re.compile(r"(?=.{1,253}$)[a-z0-9]([a-z0-9-]*[a-z0-9])?(\.[a-z0-9]([a-z0-
 OWN_PORTS = 80, 8435, 8436, 8437
 NO_ALARM, MAIL = "none yet", re.compile(r"[A-Za-z0-9._%+-]+@[A-Za-z0-9.-]+")
 HOOK = re.compile(r"https?://[A-Za-z0-9._~:/?#@!&=%+,;-]+")
+NO_OFFSITE = "none yet"
+OFFSITE = f"a mounted folder, a host by ssh (MACHINE:/FOLDER), or {NO_OFFSITE}"
 # What may run by itself, and the files without which it does not.
 NIGHTLY = {
     "backup": [],
@@ -25,6 +27,7 @@ QUESTIONS = {
     "name": ("The site's name on the net, such as desk.example.org", None),
     "port": ("The site's port", "443"),
     "alarm": ("Who is told when something is wrong: a mail address, an https:// address, or none yet", "none yet"),
+    "offsite": (f"Where copies go beside this machine: {OFFSITE}", NO_OFFSITE),
     "nightly": (f"What runs each night: {', '.join(NIGHTLY)}, or none", "backup, worklist"),
 }
 
@@ -87,6 +90,8 @@ def judged(name, text):
         raise Failure("the agency's name is one line of 1 to 100 signs")
     elif name == "alarm":
         return alarm_in(text)
+    elif name == "offsite" and not re.fullmatch(rf"({NO_OFFSITE}|none|([A-Za-z0-9._@-]+:)?/[A-Za-z0-9._/-]+)", text):
+        raise Failure(f"{text!r} is not {OFFSITE}")
     return nightly_in(text) if name == "nightly" else text
 
 

@@ -19,6 +19,7 @@ PROGRAM, FILE, KEYS = "/usr/bin/desk", "/var/lib/desk/desk.db", "/var/lib/desk-s
 AGENCY, SERVED, WATCH = "/etc/desk/agency.json", "/var/lib/desk-site", "/etc/desk/watch.conf"
 NGINX, SITE, FILES_OF_NGINX = "/etc/nginx/nginx.conf", "/etc/nginx/conf.d/desk.conf", "/etc/nginx/modules-enabled/90-desk.conf"
 TLS, UNITS, SHIPPED = "/etc/ssl/desk", "/etc/systemd/system", "/lib/systemd/system"
+JAVASCRIPT = "/usr/lib/nginx/modules/ngx_http_js_module.so"
 CONNECTIONS = 16_384
 
 
@@ -110,7 +111,7 @@ def make_site(changes, settings, lines):
     if settings["port"] != "443":
         text = re.sub(r"(listen (?:\[::\]:)?)443\b", rf"\g<1>{settings['port']}", text)
         text = text.replace("https://$server_name$request_uri", f"https://$server_name:{settings['port']}$request_uri")
-    os.makedirs("/var/log/desk", exist_ok=True)
+    make_record()
     if is_by_hand(SITE, before().get("site")):
         changes.write(f"{SITE}.new", text)
         lines.append(f"{SITE} was changed by hand and stays. Compare it with {SITE}.new, which this version would serve.")
@@ -124,6 +125,14 @@ def make_site(changes, settings, lines):
         changes.write(NGINX, whole.replace(found[0], f"worker_connections {CONNECTIONS};"))
     changes.write(FILES_OF_NGINX, "worker_rlimit_nofile 40000;\n")
     run("nginx", "-t")
+
+
+def make_record():
+    """The folder of the record, and the key that signs each day of it."""
+    if not os.path.exists(JAVASCRIPT):
+        raise Failure("nginx has no JavaScript, by which the site keeps its record: apt install libnginx-mod-http-js")
+    os.makedirs("/var/log/desk", exist_ok=True)
+    run(f"{TOP}/bin/journal", "begin")
 
 
 def is_by_hand(path, digest):
@@ -183,11 +192,13 @@ def send_test(alarm, lines):
 
 
 def install_nginx(lines):
-    """nginx, by apt, where it is not installed: it listens from now on, as somebody has set a desk up."""
-    words = ["apt-get", "install", "--yes", "--quiet", "nginx", "openssl"]
+    """nginx and its JavaScript, by apt, where they are not installed. It listens from now on, as a desk is set up."""
+    if shutil.which("nginx") and os.path.exists(JAVASCRIPT):
+        return True
+    words = ["apt-get", "install", "--yes", "--quiet", "nginx", "libnginx-mod-http-js", "openssl"]
     given = {"env": {**os.environ, "DEBIAN_FRONTEND": "noninteractive"}, "capture_output": True, "text": True}
     ran = subprocess.run(words, stdin=subprocess.DEVNULL, check=False, **given)
-    if ran.returncode or not shutil.which("nginx"):
+    if ran.returncode and not shutil.which("nginx"):
         lines.append("nginx is not installed, and apt-get could not install it: there is no site. Install it, and run "
                      "desk-setup again.")
         return False
