@@ -68,7 +68,7 @@ def the_pages_are_spanish_for_who_reads_spanish(at):
     at.browser.sees("Mis viajes", "Reservar un viaje", "Salir")
     same("the language of the page", "es", at.browser.script("return document.documentElement.lang"))
     show(at, 1001, "Su número de pasajero", "Mostrar mis páginas")
-    at.browser.sees("martes, 11 de marzo de 2025", "Recogida entre")
+    at.browser.sees("martes 11 de marzo de 2025", "Recogida entre")
     at.browser.press("Reservar un viaje", "link")
     at.browser.sees("Reservar un viaje para el pasajero 1001", "Hora deseada de la recogida", "Recogida de regreso")
     at.browser.fill("Idioma", "en")
