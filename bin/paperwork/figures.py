@@ -36,7 +36,8 @@ FIGURES = [
     counted("ridden", "Ridden"),
     Figure("missed_by_rider", "Missed by the rider", lambda it: it["missed by the rider"]),
     Figure("missed_by_operator", "Missed by the operator", lambda it: it["missed by the operator"]),
-    Figure("without_outcome", "Without an outcome", lambda it: it["booked"]),
+    Figure("without_outcome", "Over, without an outcome", lambda it: it["booked"]),
+    counted("to_come", "To come when the copy was made"),
     counted("pickups_early", "Pickups before the promised window", True),
     counted("pickups_on_time", "Pickups in the promised window", True),
     counted("pickups_late", "Pickups late", True),
@@ -61,7 +62,8 @@ WITHOUT_LOG = ("Without the site's log (--tally) nothing says what was denied, w
                "pickups were on time, or how long riders were aboard.")
 MEANINGS = [
     "A trip counts in the month of its day, and a denial in the month for which it was asked.",
-    "Without an outcome are trips of days to come, and those that nobody ended.",
+    "Without an outcome are trips that nobody ended, of days before the copy was made. Those of its day and later are "
+    "to come.",
     "As planned means by the least service times, which are those of the manifests. A ride's minutes run from the end "
     "of the pickup to the drop.",
     "Vehicle hours run from the first pickup of a vehicle's day to the end of its last drop, on days on which it "

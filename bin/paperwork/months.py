@@ -40,13 +40,14 @@ def months_between(month, last):
 
 
 def count_trips(copy, heard, period, late_minutes, counts):
-    """Counts the trips, and returns how each ended."""
-    status = {}
+    """Counts the trips, and returns how each ended. A trip of the copy's day or later is to come."""
+    status, made = {}, number_of(copy.made_on())
     for trip in trips_of(copy, *map(number_of, period)):
         count = counts[month_of(day_of(trip.day))]
         status[trip.number] = trip.status
         count["trips"] += 1
-        count[copy.status_of(trip.number, trip.status)] += 1
+        is_to_come = trip.status == copies.BOOKED and trip.day >= made
+        count["to_come" if is_to_come else copy.status_of(trip.number, trip.status)] += 1
         if trip.status == copies.CANCELLED:
             count[f"cancelled_{heard.cancellation(trip, late_minutes)}"] += 1
         elif trip.status in ON_THE_ROAD:

@@ -107,13 +107,12 @@ def a_count_that_is_sent_too_often_waits_for_its_turn(at):
         window.fetch = (path, options) => {
             if (!String(path).startsWith("/tally/")) return fetched(path, options);
             window.tries.push(performance.now());
-            return window.tries.length < 3 ? Promise.resolve(new Response("", { status: 429 })) : fetched(path, options);
+            return window.tries.length < 2 ? Promise.resolve(new Response("", { status: 429 })) : fetched(path, options);
         };""")
     denial(at, 602)
     until("it is in the log", lambda: lines(at, "minute=602"))
     tries = at.browser.script("return window.tries")
-    gaps = [later - before for before, later in zip(tries, tries[1:])]
-    holds(f"the pauses grow: {gaps}", len(gaps) == 2 and gaps[0] >= 1_900 and gaps[1] >= 9_000)
+    holds(f"there is a pause: {tries}", len(tries) == 2 and tries[1] - tries[0] >= 1_900)
 
 
 @check
