@@ -17,7 +17,7 @@ from .ending import Failure
 from .places import AGENCY_NAME, SETTINGS
 
 PORT, SHOWN = "8437", ("LoadState", "ActiveState", "Result", "NRestarts", "ExecMainExitTimestamp", "ExecMainStatus")
-OTHER_SETTINGS = ("standby", "watch", "offsite")
+OTHER_SETTINGS = ("standby", "watch", "copies", "offsite")
 MINUTE, HOUR, DAY = 60, 3_600, 86_400
 MOST_RESTARTS, LONGEST_STEP = 3, 15 * MINUTE
 CERTIFICATE_DAYS, BACKUP_AGE, STANDBY_AGE = 21, 25 * HOUR, 20 * MINUTE

@@ -14,7 +14,7 @@ from setting_up.settings import NIGHTLY, Failure
 DESK, SITE, CLOCK = "desk.service", "nginx.service", "systemd-time-wait-sync.service"
 HEALTH = "desk-health.service"
 ALWAYS = [DESK, HEALTH, "desk-watch.timer", "desk-restart.timer", "desk-journal.timer", "desk-record.service",
-          "desk-retention.timer", "desk-today.service"]
+          "desk-retention.timer", "desk-today.service", "desk-driver-files.timer"]
 PORT, SECONDS, SECONDS_OF_SITE, NOBODY = 8437, 120, 30, "no key of anybody"
 
 

@@ -61,7 +61,7 @@ class Followed:
             self.mark = (self.mark + piece)[-MARK:]
             *whole, self.rest = (self.rest + piece).split(b"\n")
             self.rest = self.rest[: LONGEST + 1]
-            yield from whole
+            yield from (it + b"\n" for it in whole)
 
     def last_line(self) -> Iterator[bytes]:
         """A line without its end, of a log that nobody writes any more."""
@@ -144,13 +144,13 @@ class Known:
     first: datetime.date = datetime.date.min
 
     def take(self, lines: Iterable[bytes]) -> bool:
-        """Takes the events of some lines; whether there was a new one."""
+        """Takes the events of some lines with their ends; whether there was a new one."""
         oldest, count = self.first.isoformat().encode(), len(self.events)
         for line in lines:
             if line[:10] < oldest and line[:2] == b"20":
                 continue
             try:
-                told = event_log.told_of(line.rstrip(b"\r"))
+                told = event_log.whole_of(line)
             except ValueError as error:
                 self.broken += 1
                 if self.broken <= 10:

@@ -14,7 +14,7 @@ def check(town: Town) -> None:
         office.bring(town.machine, package, package.name)
     check_without_room(town, f"/root/{later.name}")
     check_with_room(town, f"/root/{later.name}")
-    check_refusal(town, f"/root/{refusing.name}", f"/root/{later.name}")
+    check_refusal(town, f"/root/{refusing.name}")
 
 
 def check_without_room(town: Town, package: str) -> None:
@@ -79,7 +79,7 @@ def check_with_room(town: Town, package: str) -> None:
         )
 
 
-def check_refusal(town: Town, package: str, earlier: str) -> None:
+def check_refusal(town: Town, package: str) -> None:
     """A program that does not open the file: the desk goes on by the earlier one, and the way back is said."""
     checks, machine = town.checks, town.machine
     ran = office.install(machine, package, check=False)
