@@ -4,6 +4,7 @@ docs/SITE-FILES.md defines the file. It is read here and nowhere else among the 
 its place, and what is right is used.
 """
 import collections
+import datetime
 import json
 import os
 import re
@@ -178,6 +179,31 @@ def points(value, where, faults):
     return found
 
 
+def closed_days(value, where, faults):
+    """Days on which nobody is served, each once, with the word that people read of it."""
+    kept = {}
+
+    def read_one(it, at, inner):
+        found = fields_of(it, {"day": day, "name": text}, at, inner)
+        if "day" not in found:
+            raise Fault("it is left out, since its day is missing or wrong")
+        if found["day"] in kept:
+            raise Fault(f"it is left out, since {found['day']} stands above already")
+        kept[found["day"]] = found
+
+    parts(read_one, value, where, faults)
+    return [kept[it] for it in sorted(kept)]
+
+
+def day(value, *_):
+    try:
+        if isinstance(value, str) and datetime.date.fromisoformat(value).isoformat() == value:
+            return value
+    except ValueError:
+        pass
+    raise Fault(f"{shown(value)} is no day, such as \"2026-12-25\"")
+
+
 # Objects and lists of them.
 
 
@@ -264,8 +290,8 @@ ROUTE_PAIRS = [("first", "last", rising, "first and last go together, and first 
 FIELDS = {
     "name": text, "telephone": telephone, "address": lines, "zone": zone, "first_weekday": whole(1, 7),
     "place_word": text, "clock": clock, "languages": several(language, 1),
-    "wait_minutes": whole(0, 60), "idle_minutes": whole(0, LAST_MINUTE), "appeal": obj(APPEAL),
-    "subscription_share": share, "unproved": yes_or_no,
+    "wait_minutes": whole(0, 60), "lead": whole(0, 60), "idle_minutes": whole(0, LAST_MINUTE), "appeal": obj(APPEAL),
+    "subscription_share": share, "closed": closed_days, "unproved": yes_or_no,
     "retention": obj({it: time_kept(it) for it in lengths.DEFAULTS}),
     "places": records(PLACE, ["id"], PLACE_PAIRS),
     "routes": records(ROUTE, ["id", "width", "points"], ROUTE_PAIRS),

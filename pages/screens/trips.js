@@ -7,11 +7,12 @@ import * as desk from "../parts/desk.js";
 import { denialOf } from "../parts/denials.js";
 import { button, part } from "../parts/element.js";
 import { riderLabel } from "../parts/roster.js";
+import { namedBy } from "../parts/said.js";
 import { makeScreen } from "../parts/screen.js";
 import { cancelTrip } from "../parts/tally.js";
 import { t } from "../parts/words.js";
 import { changeFor, statusOf } from "./booking.js";
-import { dollars, party, printTickets, windowOf } from "./ticket.js";
+import { dollars, party, printTickets, requestedWords, windowOf } from "./ticket.js";
 
 /** @typedef {import("../types").Trip} Trip */
 /** @typedef {import("../types").Given} Given */
@@ -33,7 +34,7 @@ const byTime = (/** @type {Trip} */ a, /** @type {Trip} */ b) => a.day.localeCom
 const wayBack = (trips, trip) => trips.filter((it) => it.day === trip.day && it.from === trip.to && it.to === trip.from && it.wish > trip.wish).sort(byTime)[0] ?? null;
 
 /** @param {Trip} trip */
-const byWords = ({ by }) => (by === null ? "" : clock(by));
+const byWords = (trip) => (namedBy(trip) === null ? "" : clock(Number(namedBy(trip))));
 
 /** What came of an action, where the action was.
  * @param {Trip} trip @param {State} state
@@ -44,8 +45,8 @@ const answerOf = ({ trip }, { answers }) => answers[trip] && part("div", { id: `
 
 /** @param {Trip} trip @param {Shown} shown */
 function tripRow(trip, { tools, below, state }) {
-    const { trip: number, day, wish, from, to, due, vehicle, status } = trip, more = below(trip);
-    const cells = [dayInWords(day), part("span", { class: "whole" }, windowOf(trip)), clock(wish), placeName(from), placeName(to), byWords(trip), party(trip), dollars(due),
+    const { trip: number, day, from, to, due, vehicle, status } = trip, more = below(trip);
+    const cells = [dayInWords(day), part("span", { class: "whole" }, windowOf(trip)), requestedWords(trip), placeName(from), placeName(to), byWords(trip), party(trip), dollars(due),
         [vehicleName(vehicle), status !== "booked" && part("small", {}, statusOf(status))]];
     return [part("tr", { key: number }, part("th", { scope: "row" }, String(number)), cells.map((cell) => part("td", {}, cell)),
         part("td", { class: "tools" }, answerOf(trip, state), tools(trip))),
@@ -66,8 +67,8 @@ function tripCard(trip, { tools, below, state }) {
     const status = trip.status === "booked" ? "" : ` (${statusOf(trip.status)})`;
     return part("li", { key: trip.trip }, part("h3", {}, dayInWords(trip.day)),
         part("p", {}, part("strong", {}, t("booking.card-pickup", { window: windowOf(trip) })), status),
-        part("p", {}, t("booking.card-way", { from: placeName(trip.from), to: placeName(trip.to) }), trip.by !== null && ` ${t("booking.card-by", { by: clock(trip.by) })}`),
-        part("p", { class: "hint" }, t("booking.card-more", { trip: trip.trip, wish: clock(trip.wish), due: dollars(trip.due), who: party(trip), vehicle: vehicleName(trip.vehicle) })),
+        part("p", {}, t("booking.card-way", { from: placeName(trip.from), to: placeName(trip.to) }), namedBy(trip) !== null && ` ${t("booking.card-by", { by: byWords(trip) })}`),
+        part("p", { class: "hint" }, t("booking.card-more", { trip: trip.trip, said: requestedWords(trip), due: dollars(trip.due), who: party(trip), vehicle: vehicleName(trip.vehicle) })),
         answerOf(trip, state), tools(trip), below(trip));
 }
 

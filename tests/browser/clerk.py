@@ -179,7 +179,7 @@ def a_note_of_one_kind_is_there_once(at):
         at.town.number += 100_000
         at.town.post("clerk", "/riders", {"id": 1600, "kind": "resident", "attendant": False, "wheelchair": False})
         at.browser.fill_all({"From": "library", "To": "senior", "Day": "2025-03-20",
-                             "Wished time of the pickup": "2 pm"})
+                             "Pickup time": "2 pm"})
         at.browser.press(BOOK)
         until("the booking is answered or asked about", lambda: at.browser.script(
             "return !!document.querySelector('.legs .ticket, .legs .refused, dialog')"))

@@ -123,6 +123,8 @@ export const words = {
     "admin.en": "English alone",
     "admin.es": "Spanish alone",
     "admin.of-wait_minutes": "Minutes that a driver waits at a pickup",
+    "admin.of-lead": "Minutes that a pickup may begin before the time that a rider names",
+    "admin.lead-hint": "A trip around 9:00 is first looked for from so many minutes before 9:00 on.",
     "admin.of-idle_minutes": "Minutes without use, after which a screen signs out; 0 is never",
     "admin.of-to": "An appeal goes to",
     "admin.of-appeal_address": "Address for appeals",

@@ -123,6 +123,8 @@ export const words = {
     "admin.en": "solo inglés",
     "admin.es": "solo español",
     "admin.of-wait_minutes": "Minutos que un conductor espera en una recogida",
+    "admin.of-lead": "Minutos que una recogida puede empezar antes de la hora que nombra el pasajero",
+    "admin.lead-hint": "Un viaje «alrededor de las 9:00» se busca primero desde tantos minutos antes de las 9:00.",
     "admin.of-idle_minutes": "Minutos sin uso tras los que una pantalla sale; 0 es nunca",
     "admin.of-to": "Una apelación va a",
     "admin.of-appeal_address": "Dirección para apelaciones",
