@@ -7,6 +7,7 @@ import shutil
 import socket
 import subprocess
 import sys
+import threading
 import time
 
 from office_parts import building, proxy
@@ -41,6 +42,33 @@ def derive(top, folder, is_unproved):
         served = json.load(file)
     if is_unproved and served.get("unproved") is not True:
         building.write_text(public, json.dumps({**served, "unproved": True}, ensure_ascii=False) + "\n")
+
+
+class DriversFiles:
+    """Makes the files of each van's driver, and makes them anew every two minutes, as desk-driver-files.timer does."""
+
+    PAUSE = 120
+
+    def __init__(self, top, folder, key, desk_port):
+        self.env = {**os.environ, "PYTHONPATH": f"{top}/python", "PYTHONDONTWRITEBYTECODE": "1"}
+        self.words = [sys.executable, "-m", "desk_tools.driver_files", f"{folder}/{SITE}"]
+        self.words += ["--url", f"http://127.0.0.1:{desk_port}", "--key", "/dev/stdin"]
+        self.key, self.ended = key, threading.Event()
+        self.make()
+        threading.Thread(target=self.go_on, daemon=True).start()
+
+    def make(self):
+        subprocess.run(self.words, input=self.key, text=True, capture_output=True, env=self.env, check=False)
+
+    def go_on(self):
+        while not self.ended.wait(self.PAUSE):
+            self.make()
+
+    def has_ended(self):
+        return False
+
+    def stop(self):
+        self.ended.set()
 
 
 def list_waiting(top, folder, work):

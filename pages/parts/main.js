@@ -2,6 +2,7 @@
 
 import { agency, forgetPlaces, loadAgency, loadPlaces, troubles } from "./agency.js";
 import { asked } from "./ask.js";
+import { plus, today } from "./clock.js";
 import * as desk from "./desk.js";
 import { denialOf } from "./denials.js";
 import { button, drawInto, found, make, part, say } from "./element.js";
@@ -233,6 +234,12 @@ async function signOut(words) {
     say(words);
 }
 
+/** A screen has found that nobody has the key any more, and what was read with it is gone.
+ * @param {any} event */
+function keyGone({ detail }) {
+    detail.left = signOut(detail.said).then(() => note("key", detail.shown));
+}
+
 /** Who does nothing for long is signed out, and is told a minute before. */
 async function lookIdle() {
     const minutes = agency().idle_minutes, idle = Date.now() - active;
@@ -257,12 +264,29 @@ async function finish() {
     if (reply) note("finished", reply.denied ? [part("p", {}, t("common.was-denied")), denialOf(reply)] : t("common.was-done"));
 }
 
+/** Asks at once for what the screen takes that will be shown, while the agency's file is on its way. */
+function askAhead() {
+    const screen = wanted().screen ?? screenOf(kept(SCREEN) ?? "");
+    for (const name of screen?.first ?? []) document.head.append(make("link", { rel: "modulepreload", href: name }));
+    if (screen?.first) useStyles(screen.styles[0]);
+}
+
+askAhead();
+/** A phone that a driver has used drops manifests that are two days old, whoever opens these pages on it. */
+async function forgetManifests() {
+    const stores = await globalThis.indexedDB?.databases?.().catch(() => []) ?? [];
+    if (!stores.some(({ name }) => name === "desk")) return;
+    const { forgetDaysBefore } = await import("./manifest-copies.js");
+    await forgetDaysBefore(plus(today(), -1));
+}
+
 whenRefused(showCounts);
 desk.whenOthersWrote(() => note("others", t("common.others-wrote")));
 await Promise.all([loadAgency(), desk.comeBack()]);
 await chooseLanguage(languageFor(agency().languages));
 await useWords("common", "denials", "fields", "signing");
 window.addEventListener("hashchange", () => show());
+window.addEventListener("desk.key-gone", keyGone);
 for (const event of ["pointerdown", "keydown", "scroll"]) window.addEventListener(event, isActive, { passive: true, capture: true });
 found("skip").addEventListener("click", (event) => {
     event.preventDefault();
@@ -271,3 +295,4 @@ found("skip").addEventListener("click", (event) => {
 setInterval(lookIdle, LOOKED);
 await show();
 if (desk.signedIn()) finish();
+forgetManifests().catch(() => {});
