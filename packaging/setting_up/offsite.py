@@ -1,10 +1,10 @@
-"""Where copies go beside this machine: /etc/desk/offsite.conf, of which only the place is desk-setup's."""
+"""Where copies go beside this machine: /etc/desk/copies.conf, of which only the place is desk-setup's."""
 import os
 import re
 
 from setting_up.settings import NO_OFFSITE
 
-CONF = "/etc/desk/offsite.conf"
+CONF = "/etc/desk/copies.conf"
 HEAD = """# By desk-setup; see "Copies elsewhere" in BACKUPS.md. OFFSITE is a mounted folder, MACHINE:/FOLDER by ssh, or none yet.
 # RECIPIENT=, a public key of age or gpg (or its path), encrypts what goes there. SSH= reaches the machine.
 """

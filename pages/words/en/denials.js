@@ -2,7 +2,7 @@
 
 /** @type {Record<string, import("../../parts/words.js").Text>} */
 export const words = {
-    "denials.desk.key": "Nobody has this key.",
+    "denials.desk.key": "We don't recognize this key.",
     "denials.desk.key/help": "Type it again. Capital and small letters are different. Ask the admin for a new key if it is lost.",
     "denials.desk.number": "Another window or device wrote with the same key.",
     "denials.desk.number/help": "Your request may have been done or not. Look at the list before you send it again.",
@@ -45,7 +45,7 @@ export const words = {
     "denials.37.127": "This rider is a visitor, who has no case file.",
     "denials.37.127/help": "A visitor needs no application. Book the trip.",
     "denials.37.125": "The rider has no right to ride on this day: nothing is granted, or the grant ends before it.",
-    "denials.37.125/help": "Take an application, or choose a day that the grant has.",
+    "denials.37.125/help": "Take an application, or choose a day that the grant has. An application that waits counts from its 21st day.",
     "denials.37.125(c)": "This is out of turn: an application waits for its decision already, or none waits.",
     "denials.37.125(c)/help": "Read the letters of this case. Decide what waits, or take an application first.",
     "denials.37.125(e)": "The last day of the grant is before today.",
@@ -58,12 +58,12 @@ export const words = {
     "denials.37.125(h) trip/help": "Choose a day after the suspension. An appeal lets the rider travel until it is decided.",
     "denials.37.127(e)": "The visitor has used the 21 days of this year.",
     "denials.37.127(e)/help": "A visitor who stays longer can apply as a resident does.",
-    "denials.37.123(b)": "No condition of the rider's grant holds of this trip.",
+    "denials.37.123(b)": "This trip isn't covered by the rider's eligibility conditions.",
     "denials.37.123(b)/help": "Read the conditions in the last letter. Choose another day or place, or take the bus for this trip.",
     "denials.37.123(f)": "This party is too large: one companion may come, and an attendant only where the rider's record names one.",
     "denials.37.123(f)/help": "Book with fewer people, or change the rider's record.",
     "denials.37.131(a)": "The pickup or the drop is too far from every bus line.",
-    "denials.37.131(a)/help": "Choose a place inside a corridor on the map.",
+    "denials.37.131(a)/help": "Choose a place closer to a bus line.",
     "denials.desk.over cancel": "It is too late to cancel: the promised time has come, or the trip was cancelled or has ended.",
     "denials.desk.over cancel/help": "Call the agency, and say that nobody has to come.",
     "denials.37.131(b)": "A trip is booked from tomorrow to 14 days ahead.",

@@ -2,7 +2,7 @@
 
 /** @type {Record<string, import("../../parts/words.js").Text>} */
 export const words = {
-    "denials.desk.key": "Nadie tiene esta clave.",
+    "denials.desk.key": "No reconocemos esta clave.",
     "denials.desk.key/help": "Escríbala otra vez. Las mayúsculas y las minúsculas son distintas. Si se perdió, pida una clave nueva al administrador.",
     "denials.desk.number": "Otra ventana u otro aparato escribió con la misma clave.",
     "denials.desk.number/help": "Su solicitud puede haberse hecho o no. Mire la lista antes de enviarla otra vez.",
@@ -45,7 +45,7 @@ export const words = {
     "denials.37.127": "Este pasajero es visitante y no tiene expediente.",
     "denials.37.127/help": "Un visitante no necesita solicitud. Reserve el viaje.",
     "denials.37.125": "El pasajero no tiene derecho a viajar ese día: no hay nada concedido, o la concesión termina antes.",
-    "denials.37.125/help": "Reciba una solicitud, o elija un día que la concesión incluya.",
+    "denials.37.125/help": "Reciba una solicitud, o elija un día que la concesión incluya. Una solicitud pendiente vale a partir del día 21.",
     "denials.37.125(c)": "Esto está fuera de orden: una solicitud ya espera su decisión, o no espera ninguna.",
     "denials.37.125(c)/help": "Lea las cartas de este caso. Decida lo que espera, o reciba primero una solicitud.",
     "denials.37.125(e)": "El último día de la concesión es anterior a hoy.",
@@ -58,12 +58,12 @@ export const words = {
     "denials.37.125(h) trip/help": "Elija un día después de la suspensión. Una apelación permite viajar hasta que se decida.",
     "denials.37.127(e)": "El visitante ya usó los 21 días de este año.",
     "denials.37.127(e)/help": "Un visitante que se queda más tiempo puede presentar una solicitud como un residente.",
-    "denials.37.123(b)": "Ninguna condición de la concesión del pasajero se cumple en este viaje.",
+    "denials.37.123(b)": "Las condiciones de elegibilidad del pasajero no cubren este viaje.",
     "denials.37.123(b)/help": "Lea las condiciones en la última carta. Elija otro día u otro lugar, o tome el autobús para este viaje.",
     "denials.37.123(f)": "Son demasiadas personas: puede venir un acompañante, y un asistente solo si consta en el registro del pasajero.",
     "denials.37.123(f)/help": "Reserve con menos personas, o cambie el registro del pasajero.",
     "denials.37.131(a)": "El punto de recogida o el de llegada está demasiado lejos de todas las líneas de autobús.",
-    "denials.37.131(a)/help": "Elija un lugar dentro de un corredor del mapa.",
+    "denials.37.131(a)/help": "Elija un lugar más cerca de una línea de autobús.",
     "denials.desk.over cancel": "Es demasiado tarde para cancelar: la hora prometida ya llegó, o el viaje se canceló o ya terminó.",
     "denials.desk.over cancel/help": "Llame a la agencia y diga que no hace falta que venga nadie.",
     "denials.37.131(b)": "Un viaje se reserva desde mañana hasta 14 días después.",
