@@ -14,6 +14,7 @@ from office_parts import building, proxy
 from office_parts.serving import Trouble, end
 
 SITE, NGINX, TALLY, WAITING = "site", "nginx", "nginx/tally.log", "staff/worklist.html"
+DAY = "staff/today.json"
 # Lines of the site that only TLS has a use for.
 OF_TLS = re.compile(r"^ *(ssl_\w+|http2_\w+|add_header Strict-Transport-Security) .*;\n", re.MULTILINE)
 SSL = re.compile(r"^ *(listen .*ssl|ssl_)", re.MULTILINE)
@@ -147,6 +148,21 @@ class Nginx:
                 if lines:
                     return lines[-1]
         return "it says nothing"
+
+    def stop(self):
+        end(self.process)
+
+
+class Day:
+    """What makes the file of the day out of the log of counts."""
+
+    def __init__(self, top, folder):
+        served = f"{folder}/{SITE}"
+        os.makedirs(f"{served}/staff", exist_ok=True)
+        words = [f"{top}/deploy/today", f"{folder}/{TALLY}", f"{served}/{DAY}", "--agency", f"{served}/agency.json"]
+        self.process = subprocess.Popen(
+            words, stdout=subprocess.DEVNULL, stderr=subprocess.DEVNULL, stdin=subprocess.DEVNULL, start_new_session=True
+        )
 
     def stop(self):
         end(self.process)

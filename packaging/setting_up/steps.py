@@ -20,7 +20,7 @@ AGENCY, SERVED, WATCH = "/etc/desk/agency.json", "/var/lib/desk-site", "/etc/des
 NGINX, SITE, FILES_OF_NGINX = "/etc/nginx/nginx.conf", "/etc/nginx/conf.d/desk.conf", "/etc/nginx/modules-enabled/90-desk.conf"
 TLS, UNITS, SHIPPED = "/etc/ssl/desk", "/etc/systemd/system", "/lib/systemd/system"
 JAVASCRIPT = "/usr/lib/nginx/modules/ngx_http_js_module.so"
-CONNECTIONS = 16_384
+CONNECTIONS, TOLD = 16_384, "/var/log/desk/tally.log"
 
 
 def make_file(changes):
@@ -112,6 +112,7 @@ def make_site(changes, settings, lines):
         text = re.sub(r"(listen (?:\[::\]:)?)443\b", rf"\g<1>{settings['port']}", text)
         text = text.replace("https://$server_name$request_uri", f"https://$server_name:{settings['port']}$request_uri")
     make_record()
+    make_log()
     if is_by_hand(SITE, before().get("site")):
         changes.write(f"{SITE}.new", text)
         lines.append(f"{SITE} was changed by hand and stays. Compare it with {SITE}.new, which this version would serve.")
@@ -125,6 +126,15 @@ def make_site(changes, settings, lines):
         changes.write(NGINX, whole.replace(found[0], f"worker_connections {CONNECTIONS};"))
     changes.write(FILES_OF_NGINX, "worker_rlimit_nofile 40000;\n")
     run("nginx", "-t")
+
+
+def make_log():
+    """The log of what the site is told. A driver's note may name a rider, so it is for the site and the group adm."""
+    os.makedirs(os.path.dirname(TOLD), exist_ok=True)
+    with open(TOLD, "ab"):
+        os.chmod(TOLD, 0o640)
+    with contextlib.suppress(LookupError):
+        shutil.chown(TOLD, "www-data", "adm")
 
 
 def make_record():

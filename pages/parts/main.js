@@ -83,8 +83,9 @@ function showTroubles(screen) {
 /** What of the counts could not be kept is one line for those who can do something about it.
  * @param {import("./tally.js").Trouble} trouble */
 function showCounts({ refused, loose }) {
-    const isStaff = [...STAFF, "admin"].includes(wanted().screen?.id ?? ""), what = refused.map(({ kind, refused: why }) => ({ kind, why }));
-    if (refused.length && isStaff) note("counts", t("common.counts-refused", { what }));
+    const isStaff = [...STAFF, "admin"].includes(wanted().screen?.id ?? ""), what = [...new Map(refused.map(({ kind, refused: why }) => [`${kind} ${why}`,
+        { kind, why }])).values()];
+    if (refused.length && isStaff) note("counts", t("common.counts-refused", { count: refused.length, what }));
     else dropNote("counts");
     if (loose && isStaff) note("counts-loose", t("common.counts-loose", { count: loose }));
     else dropNote("counts-loose");
