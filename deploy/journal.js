@@ -61,8 +61,9 @@ function addBody(line, r, key) {
 
 function pathOf(r, key) {
     const sent = r.variables.request_uri || '', at = sent.indexOf('?');
-    const path = r.uri.startsWith('/tally/') || at < 0 ? sent : sent.slice(0, at);
-    if (r.uri.startsWith('/tally/')) return (key && key.length > 7 ? path.split(key.toString()).join('(key)') : path).slice(0, MOST_PATH);
+    const isWhole = r.uri.startsWith('/tally/') || r.uri.startsWith('/record/');
+    const path = isWhole || at < 0 ? sent : sent.slice(0, at);
+    if (isWhole) return (key && key.length > 7 ? path.split(key.toString()).join('(key)') : path).slice(0, MOST_PATH);
     return without(key, path).slice(0, MOST_PATH);
 }
 

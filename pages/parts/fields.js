@@ -5,6 +5,7 @@ import { asked, choose } from "./ask.js";
 import { clock, clock24, isDay, readTime, weekdays } from "./clock.js";
 import { denialOf } from "./denials.js";
 import { drawInto, element, fresh, make, part, say } from "./element.js";
+import { waysOf } from "./halves.js";
 import { FIRST_DAY, HIGHEST_FARE, HIGHEST_ID, LAST_DAY, MOST_REASONS } from "./limits.js";
 import { plainOf } from "./plain.js";
 import { counted, t } from "./words.js";
@@ -238,15 +239,6 @@ export async function valuesOf(fields, check = () => null) {
         ways = ways.filter((way) => way[it.name] === minute);
     }
     return ways[0];
-}
-
-/** All ways to read the times of which the half of the day is open: those that are possible, and where none is, all.
- * @param {{ name: string, halves: number[] }[]} open @param {Record<string, any>} sure @param {(values: any) => any} check @returns {Record<string, any>[]}
- */
-export function waysOf(open, sure, check) {
-    const all = open.reduce((ways, { name, halves }) => ways.flatMap((way) => halves.map((half) => ({ ...way, [name]: half }))), [sure]);
-    const possible = all.filter((way) => !check(way));
-    return possible.length ? possible : all;
 }
 
 /** Which half of the day is meant.

@@ -2,6 +2,7 @@
 
 import { agency, forgetPlaces, loadAgency, loadPlaces, troubles } from "./agency.js";
 import { asked } from "./ask.js";
+import { plus, today } from "./clock.js";
 import * as desk from "./desk.js";
 import { denialOf } from "./denials.js";
 import { button, drawInto, found, make, part, say } from "./element.js";
@@ -82,8 +83,9 @@ function showTroubles(screen) {
 /** What of the counts could not be kept is one line for those who can do something about it.
  * @param {import("./tally.js").Trouble} trouble */
 function showCounts({ refused, loose }) {
-    const isStaff = [...STAFF, "admin"].includes(wanted().screen?.id ?? ""), what = refused.map(({ kind, refused: why }) => ({ kind, why }));
-    if (refused.length && isStaff) note("counts", t("common.counts-refused", { what }));
+    const isStaff = [...STAFF, "admin"].includes(wanted().screen?.id ?? ""), what = [...new Map(refused.map(({ kind, refused: why }) => [`${kind} ${why}`,
+        { kind, why }])).values()];
+    if (refused.length && isStaff) note("counts", t("common.counts-refused", { count: refused.length, what }));
     else dropNote("counts");
     if (loose && isStaff) note("counts-loose", t("common.counts-loose", { count: loose }));
     else dropNote("counts-loose");
@@ -241,6 +243,12 @@ function showBoard(isOn) {
     for (const it of [found("main"), found("parts"), ...document.querySelectorAll(".top")]) /** @type {HTMLElement} */ (it).inert = isOn;
 }
 
+/** A screen has found that nobody has the key any more, and what was read with it is gone.
+ * @param {any} event */
+function keyGone({ detail }) {
+    detail.left = signOut(detail.said).then(() => note("key", detail.shown));
+}
+
 /** Who does nothing for long is signed out, and is told a minute before. */
 async function lookIdle() {
     const { idle_minutes: limit, board_minutes: board } = agency(), idle = Date.now() - active;
@@ -275,12 +283,29 @@ async function finish() {
     if (reply) note("finished", reply.denied ? [part("p", {}, t("common.was-denied")), denialOf(reply)] : t("common.was-done"));
 }
 
+/** Asks at once for what the screen takes that will be shown, while the agency's file is on its way. */
+function askAhead() {
+    const screen = wanted().screen ?? screenOf(kept(SCREEN) ?? "");
+    for (const name of screen?.first ?? []) document.head.append(make("link", { rel: "modulepreload", href: name }));
+    if (screen?.first) useStyles(screen.styles[0]);
+}
+
+askAhead();
+/** A phone that a driver has used drops manifests that are two days old, whoever opens these pages on it. */
+async function forgetManifests() {
+    const stores = await globalThis.indexedDB?.databases?.().catch(() => []) ?? [];
+    if (!stores.some(({ name }) => name === "desk")) return;
+    const { forgetDaysBefore } = await import("./manifest-copies.js");
+    await forgetDaysBefore(plus(today(), -1));
+}
+
 whenRefused(showCounts);
 desk.whenOthersWrote(() => note("others", t("common.others-wrote")));
 await Promise.all([loadAgency(), desk.comeBack()]);
 await chooseLanguage(languageFor(agency().languages));
 await useWords("common", "denials", "fields", "signing");
 window.addEventListener("hashchange", () => show());
+window.addEventListener("desk.key-gone", keyGone);
 for (const event of ["pointerdown", "keydown", "scroll"]) window.addEventListener(event, isActive, { passive: true, capture: true });
 found("skip").addEventListener("click", (event) => {
     event.preventDefault();
@@ -289,3 +314,4 @@ found("skip").addEventListener("click", (event) => {
 setInterval(lookIdle, LOOKED);
 await show();
 if (desk.signedIn()) finish();
+forgetManifests().catch(() => {});

@@ -8,6 +8,7 @@ import { form } from "./fields.js";
 import { HIGHEST_ID } from "./limits.js";
 import { findRiders, folded, riderLabel, riderName, rosterSize } from "./roster.js";
 import { makeScreen } from "./screen.js";
+import { vehicleMeant, vehiclesFor as vehiclesIn } from "./vehicle-number.js";
 import { t } from "./words.js";
 
 /** @typedef {"rider" | "vehicle"} What */
@@ -30,46 +31,59 @@ function numberIn(typed) {
 const ridersFor = (typed) => findRiders(typed, 12).map(({ rider, name, telephone, note }) => ({ id: rider, text: `${name} (${rider})`,
     note: [telephone, note].filter(Boolean).join(" · ") }));
 
+const named = () => vehicles().map(({ id, name }) => ({ id, name: folded(name ?? "") }));
+
 /** @param {string} typed */
-const vehiclesFor = (typed) => vehicles().filter(({ id, name }) => folded(`${name ?? ""} ${id}`).includes(folded(typed.trim())))
-    .map(({ id }) => ({ id, text: `${vehicleName(id)} (${id})` }));
+const vehiclesFor = (typed) => vehiclesIn(folded(typed.trim()), named()).map(({ id }) => ({ id, text: vehicleText(id) }));
+
+/** A van as it stands in the field: its name and its number.
+ * @param {number} id */
+const vehicleText = (id) => (vehicles().some((it) => it.id === id && it.name) ? `${vehicleName(id)} (${id})` : String(id));
+
+/** The rider that is meant.
+ * @param {string} typed */
+function riderMeant(typed) {
+    const number = numberIn(typed);
+    if (number !== null || !typed.trim()) return number;
+    const found = ridersFor(typed);
+    return found.length === 1 ? found[0].id : null;
+}
+
+/** @type {Record<What, { search: (typed: string) => import("./combo.js").Choice[], meant: (typed: string) => number | null, textOf: (id: number) => string, wants: (typed: string) => string }>} */
+const KINDS = {
+    rider: { search: ridersFor, meant: riderMeant, textOf: String,
+        wants: (typed) => t(typed.trim() && rosterSize() ? "fields.rider-none" : "fields.id", { most: HIGHEST_ID }) },
+    vehicle: { search: vehiclesFor, meant: (typed) => vehicleMeant(folded(typed.trim()), named(), HIGHEST_ID), textOf: vehicleText,
+        wants: (typed) => t(typed.trim() && vehiclesFor(typed).length > 1 ? "fields.vehicle-which" : "fields.vehicle-none") },
+};
 
 /** A field for a number, which is found by a name too.
  * @param {What} what @param {string} label @param {() => void} chosen
  */
-function subjectField(what, label, chosen) {
-    const search = what === "rider" ? ridersFor : vehiclesFor;
-    const meant = (/** @type {string} */ typed) => {
-        const number = numberIn(typed);
-        if (number !== null || !typed.trim()) return number;
-        const found = search(typed);
-        return found.length === 1 ? found[0].id : null;
-    };
-    return comboField(what, label, { search, meant, textOf: String, chosen, sends: true, marks: (typed) => !/^[\d\s]+$/.test(typed),
-        hint: what === "rider" && rosterSize() ? t("fields.rider-hint") : undefined,
-        wants: (typed) => t(typed.trim() && rosterSize() ? "fields.rider-none" : "fields.id", { most: HIGHEST_ID }) });
-}
+const subjectField = (what, label, chosen) => comboField(what, label, { ...KINDS[what], chosen, sends: true, marks: (typed) => !/^[\d\s]+$/.test(typed),
+    hint: what === "rider" && rosterSize() ? t("fields.rider-hint") : undefined });
 
 /** A field for the number, and below it what draw(number) gives of the number that was chosen. Where one person has one number, the field is
  * folded away once it is known. focus names the element that has the focus once a number was chosen.
- * @param {{ what: What, label: string, action: string, draw: (id: number) => any, folded?: boolean, focus?: string }} given */
-export function withSubject({ what, label, action, draw, folded: folds = false, focus = `${what}-below` }) {
+ * @param {{ what: What, label: string, action: string, draw: (id: number) => any, folded?: boolean, focus?: string, change?: string }} given
+ *     change: what the folded field says where what is below tells whose it is */
+export function withSubject({ what, label, action, draw, folded: folds = false, focus = `${what}-below`, change: other = "" }) {
     /** @type {any} */
     let tools = null;
     const field = subjectField(what, label, () => tools?.change({ typed: field.control.value.trim() }));
     const ask = form({ name: label, fields: [field], action, class: "inline", send: async (values) => ({ value: values[what] }), done: (id) => {
         keepSubject(what, id);
         field.write(id);
-        tools.change({ shown: id, typed: String(id), open: false }, { focus });
+        tools.change({ shown: id, typed: textOf(id), open: false }, { focus });
     } });
-    const first = subjectOf(what);
+    const first = subjectOf(what), { textOf, meant } = KINDS[what];
     if (first) field.write(first);
     return makeScreen({
-        state: { shown: first, typed: String(first ?? ""), open: !first },
+        state: { shown: first, typed: first ? textOf(first) : "", open: !first },
         draw: ({ shown, typed, open }, { kept, change }) => {
             tools = { change };
-            const same = shown !== null && String(shown) === typed, name = shown !== null && what === "rider" ? riderName(shown) : "";
-            const summary = part("summary", {}, shown === null ? t("fields.type-number") : `${label}: ${shown}`);
+            const same = shown !== null && meant(typed) === shown, name = shown !== null && what === "rider" ? riderName(shown) : "";
+            const summary = part("summary", {}, shown === null ? t("fields.type-number") : other || `${label}: ${textOf(shown)}`);
             return [folds ? part("details", { class: "folded", open: open || !same, on: { toggle: (event) => change({ open: event.target.open }) } }, summary, ask)
                 : part("div", { class: "card" }, ask, same && name && part("p", { class: "whose" }, riderLabel(shown))),
             shown !== null && !same && part("p", { class: "note", role: "status" }, t("fields.other-number", { typed: typed || "…", action })),

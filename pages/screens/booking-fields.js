@@ -1,6 +1,6 @@
 // The fields of a wish: places, days, times, who comes along.
 
-import { placeName } from "../parts/agency.js";
+import { closedOn, placeName } from "../parts/agency.js";
 import { bookableDays, dayInWords, dayShort } from "../parts/clock.js";
 import { drawInto, fresh, make, part, say } from "../parts/element.js";
 import { placeField, radioField, tickField, timeField } from "../parts/fields.js";
@@ -11,6 +11,16 @@ import { MODES } from "../parts/wishes.js";
 import { t } from "../parts/words.js";
 
 /** @typedef {import("../types").Field} Field */
+
+/** A day as the list has it; one on which nobody is served says so.
+ * @param {string} day
+ */
+const dayChoice = (day) => (closedOn(day) === null ? dayInWords(day) : t("booking.day-closed", { day: dayInWords(day), name: closedOn(day) }));
+
+/** What is wrong of a day on which nobody is served, or null.
+ * @param {string} day
+ */
+const closedFault = (day) => (day && closedOn(day) !== null ? t("booking.closed-wants", { day: dayShort(day), name: closedOn(day) }) : null);
 
 /** The day of a wish, and further days below it where several may be booked at once. Its list is that of the present day.
  * @param {{ several: boolean }} options @returns {Field & { renew: () => void }}
@@ -28,21 +38,22 @@ export function daysField({ several }) {
     };
     const renew = () => {
         const days = bookableDays(), gone = control.value && !days.includes(control.value), chosen = gone ? "" : control.value;
-        drawInto(control, [part("option", { value: "", key: "none" }, t("booking.choose")), days.map((day) => part("option", { value: day, key: day }, dayInWords(day)))]);
+        drawInto(control, [part("option", { value: "", key: "none" }, t("booking.choose")), days.map((day) => part("option", { value: day, key: day }, dayChoice(day)))]);
         control.value = chosen;
         [...ticked].filter((day) => !days.includes(day)).forEach((day) => ticked.delete(day));
-        drawInto(more, days.filter((day) => day !== chosen).map((day) => part("div", { class: "tick", key: day }, part("input", { type: "checkbox",
+        drawInto(more, days.filter((day) => day !== chosen && closedOn(day) === null).map((day) => part("div", { class: "tick", key: day }, part("input", { type: "checkbox",
             id: `${id}-${day}`, checked: ticked.has(day), on: { change: (event) => (event.target.checked ? ticked.add(day) : ticked.delete(day)) } }),
         part("label", { for: `${id}-${day}` }, dayShort(day)))));
         if (gone) tell(t("booking.day-gone"));
     };
     control.addEventListener("change", () => {
-        tell("");
+        tell(closedFault(control.value));
         ticked.delete(control.value);
         renew();
     });
     const read = () => {
-        const days = bookableDays().filter((day) => day === control.value || (several && ticked.has(day)));
+        const days = bookableDays().filter((day) => day === control.value || (several && ticked.has(day))), closed = days.map(closedFault).find(Boolean);
+        if (closed) return { fault: closed };
         return control.value && days.includes(control.value) ? { value: days } : { fault: wants };
     };
     const write = (/** @type {string | string[]} */ given) => {

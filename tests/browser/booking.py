@@ -65,7 +65,7 @@ def begin(at, number=None, holder="second clerk"):
 def results(at, count):
     wait_for(at, f"{count} results", f"""document.querySelectorAll('.legs .ticket, .legs .refused').length === {count}
         && !document.querySelector('.legs .waiting') && document.activeElement !== document.body""")
-    return at.browser.script("return document.querySelector('.results').innerText")
+    return at.browser.script("return [...document.querySelectorAll('.results')].map((it) => it.innerText).join('\\n')")
 
 
 MATTERS = {"around": "Around this time (up to 1 hour early or late)", "not-before": "Not before this time",
@@ -490,7 +490,7 @@ def before_the_lines_end_no_pickup_before_a_minute_asks_nearer_minutes(at):
 @check
 def at_the_end_of_the_day_the_desk_is_asked(at):
     begin(at, "1002")
-    wish(at, start="library", goal="senior", day=FRIDAY, wish="11:00 pm", matters="not-before")
+    wish(at, start="school", goal="riverside", day=FRIDAY, wish="11:00 pm", matters="not-before")
     at.browser.requests()
     at.browser.press(BOOK)
     told = results(at, 1)
@@ -537,7 +537,7 @@ def a_change_that_is_denied_says_how_the_trip_stands(at):
     at.browser.press(f"Change trip {trip['trip']} of Walter Hughes (1007)")
     wait_for(at, "the form of the change", f"document.activeElement.id === 'change-{trip['trip']}'")
     whole = at.browser.script("return [...document.querySelectorAll('form')].at(-1)")
-    at.browser.fill("Pickup time", "5:10 am", whole)
+    at.browser.fill("Pickup time", "4:00 am", whole)
     at.browser.requests()
     for _ in range(2):
         at.browser.press(f"Change trip {trip['trip']} of Walter Hughes (1007)", within=whole)
@@ -547,7 +547,7 @@ def a_change_that_is_denied_says_how_the_trip_stands(at):
     holds(f"nothing is said of a booking: {told}", "Not booked" not in told)
     stands = next(it for it in at.town.trips_of(1007) if it["trip"] == trip["trip"])
     same("the trip", trip, stands)
-    asked = counted_in(at, "denials", "minute=310")
+    asked = counted_in(at, "denials", "minute=240")
     same("its denial is counted once", 1, len({it for it in asked if "/tally/denials" in it}))
 
 
@@ -619,3 +619,20 @@ def the_way_there_stands_where_the_way_back_is_denied(at):
     trip = last_trip(at, 1005)
     holds(f"what stands: {told}", f"The way there stands: trip {trip['trip']}, Fri, Mar 14" in told and "There is no way back yet." in told)
     holds(f"the reason is that of the way back: {told}", "Not booked: Fri, Mar 14, around 11:15 PM, from Senior Center to Public Library" in told)
+
+
+@check
+def a_closed_day_is_said_at_the_field_before_anything_is_sent(at):
+    right = at.town.answer("/agency.json")[2]
+    closed = {**json.loads(right), "closed": [{"day": FRIDAY, "name": "Founders Day"}]}
+    at.town.write_file("agency.json", json.dumps(closed).encode())
+    try:
+        before = len(at.town.trips_of(1005))
+        begin(at, "1005")
+        wish(at, start="library", goal="senior", day=FRIDAY, wish="3 pm")
+        at.browser.sees("There is no service on Fri, Mar 14 (Founders Day). Choose another day.")
+        at.browser.press(BOOK)
+        at.browser.sees("There is no service on Fri, Mar 14 (Founders Day). Choose another day.")
+        same("trips", before, len(at.town.trips_of(1005)))
+    finally:
+        at.town.write_file("agency.json", right if isinstance(right, bytes) else right.encode())

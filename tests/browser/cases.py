@@ -77,7 +77,7 @@ def a_letter_on_paper_has_head_text_and_the_right_of_appeal(at):
     at.browser.fill("Size", "large print, 18 points")
     paper = at.browser.print_by("Print letter 1 of rider 1009")
     plain = " ".join(paper.text.split())
-    for words in ["Usted puede apelar hasta el viernes, 9 de mayo de 2025", "DECISION refused", "Tiene derecho a una audiencia"]:
+    for words in ["Usted puede apelar hasta el viernes 9 de mayo de 2025", "DECISION refused", "Tiene derecho a una audiencia"]:
         holds(f"{words!r} is not on the paper: {plain}", words in plain)
     holds(f"small print: {paper.smallest()}", paper.smallest()[0] >= 17.9)
     same("words beyond the edge", [], paper.outside())

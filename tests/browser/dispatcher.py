@@ -374,6 +374,7 @@ def what_needs_a_person_stands_on_top_and_leads_to_its_row(at):
 
 @check
 def the_day_fills_the_window_and_trips_begin_above_the_fold(at):
+    sign_in(at, DAY, "23:00", "trips")
     for width, height, vans in [(1366, 768, 14), (2560, 1440, 32)]:
         with at.browser.screen(width, height):
             at.browser.script(READS_MADE, 36, 700)

@@ -52,13 +52,15 @@ def trips_are_cards_with_the_wish_and_cancelled_ones_apart(at):
 @check
 def a_trip_is_booked_again_from_its_card(at):
     at.town.book(1006, "2025-03-14", 900, 7, 9)
-    trip = last_trip(at, 1006)["trip"]
+    promised = last_trip(at, 1006)
     sign_in(at, 1006, "trips")
     show(at, 1006)
-    at.browser.press(f"Book trip {trip} again on another day")
+    at.browser.press(f"Book trip {promised['trip']} again on another day")
     at.browser.find("button", re.compile("^Book the trip"))
     at.browser.sees("Pickup time")
-    same("the wish", "3:00 PM", at.browser.value("Pickup time"))
+    hour, minute = divmod(promised["window_from"], 60)
+    same("the promised time, where nobody knows what was said", f"{hour % 12 or 12}:{minute:02} {'AM' if hour < 12 else 'PM'}",
+         at.browser.value("Pickup time"))
 
 
 @check
@@ -68,9 +70,9 @@ def the_pages_are_spanish_for_who_reads_spanish(at):
     at.browser.sees("Mis viajes", "Reservar un viaje", "Salir")
     same("the language of the page", "es", at.browser.script("return document.documentElement.lang"))
     show(at, 1001, "Su número de pasajero", "Mostrar mis páginas")
-    at.browser.sees("martes, 11 de marzo de 2025", "Recogida entre")
+    at.browser.sees("martes 11 de marzo de 2025", "Recogida entre")
     at.browser.press("Reservar un viaje", "link")
-    at.browser.sees("Reservar un viaje para el pasajero 1001", "Hora deseada de la recogida", "Recogida de regreso")
+    at.browser.sees("Reservar un viaje para el pasajero 1001", "Hora de recogida", "Recogida de regreso")
     at.browser.fill("Idioma", "en")
     at.browser.sees("Pickup time")
 

@@ -52,7 +52,7 @@ def what_a_field_can_know_is_told_at_the_field_and_nothing_is_sent(at):
     book(at, Pickup_time="25:00")
     at.browser.sees("Write a time")
     book(at, Be_there_by="8:00 am")
-    at.browser.sees("This is before any pickup that could come.")
+    at.browser.sees("You can't get there that early with this pickup time.")
     same("the trips", before, trips(at, 1005))
 
 
@@ -62,7 +62,8 @@ def a_booked_trip_says_whose_it_is_when_it_comes_and_what_it_costs(at):
     book(at, Day="Thursday, March 13, 2025", **{"A companion comes along, and pays the same": True})
     number = booked(at)
     trip = [it for it in at.town.trips_of(1005) if it["trip"] == number][0]
-    same("what was booked", (600, 1, 2, 1), (trip["wish"], trip["from"], trip["to"], trip["companions"]))
+    same("what was booked", (1, 2, 1), (trip["from"], trip["to"], trip["companions"]))
+    holds(f"the van comes around 10:00: {trip}", 585 <= trip["window_from"] <= 660)
     at.browser.sees("Samuel Grant", "$3.50 each", "$7.00", "Van 1, blue", "Town Hall", "General Hospital")
 
 
@@ -84,7 +85,7 @@ def each_denial_of_a_booking_is_a_sentence_and_a_section(at):
     attendant = "An attendant comes along, and pays nothing"
     for rider, says, values in [
             (1020, ["The rider has no right to ride on this day", "49 CFR 37.125"], {}),
-            (1010, ["No condition of the rider's grant holds of this trip.", "49 CFR 37.123(b)"], {}),
+            (1010, ["This trip isn't covered by the rider's eligibility conditions.", "49 CFR 37.123(b)"], {}),
             (1005, ["This party is too large", "49 CFR 37.123(f)"], {attendant: True}),
             (1005, ["too far from every bus line", "49 CFR 37.131(a)"], {"To": "Old Farm"}),
             (1005, ["No bus line serves both ends", "49 CFR 37.131(e)"], {"Pickup time": "11:45 pm"}),
@@ -289,7 +290,8 @@ def a_booking_for_a_known_number_takes_forty_keys(at):
     keys += typed(Keys.ENTER)
     number = booked(at)
     trip = [it for it in at.town.trips_of(1005) if it["trip"] == number][0]
-    same("what was booked", ("2025-03-15", 555, 1, 2), (trip["day"], trip["wish"], trip["from"], trip["to"]))
+    same("what was booked", ("2025-03-15", 1, 2), (trip["day"], trip["from"], trip["to"]))
+    holds(f"the van comes around 9:15: {trip}", 540 <= trip["window_from"] <= 615)
     holds(f"it took {keys} keys", keys <= 40)
 
 

@@ -36,6 +36,8 @@ export const words = {
     "booking.print-of": ({ trip }) => `Print the ticket of trip ${trip}`,
     "booking.print-all": "Print all tickets",
     "booking.day-wants": "Choose a day from tomorrow to 14 days ahead.",
+    "booking.day-closed": ({ day, name }) => `${day}: closed${name && ` (${name})`}`,
+    "booking.closed-wants": ({ day, name }) => `There is no service on ${day}${name && ` (${name})`}. Choose another day.`,
     "booking.day-gone": "The day that was chosen has come. Choose one of these days.",
     "booking.more-days": "The same on further days",
     "booking.choose": "Choose…",

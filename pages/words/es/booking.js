@@ -36,6 +36,8 @@ export const words = {
     "booking.print-of": ({ trip }) => `Imprimir el boleto del viaje ${trip}`,
     "booking.print-all": "Imprimir todos los boletos",
     "booking.day-wants": "Elija un día desde mañana hasta 14 días después.",
+    "booking.day-closed": ({ day, name }) => `${day}: sin servicio${name && ` (${name})`}`,
+    "booking.closed-wants": ({ day, name }) => `No hay servicio el ${day}${name && ` (${name})`}. Elija otro día.`,
     "booking.day-gone": "El día que se eligió ya llegó. Elija uno de estos días.",
     "booking.more-days": "Lo mismo en otros días",
     "booking.choose": "Elija…",

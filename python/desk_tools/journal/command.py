@@ -8,6 +8,7 @@ from datetime import date, datetime
 from pathlib import Path
 
 from desk_tools.journal import (
+    answering,
     chain,
     corrections,
     names,
@@ -144,6 +145,18 @@ def travel(words: argparse.Namespace) -> int:
     return travelling.give(
         places_of(words), words.program, given, words.key_file, number, words.day, table
     )
+
+
+def serve(words: argparse.Namespace) -> int:
+    """Answers the page *Record* until it is ended."""
+    places = places_of(words)
+
+    def ask(first: date | None, last: date | None) -> questions.Asked:
+        known = names.of_agency(agency_of(words.agency), words.roster)
+        return questions.Asked(places, reading.people_of(places), known, {}, first, last)
+
+    answering.serve(words.socket, ask)
+    return DONE
 
 
 def keep(words: argparse.Namespace) -> int:
@@ -292,6 +305,12 @@ def add_tasks(parsers: "argparse._SubParsersAction[argparse.ArgumentParser]") ->
     one.add_argument("--key", type=Path, default=KEY)
     one.add_argument("--public", type=Path, default=PUBLIC)
     add_travel(parsers)
+    one = parsers.add_parser(
+        "serve", help="answers the page Record, to the site by a socket; the unit's work"
+    )
+    one.set_defaults(do=serve)
+    one.add_argument("socket", type=Path, metavar="SOCKET")
+    one.add_argument("--roster", type=Path, default=ROSTER, help=f"the names of riders ({ROSTER})")
     one = parsers.add_parser("keep", help="removes what is kept long enough, and says what")
     one.set_defaults(do=keep)
     one.add_argument(

@@ -253,7 +253,14 @@ class Teller:
             self.was_read(
                 event, f"the {file} for the driver of {self.names.vehicle(int(drivers[1]))}", True
             )
-        elif path.startswith(("/staff/", "/record/")):
+        elif path.startswith("/record/"):
+            given = dict(urllib.parse.parse_qsl(event.line.path.partition("?")[2]))
+            number = given.get("number", "")
+            event.rider = (
+                int(number) if number.isdecimal() and path[8:] not in ("trip", "caller") else 0
+            )
+            self.was_read(event, f"the record: {path[8:]} {number}".rstrip())
+        elif path.startswith("/staff/"):
             self.was_read(event, f"the file {path[1:]}", True)
         elif tally:
             self.tell_tally(event, tally[1])
