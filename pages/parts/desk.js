@@ -142,8 +142,9 @@ export async function postFile(path) {
  */
 export const readOnce = (path, by = key, signal = left.signal) => once("GET", path, { "Desk-Key": by ?? "" }, undefined, signal);
 
-/** @param {string} path @param {string | null} [by] @returns {Promise<Reply<any>>} */
-async function read(path, by = key) {
+/** A read that is asked until it is answered, or until its screen is left.
+ * @param {string} path @param {string | null} [by] @returns {Promise<Reply<any>>} */
+export async function read(path, by = key) {
     const request = {}, { signal } = left;
     for (let tries = 0; ; tries += 1) {
         const reply = await readOnce(path, by, signal);
@@ -210,6 +211,10 @@ async function untilAnswered(pending) {
     }
 }
 
+let wrote = () => {};
+/** @param {() => void} act what follows each write of this window that was answered */
+export const whenWrote = (act) => { wrote = act; };
+
 let told = () => {};
 /** @param {() => void} act what is done where another window or device wrote with this key */
 export const whenOthersWrote = (act) => { told = act; };
@@ -227,6 +232,7 @@ async function sent(pending) {
         if (reply.denied !== "desk.number") told();
     }
     sessionStorage.removeItem(PENDING);
+    wrote();
     return reply;
 }
 
@@ -283,12 +289,18 @@ export const cancel = (trip) => write(`/trips/${trip}/cancel`, {});
 /** @param {number} trip @param {string} outcome */
 export const tellOutcome = (trip, outcome) => write(`/trips/${trip}/outcome`, { outcome });
 
+/** The paths of what is read of a rider. */
+export const pathOf = {
+    standing: (/** @type {number} */ rider, /** @type {string} */ day) => `/riders/${rider}/standing/${day}`,
+    trips: (/** @type {number} */ rider) => `/riders/${rider}/trips`,
+    letters: (/** @type {number} */ rider) => `/riders/${rider}/letters/`,
+    letter: (/** @type {number} */ rider, /** @type {number} */ entry) => `/riders/${rider}/letters/${entry}`,
+};
+
 /** @param {number} rider @param {string} day @returns {Promise<Reply<import("../types").Standing>>} */
-export const standing = (rider, day) => read(`/riders/${rider}/standing/${day}`);
+export const standing = (rider, day) => read(pathOf.standing(rider, day));
 /** @param {number} rider @returns {Promise<Reply<{ trips: import("../types").Trip[] }>>} */
-export const tripsOf = (rider) => read(`/riders/${rider}/trips`);
-/** @param {number} rider @param {number} entry @returns {Promise<Reply<string>>} */
-export const letter = (rider, entry) => read(`/riders/${rider}/letters/${entry}`);
+export const tripsOf = (rider) => read(pathOf.trips(rider));
 /** @param {number} vehicle @param {string} day @returns {Promise<Reply<string>>} */
 export const manifest = (vehicle, day) => read(`/vehicles/${vehicle}/manifest/${day}`);
 /** @param {string} day @returns {Promise<Reply<string>>} */

@@ -6,7 +6,8 @@ import { comboField } from "./combo.js";
 import { part } from "./element.js";
 import { form } from "./fields.js";
 import { HIGHEST_ID } from "./limits.js";
-import { findRiders, folded, riderLabel, riderName, rosterSize } from "./roster.js";
+import { readAll } from "./reads.js";
+import { findRiders, folded, isTelephone, riderOf, rosterSize } from "./roster.js";
 import { makeScreen } from "./screen.js";
 import { t } from "./words.js";
 
@@ -22,8 +23,16 @@ export const keepSubject = (what, id) => sessionStorage.setItem(keyOf(what), Str
 
 /** @param {string} typed */
 function numberIn(typed) {
-    const text = typed.trim();
+    const text = typed.trim().replace(/^#\s*/, "");
     return /^\d{1,10}$/.test(text) && Number(text) >= 1 && Number(text) <= HIGHEST_ID ? Number(text) : null;
+}
+
+/** The number that is meant: digits that are a telephone number are searched as one.
+ * @param {What} what @param {string} typed
+ */
+function plainNumber(what, typed) {
+    const number = numberIn(typed);
+    return number !== null && what === "rider" && !riderOf(number) && isTelephone(typed) ? null : number;
 }
 
 /** @param {string} typed */
@@ -40,14 +49,16 @@ const vehiclesFor = (typed) => vehicles().filter(({ id, name }) => folded(`${nam
 function subjectField(what, label, chosen) {
     const search = what === "rider" ? ridersFor : vehiclesFor;
     const meant = (/** @type {string} */ typed) => {
-        const number = numberIn(typed);
+        const number = plainNumber(what, typed);
         if (number !== null || !typed.trim()) return number;
         const found = search(typed);
         return found.length === 1 ? found[0].id : null;
     };
-    return comboField(what, label, { search, meant, textOf: String, chosen, sends: true, marks: (typed) => !/^[\d\s]+$/.test(typed),
+    const field = comboField(what, label, { search, meant, textOf: String, chosen, sends: true, marks: (typed) => plainNumber(what, typed) === null,
         hint: what === "rider" && rosterSize() ? t("fields.rider-hint") : undefined,
-        wants: (typed) => t(typed.trim() && rosterSize() ? "fields.rider-none" : "fields.id", { most: HIGHEST_ID }) });
+        wants: (typed) => t(typed.trim() && rosterSize() ? (isTelephone(typed) ? "fields.telephone-none" : "fields.rider-none") : "fields.id", { most: HIGHEST_ID }) });
+    field.control.setAttribute("data-search", "");
+    return field;
 }
 
 /** A field for the number, and below it what draw(number) gives of the number that was chosen. Where one person has one number, the field is
@@ -57,24 +68,27 @@ export function withSubject({ what, label, action, draw, folded: folds = false, 
     /** @type {any} */
     let tools = null;
     const field = subjectField(what, label, () => tools?.change({ typed: field.control.value.trim() }));
-    const ask = form({ name: label, fields: [field], action, class: "inline", send: async (values) => ({ value: values[what] }), done: (id) => {
+    const ask = form({ name: label, fields: [field], action, class: "inline subject", send: async (values) => ({ value: values[what] }), done: (id) => {
         keepSubject(what, id);
         field.write(id);
+        // (who asks again wants to know how it is now)
+        if (tools.state().shown === id) readAll();
         tools.change({ shown: id, typed: String(id), open: false }, { focus });
     } });
     const first = subjectOf(what);
     if (first) field.write(first);
-    return makeScreen({
+    const screen = makeScreen({
         state: { shown: first, typed: String(first ?? ""), open: !first },
         draw: ({ shown, typed, open }, { kept, change }) => {
-            tools = { change };
-            const same = shown !== null && String(shown) === typed, name = shown !== null && what === "rider" ? riderName(shown) : "";
+            tools = { change, state: () => screen.state };
+            const same = shown !== null && String(shown) === typed;
             const summary = part("summary", {}, shown === null ? t("fields.type-number") : `${label}: ${shown}`);
             return [folds ? part("details", { class: "folded", open: open || !same, on: { toggle: (event) => change({ open: event.target.open }) } }, summary, ask)
-                : part("div", { class: "card" }, ask, same && name && part("p", { class: "whose" }, riderLabel(shown))),
+                : part("div", { class: "card asked" }, ask),
             shown !== null && !same && part("p", { class: "note", role: "status" }, t("fields.other-number", { typed: typed || "…", action })),
             shown !== null && part("div", { class: "stack", id: `${what}-below`, key: `below-${shown}`, hidden: !same },
                 kept(`below-${shown}`, () => draw(shown)))];
         },
-    }).element;
+    });
+    return screen.element;
 }

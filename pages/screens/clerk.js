@@ -12,6 +12,7 @@ import { bookingFor } from "./booking.js";
 import { entryForms, lettersFor, ofResident, standingOf } from "./cases.js";
 import { withCard } from "./rider-card.js";
 import { tripsOfRider } from "./trips.js";
+import { worklist } from "./worklist.js";
 
 // A rider's record.
 
@@ -101,7 +102,7 @@ const file = (rider) => ofResident(rider, () => {
 const booking = (rider) => withCard(rider, () => {
     const trips = tripsOfRider(rider, { heading: t("booking.trips-of", { rider: riderLabel(rider) }), again: (trip, back) => book.copy(trip, back) });
     const book = bookingFor(rider, { booked: trips.refresh, known: trips.known });
-    return [book.element, trips.element];
+    return [trips.element, book.element];
 });
 
 export const ridersTrips = forRider(booking, "book");
@@ -109,4 +110,5 @@ export const ridersTrips = forRider(booking, "book");
 export const clerk = () => [
     { id: "trips", name: t("clerk.trips"), draw: ridersTrips },
     { id: "file", name: t("clerk.file"), draw: forRider(file) },
-    { id: "rider", name: t("clerk.record-part"), draw: record }];
+    { id: "rider", name: t("clerk.record-part"), draw: record },
+    { id: "waits", name: t("cases.waits"), draw: () => worklist("clerk") }];

@@ -53,10 +53,11 @@ def wait_for(at, what, script):
 def begin(at, number=None, holder="second clerk"):
     """The clerk's first screen, as it is after signing in; with a number, that rider's."""
     at.browser.sign_in(at.keys[holder], "clerk", "trips")
-    wait_for(at, "the clerk's screen", "!!document.querySelector('.roster') && document.activeElement.id === 'main'")
+    wait_for(at, "the search has the focus",
+             "!!document.querySelector('.roster') && document.activeElement.matches('[data-search]')")
     keys = Keystrokes(at.browser)
     if number:
-        keys.press(Keys.TAB, number, Keys.ENTER)
+        keys.press(number, Keys.ENTER)
         wait_for(at, "the form", "document.activeElement.id === 'book'")
     return keys
 

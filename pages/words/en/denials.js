@@ -47,7 +47,7 @@ export const words = {
     "denials.37.127": "This rider is a visitor, who has no case file.",
     "denials.37.127/help": "A visitor needs no application. Book the trip.",
     "denials.37.125": "The rider has no right to ride on this day: nothing is granted, or the grant ends before it.",
-    "denials.37.125/help": "Take an application, or choose a day that the grant has.",
+    "denials.37.125/help": "Take an application, or choose a day that the grant has. An application that waits counts from its 21st day.",
     "denials.37.125(c)": "This is out of turn: an application waits for its decision already, or none waits.",
     "denials.37.125(c)/help": "Read the letters of this case. Decide what waits, or take an application first.",
     "denials.37.125(e)": "The last day of the grant is before today.",
@@ -94,4 +94,8 @@ export const words = {
     "denials.left/help": "Ask again.",
     "denials.other": ({ name }) => `The desk denies this: ${name}.`,
     "denials.other/help": "Tell the people who run the desk.",
+    "denials.37.125(g) appeal": "An appeal of this rider is on record already, or the 60 days are over.",
+    "denials.37.125(g) appeal/help": "What waits shows the appeals of yesterday and before. One appeal is enough for each decision.",
+    "denials.37.125(g) appeal-own": "We already have your appeal, or the 60 days are over.",
+    "denials.37.125(g) appeal-own/help": "If you have appealed, you need not do anything more. Call the agency to ask about it.",
 };

@@ -28,4 +28,5 @@ export const words = {
     "fields.rider-none": "Write a number, or choose one rider of the list.",
     "fields.type-number": "Type the number here",
     "fields.other-number": ({ typed, action }) => `${typed} is not shown yet: “${action}” shows it.`,
+    "fields.telephone-none": "No rider has this telephone number. Write a number or a name.",
 };

@@ -47,7 +47,7 @@ export const words = {
     "denials.37.127": "Este pasajero es visitante y no tiene expediente.",
     "denials.37.127/help": "Un visitante no necesita solicitud. Reserve el viaje.",
     "denials.37.125": "El pasajero no tiene derecho a viajar ese día: no hay nada concedido, o la concesión termina antes.",
-    "denials.37.125/help": "Reciba una solicitud, o elija un día que la concesión incluya.",
+    "denials.37.125/help": "Reciba una solicitud, o elija un día que la concesión incluya. Una solicitud pendiente vale a partir del día 21.",
     "denials.37.125(c)": "Esto está fuera de orden: una solicitud ya espera su decisión, o no espera ninguna.",
     "denials.37.125(c)/help": "Lea las cartas de este caso. Decida lo que espera, o reciba primero una solicitud.",
     "denials.37.125(e)": "El último día de la concesión es anterior a hoy.",
@@ -94,4 +94,8 @@ export const words = {
     "denials.left/help": "Pregunte otra vez.",
     "denials.other": ({ name }) => `El sistema lo deniega: ${name}.`,
     "denials.other/help": "Avise a quienes manejan el sistema.",
+    "denials.37.125(g) appeal": "La apelación de este pasajero ya está registrada, o pasaron los 60 días.",
+    "denials.37.125(g) appeal/help": "La lista de pendientes muestra las apelaciones hasta ayer. Basta una apelación por decisión.",
+    "denials.37.125(g) appeal-own": "Ya tenemos su apelación, o pasaron los 60 días.",
+    "denials.37.125(g) appeal-own/help": "Si ya apeló, no tiene que hacer nada más. Llame a la agencia para preguntar por ella.",
 };

@@ -28,4 +28,5 @@ export const words = {
     "fields.rider-none": "Escriba un número, o elija un pasajero de la lista.",
     "fields.type-number": "Escriba aquí el número",
     "fields.other-number": ({ typed, action }) => `${typed} todavía no se muestra: «${action}» lo muestra.`,
+    "fields.telephone-none": "Ningún pasajero tiene este teléfono. Escriba un número o un nombre.",
 };
