@@ -60,7 +60,7 @@ const isMinute = (/** @type {any} */ it) => within(it, 0, LAST_MINUTE);
 
 /** @type {Record<Kind, Record<string, (it: any) => boolean>>} */
 const FIELDS = {
-    places: { name: isText, note: isText, x: isNumber, y: isNumber, core: isYesNo, private: (it) => isYesNo(it) || numberIn(it) !== null || (Array.isArray(it) && it.length > 0 && it.every((one) => numberIn(one) !== null)),
+    places: { name: isText, note: isText, noted: isYesNo, x: isNumber, y: isNumber, core: isYesNo, private: (it) => isYesNo(it) || numberIn(it) !== null || (Array.isArray(it) && it.length > 0 && it.every((one) => numberIn(one) !== null)),
         latitude: isNumber, longitude: isNumber },
     routes: { name: isText, width: isNumber, points: (it) => Array.isArray(it) && it.length > 0 && it.every(isPoint), accessible: isYesNo,
         days: (it) => Array.isArray(it) && it.every((day) => within(day, 1, 7)), first: isMinute, last: isMinute },
