@@ -5,10 +5,15 @@ import html
 import io
 
 from moving.rules import NO_VEHICLE, RULES
+from moving.tally_log import EVENTS, NAMES, PAGE
+
+CHANNELS = EVENTS["denials"].all_fields["channel"].words
+CHANNEL_NAMES = {PAGE: "on the desk's pages", "telephone": "by a telephone system", "app": "by a rider's app",
+                 "standing-order": "by standing orders"}
 
 STYLE = """
 body { font: 12pt/1.4 sans-serif; margin: 2rem; color: #000; background: #fff; }
-table { border-collapse: collapse; }
+table { border-collapse: collapse; margin-bottom: 1rem; }
 caption { text-align: left; font-weight: bold; padding-bottom: .5rem; }
 th, td { border: 1px solid #666; padding: .25rem .6rem; text-align: right; vertical-align: bottom; }
 th:first-child { text-align: left; }
@@ -23,34 +28,44 @@ def months_of(denials):
     counts = collections.defaultdict(collections.Counter)
     for it in denials:
         counts[it.day.year, it.day.month][it.rule] += 1
-    if not counts:
-        return {}
-    (year, month), end, found = min(counts), max(counts), {}
+    return {month: counts[month] for month in months_between(counts)}
+
+
+def months_between(months):
+    """Each month from the first to the last of these, which are pairs of a year and a month."""
+    if not months:
+        return
+    (year, month), end = min(months), max(months)
     while (year, month) <= end:
-        found[f"{year}-{month:02}"] = counts[year, month]
+        yield year, month
         year, month = (year + 1, 1) if month == 12 else (year, month + 1)
-    return found
 
 
 def denials_csv(denials):
-    """A row for each month, a column for each rule."""
-    rows = [(month, *(counts[it] for it in RULES), sum(counts.values()))
-            for month, counts in months_of(denials).items()]
-    return csv_of([("month", *RULES, "all"), *rows])
+    """A row for each month and channel, a column for each rule."""
+    months, rows = [*months_of(denials)], []
+    for channel in CHANNELS:
+        counts = months_of(it for it in denials if it.channel == channel)
+        rows += [(month_in_digits(month), channel, *(counts.get(month, {}).get(it, 0) for it in RULES),
+                  sum(counts.get(month, {}).values())) for month in months]
+    return csv_of([("month", "channel", *RULES, "all"), *sorted(rows, key=lambda it: (it[0], CHANNELS.index(it[1])))])
 
 
-def stops_csv(stops):
-    """A row for each tap, by the time of the tap."""
-    rows = [(it.at.date(), it.vehicle, it.trip, it.event, it.at.time(), it.received.isoformat()) for it in
-            sorted(stops, key=lambda it: (it.at, it.trip, it.event))]
-    return csv_of([("day", "vehicle", "trip", "event", "at", "received"), *rows])
+def month_in_digits(month):
+    return "{}-{:02}".format(*month)
 
 
-def cancellations_csv(cancellations):
-    """A row for each cancellation, by its time."""
-    rows = [(it.at.date(), it.trip, it.by, it.at.time(), it.received.isoformat()) for it in
-            sorted(cancellations, key=lambda it: (it.at, it.trip))]
-    return csv_of([("day", "trip", "by", "at", "received"), *rows])
+def events_csv(kind, events):
+    """A row for each event of a kind, by the moment at which it was."""
+    names = [it for it in NAMES[kind] if it not in ("day", "at")]
+    rows = [(day_of(it), *(getattr(it, name) for name in names), it.at.time(), it.received.isoformat(), it.told_by)
+            for it in sorted(events, key=lambda it: (it.at, it.received))]
+    return csv_of([("day", *names, "at", "received", "told_by"), *rows])
+
+
+def day_of(event):
+    """The day that an event is about, or on which it was."""
+    return event.day if hasattr(event, "day") else event.at.date()
 
 
 def csv_of(rows, end="\n"):
@@ -61,22 +76,29 @@ def csv_of(rows, end="\n"):
 
 def denials_page(denials, name, broken):
     """The page of denials, which prints."""
-    months = months_of(denials)
-    rules = [it for it in RULES if it == NO_VEHICLE or any(counts[it] for counts in months.values())]
-    total = collections.Counter(it.rule for it in denials)
-    rows = [row_of("td", month, [counts[it] for it in rules] + [sum(counts.values())])
-            for month, counts in months.items()]
-    rows.append(row_of("td", "all", [total[it] for it in rules] + [len(denials)]))
+    rules = [it for it in RULES if it == NO_VEHICLE or any(denial.rule == it for denial in denials)]
+    channels = [it for it in CHANNELS if any(denial.channel == it for denial in denials)]
     title = "Denied trips by month" + (f", {name}" if name else "")
     notes = [f"{it}: {RULES[it]}." for it in rules]
     notes += ["A trip is counted in the month for which it was asked, once for each time it was denied."]
     notes += [f"{broken} lines of the log could not be read, and are not counted."] if broken else []
     return "\n".join([
         "<!DOCTYPE html>", '<html lang="en">', f"<head><meta charset=\"utf-8\"><title>{html.escape(title)}</title>",
-        f"<style>{STYLE}</style></head>", "<body>", f"<h1>{html.escape(title)}</h1>", "<table>",
-        "<caption>Trips that were asked for and denied, by the rule of the denial</caption>",
-        f"<thead>{row_of('th', 'month', [*rules, 'all'])}</thead>", "<tbody>", *rows, "</tbody>", "</table>",
+        f"<style>{STYLE}</style></head>", "<body>", f"<h1>{html.escape(title)}</h1>",
+        *table_of("Trips that were asked for and denied, by the rule of the denial", denials, rules),
+        *(line for it in channels if len(channels) > 1 or it != PAGE
+          for line in table_of(f"Of these: {CHANNEL_NAMES[it]}", [one for one in denials if one.channel == it], rules)),
         *(f"<p>{html.escape(it)}</p>" for it in notes), "</body>", "</html>", ""])
+
+
+def table_of(caption, denials, rules):
+    """The lines of a table: a row for each month, a column for each rule."""
+    total = collections.Counter(it.rule for it in denials)
+    rows = [row_of("td", month_in_digits(month), [counts[it] for it in rules] + [sum(counts.values())])
+            for month, counts in months_of(denials).items()]
+    rows.append(row_of("td", "all", [total[it] for it in rules] + [len(denials)]))
+    return ["<table>", f"<caption>{html.escape(caption)}</caption>",
+            f"<thead>{row_of('th', 'month', [*rules, 'all'])}</thead>", "<tbody>", *rows, "</tbody>", "</table>"]
 
 
 def row_of(kind, head, cells):

@@ -6,13 +6,17 @@ import datetime
 import http.client
 import os
 import re
+import sys
 import threading
 from functools import partial
 from http.server import BaseHTTPRequestHandler, ThreadingHTTPServer
 
+sys.path.append(os.path.join(os.path.dirname(os.path.realpath(__file__)), "..", "..", "python"))
+from desk_tools.events import EVENTS, pattern_of
+
 DESKS_PATHS = re.compile(r"/(callers|policy|places|routes|vehicles|riders|trips|days)(/|$)")
-TALLY = re.compile(r"/tally/(denials|stops|cancellations)")
-TALLY_WORDS = re.compile(r"[A-Za-z0-9=&:.,%()_-]{1,300}")
+TALLY = {f"/tally/{event.name}": re.compile(pattern_of(event)) for event in EVENTS.values()}
+VEHICLE = re.compile("(?:^|&)vehicle=([0-9]+)")
 OWN = re.compile(r"/own/([1-9][0-9]*)/places\.json")
 OF_VEHICLE = re.compile(r"/drivers/([1-9][0-9]*)/(roster\.csv|places\.json)")
 # Nobody's number, by which the desk tells what a key may do.
@@ -51,7 +55,7 @@ class Handler(BaseHTTPRequestHandler):
         path = self.path.partition("?")[0]
         if DESKS_PATHS.match(path):
             self.pass_on()
-        elif TALLY.fullmatch(path):
+        elif path in TALLY:
             self.tally(path)
         elif self.command == "POST":
             self.deny(405, "http.method")
@@ -84,6 +88,17 @@ class Handler(BaseHTTPRequestHandler):
     def judged(self, path):
         status = self.status_of(path)
         return {200: 204, 404: 204, 400: 401}.get(status, status)
+
+    def teller(self, path, words):
+        """The status of a key that tells an event, and whose key it is."""
+        who = EVENTS[path.rpartition("/")[2]].who
+        if who == "vehicle":
+            return self.judged(f"/vehicles/{VEHICLE.search(words)[1]}/manifest/2026-01-01"), "vehicle"
+        status = self.judged(f"{NOBODY}/standing/2026-01-01")
+        if status != 403:
+            return status, "office"
+        status = self.judged(f"{NOBODY}/trips")
+        return (204, "other") if status == 403 and who == "anybody" else (status, "dispatcher")
 
     def any_key(self):
         status = self.judged(f"{NOBODY}/standing/2026-01-01")
@@ -183,14 +198,19 @@ class Handler(BaseHTTPRequestHandler):
         self.body()
         if self.command != "POST":
             self.deny(405, "http.method")
-        elif not TALLY_WORDS.fullmatch(words):
+        elif not TALLY[path].fullmatch(words):
             self.deny(400, "http.field")
-        elif self.any_key() != 204:
-            self.deny(401, "desk.key")
         else:
+            status, by = self.teller(path, words)
+            if status == 502:
+                self.say_away()
+                return
+            if status != 204:
+                self.deny(status, DENIALS.get(status, "desk.key"))
+                return
             now = datetime.datetime.now().astimezone().isoformat(timespec="seconds")
             with self.office.lock, open(self.office.tally, "a", encoding="ascii") as file:
-                file.write(f"{now}\t{path}\t{words}\n")
+                file.write(f"{now}\t{path}\t{words}\t{by}\n")
             self.give(204, "text/plain", b"")
 
 

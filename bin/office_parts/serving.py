@@ -1,6 +1,8 @@
 """A desk that is started, asked and stopped."""
+import contextlib
 import http.client
 import json
+import random
 import socket
 import subprocess
 import time
@@ -14,10 +16,22 @@ class Trouble(Exception):
     """What keeps the office from going on, in one sentence."""
 
 
+class TakenPort(Trouble):
+    """The desk's port is another program's by now."""
+
+
+TRIES, TAKEN = 5, "fault 6 "
+# Above these, Linux gives ports to connections that begin, so one that was free is taken a moment later.
+PORTS = range(10_000, 32_768)
+
+
 def free_port():
-    with socket.socket() as tried:
-        tried.bind(("127.0.0.1", 0))
-        return tried.getsockname()[1]
+    """A port that nobody listens at and that no connection is given."""
+    for port in random.sample(PORTS, 100):
+        with socket.socket() as tried, contextlib.suppress(OSError):
+            tried.bind(("127.0.0.1", port))
+            return port
+    raise Trouble(f"no port of 100 between {PORTS[0]} and {PORTS[-1]} is free")
 
 
 def ran(program, *words):
@@ -43,6 +57,14 @@ class Desk:
         self.words, self.said, self.port, self.process = [program, "serve", file, zone], said, free_port(), None
 
     def start(self):
+        """Starts it; another program may have taken the port meanwhile, and then it gets another one."""
+        for _ in range(TRIES - 1):
+            with contextlib.suppress(TakenPort):
+                return self.start_once()
+            self.port = free_port()
+        return self.start_once()
+
+    def start_once(self):
         words = [*self.words, str(self.port), str(MOST_CONNECTIONS)]
         with open(self.said, "wb") as output:
             # A group of its own, so that Ctrl+C goes to the office alone, which then ends it.
@@ -58,7 +80,8 @@ class Desk:
     def wait_until_open(self):
         while not self.says().startswith("listening"):
             if self.has_ended():
-                raise Trouble(f"the desk does not open {self.words[2]}: it says '{self.says() or 'nothing'}'")
+                is_taken = self.says().startswith(TAKEN)
+                raise (TakenPort if is_taken else Trouble)(f"the desk does not open {self.words[2]}: it says '{self.says() or 'nothing'}'")
             time.sleep(PAUSE)
 
     def says(self):

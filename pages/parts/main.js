@@ -13,6 +13,7 @@ import { forgetRoster, loadRoster } from "./roster.js";
 import { drawAllAgain } from "./screen.js";
 import { screenOf, SCREENS, STAFF } from "./screens.js";
 import { signIn } from "./signing.js";
+import { beginAnew, whenRefused } from "./tally.js";
 import { chooseLanguage, language, LANGUAGE_NAMES, languageFor, t, useWords } from "./words.js";
 
 /** @typedef {import("../types").ScreenPart} ScreenPart */
@@ -82,6 +83,26 @@ function showTroubles(screen) {
     if (!first || ["rider", "driver"].includes(screen)) dropNote("files");
     else note("files", [part("p", {}, first, others.length > 0 && ` ${t("signing.more-troubles", { count: others.length })}`),
         others.length > 0 && part("details", {}, part("summary", {}, t("signing.all-troubles")), part("ul", {}, others.slice(0, 50).map((it) => part("li", {}, it))))]);
+}
+
+/** What of the counts could not be kept is one line for those who can do something about it.
+ * @param {import("./tally.js").Trouble} trouble */
+function showCounts({ refused, loose }) {
+    const isStaff = [...STAFF, "admin"].includes(wanted().screen?.id ?? ""), what = refused.map(({ kind, refused: why }) => ({ kind, why }));
+    if (refused.length && isStaff) note("counts", t("common.counts-refused", { what }));
+    else dropNote("counts");
+    if (loose && isStaff) note("counts-loose", t("common.counts-loose", { count: loose }));
+    else dropNote("counts-loose");
+}
+
+/** Whose counts are sent. */
+let countedFor = "";
+
+/** Goes on with what is still to be told to the site. */
+function tellCounts() {
+    const digest = desk.digest() ?? "";
+    if (digest && digest !== countedFor) beginAnew();
+    countedFor = digest;
 }
 
 // Loading.
@@ -196,6 +217,7 @@ async function show({ again = false } = {}) {
     document.body.classList.toggle("signed-out", !desk.signedIn());
     if (!desk.signedIn() || !screen) showSignIn();
     else await showScreen(screen, mine);
+    tellCounts();
     if (mine !== shows) return;
     if (shown && !again) found("main").focus({ preventScroll: true });
     if (shown && !again) window.scrollTo(0, 0);
@@ -296,6 +318,7 @@ async function finish() {
     if (reply) note("finished", () => (reply.denied ? [part("p", {}, t("common.was-denied")), denialOf(reply)] : t("common.was-done")));
 }
 
+whenRefused(showCounts);
 desk.whenOthersWrote(() => note("others", () => t("common.others-wrote")));
 keepNotes();
 await Promise.all([loadAgency(), desk.comeBack()]);

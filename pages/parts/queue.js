@@ -5,7 +5,7 @@
 import { asked } from "./ask.js";
 import { serverNow } from "./clock.js";
 import * as desk from "./desk.js";
-import { sendTally } from "./tally.js";
+import { countPath } from "./tally.js";
 import { t, useWords } from "./words.js";
 
 /**
@@ -234,12 +234,12 @@ export async function sendAll() {
     }
 }
 
-/** Tells the site's log what is old enough to be told. */
+/** Counts what is old enough to be told to the site. */
 export async function sendTallies() {
-    if (!desk.digest() || navigator.onLine === false) return;
+    if (!desk.digest()) return;
     for (const entry of await entries()) {
         if (!entry.tally || entry.since > serverNow() - HELD) continue;
-        if (!await sendTally(entry.tally)) return;
+        await countPath(entry.tally);
         await changed(entry.order, (now) => ({ ...now, tally: null }));
     }
 }

@@ -1,54 +1,185 @@
-// What the site counts and the desk does not: denials that somebody saw, when a driver was where, and when a trip was cancelled. Each is told
-// once by its number; the site writes a line to its log and answers nothing.
+// What is told to the site: denials that somebody saw, bookings, cancellations, where a driver was. Each event waits in this browser, in a database
+// that outlives the page, and leaves it once the site has answered 204. The site's log has it twice where an answer was lost, and it counts once.
 
 import { momentNow } from "./clock.js";
+import { endOf, faultOf, namedIn, pathOf, pauseAfter } from "./counting.js";
+import { storeOf } from "./database.js";
 import * as desk from "./desk.js";
+import { EVENTS } from "./events.js";
 import { newKey } from "./key.js";
 
-const PAUSES = [2_000, 10_000, 60_000];
+/** @typedef {import("./events.js").Kind} Kind */
+/** @typedef {import("./events.js").Fields} Fields */
+/** @typedef {object} Kept an event that waits
+ * @property {string} id
+ * @property {Kind} kind
+ * @property {string} path
+ * @property {string | null} digest the key of who told it
+ * @property {number} since when it was told, by this machine's clock
+ * @property {number} from it is not sent before this moment
+ * @property {string | null} refused why the site will not have it: its answer, or the name of a field */
+/** @typedef {{ refused: Kept[], loose: number }} Trouble refused: what the site will not have; loose: how many wait in this window alone */
 
-/** The number of one event: sent twice, it still counts once. */
-export const newId = newKey;
+const GAP = 250, UNSURE = 120_000, LOCK = "desk.counts";
+const within = storeOf("desk-counts", "events", { keyPath: "id" });
 
-/** @param {{ day: string, minute: number, rule: string, id?: string }} denial */
-export const denialPath = ({ day, minute, rule, id = newId() }) => `/tally/denials?${new URLSearchParams({ id, day, minute: String(minute), rule })}`;
+/** Events for which this browser has no database or no room, while this page lives.
+ * @type {Map<string, Kept>} */
+const loose = new Map();
+/** Events of the database that the site did not take while this page lives: they are tried again when it is loaded anew.
+ * @type {Set<string>} */
+const tried = new Set();
+/** Events that the site has and the database could not let go.
+ * @type {Set<string>} */
+const sent = new Set();
+/** @type {(trouble: Trouble) => void} */
+let tell = () => {};
+let running = false, again = false, tries = 0, timer = 0;
 
-/** @param {{ vehicle: number, trip: number, event: string, at: string, id?: string }} stop at is YYYY-MM-DDTHH:MM:SS */
-export const stopPath = ({ vehicle, trip, event, at, id = newId() }) =>
-    `/tally/stops?${new URLSearchParams({ id, vehicle: String(vehicle), trip: String(trip), event, at })}`;
+// Keeping.
 
-/** @param {{ trip: number, by: "rider" | "agency", at: string, id?: string }} cancellation at is YYYY-MM-DDTHH:MM:SS */
-export const cancellationPath = ({ trip, by, at, id = newId() }) =>
-    `/tally/cancellations?${new URLSearchParams({ id, trip: String(trip), by, at })}`;
+/** @param {string} id @param {Kept | null} event */
+const stored = (id, event) => within("readwrite", (store) => (event ? store.put(event) : store.delete(id)));
 
-/** Whether the site took it, or has no such path and never will.
- * @param {string} path
- */
-export async function sendTally(path) {
-    const status = await desk.postFile(path);
-    return status !== 0 && status !== 429 && status < 500;
+/** @param {Kept} event */
+async function keep(event) {
+    await stored(event.id, event).then(() => loose.delete(event.id), () => loose.set(event.id, event));
 }
 
-/** Tells the site once; a broken line does not stop the work.
- * @param {string} path
- */
-async function tell(path) {
-    for (const milliseconds of [0, ...PAUSES]) {
-        await new Promise((go) => { setTimeout(go, milliseconds); });
-        if (await sendTally(path)) return;
+/** @param {string} id */
+async function drop(id) {
+    loose.delete(id);
+    sent.add(id);
+    await stored(id, null).then(() => sent.delete(id), () => {});
+}
+
+/** All that waits, in the order in which it was told. */
+async function waiting() {
+    /** @type {Kept[]} */
+    const events = await within("readonly", (store) => store.getAll()).catch(() => []), known = new Map(events.map((it) => [it.id, it]));
+    loose.forEach((it) => known.set(it.id, it));
+    return [...known.values()].filter(({ id }) => !sent.has(id)).sort((a, b) => a.since - b.since);
+}
+
+/** @param {Kind} kind @param {string} path @param {string} id @param {{ fault?: string | null, held?: number }} options */
+const eventOf = (kind, path, id, { fault = null, held = 0 } = {}) => ({ id, kind, path, digest: desk.digest(), since: Date.now(), from: Date.now() + held,
+    refused: fault });
+
+/** The fields of an event with those that are filled in.
+ * @param {Kind} kind @param {Record<string, any>} fields @returns {Record<string, any>} */
+function filled(kind, fields) {
+    const forms = EVENTS[kind], id = fields.id ?? newKey();
+    return { ...("at" in forms && { at: momentNow() }), ...("channel" in forms && { channel: "page" }), ...fields, id };
+}
+
+/** Tells the site an event: once this is done, it is kept by this browser, and it is sent until the site has it.
+ * @template {Kind} K @param {K} kind @param {Fields[K]} fields */
+export async function count(kind, fields) {
+    const whole = filled(kind, fields);
+    await keep(eventOf(kind, pathOf(kind, whole), whole.id, { fault: faultOf(kind, whole) }));
+    sendCounts();
+}
+
+/** The same for an event whose path was made before, as the driver's log has it.
+ * @param {string} path */
+export async function countPath(path) {
+    const named = namedIn(path);
+    if (named) await keep(eventOf(named.kind, path, named.id));
+    sendCounts();
+}
+
+/** The path of an event that is told later.
+ * @template {Kind} K @param {K} kind @param {Fields[K]} fields */
+export const eventPath = (kind, fields) => pathOf(kind, filled(kind, fields));
+
+// Sending. One window at a time sends.
+
+/** @param {() => Promise<void>} act */
+const inTurn = (act) => (navigator.locks ? navigator.locks.request(LOCK, act) : act());
+
+/** @param {number} milliseconds */
+const pause = (milliseconds) => new Promise((go) => { setTimeout(go, milliseconds); });
+
+/** What is to be sent now, first. */
+async function next() {
+    const now = Date.now();
+    return (await waiting()).find(({ id, from }) => from <= now && !tried.has(id)) ?? null;
+}
+
+/** Sends what waits, until nothing does or there is no answer.
+ * @returns {Promise<void>} */
+async function sendThem() {
+    for (let event = await next(); event && desk.signedIn(); event = await next()) {
+        const isOwn = event.digest === desk.digest(), fault = event.refused && !/^\d+$/.test(event.refused);
+        const status = fault ? 400 : await desk.postFile(event.path), end = endOf(status, isOwn);
+        if (end === "later") {
+            tries += 1;
+            return;
+        }
+        tries = 0;
+        if (end === "kept") await drop(event.id);
+        else tried.add(event.id);
+        if (end === "refused" && !fault) await keep({ ...event, refused: String(status) });
+        await pause(GAP);
     }
 }
 
-/** Tells a denial of a trip that somebody saw.
- * @param {{ day: string, minute: number, rule: string }} denial
- */
-export const tellDenial = (denial) => tell(denialPath(denial));
+/** When something is to be sent again: after a pause where the site was silent, or when an event's time comes. */
+async function wakeLater() {
+    const held = (await waiting()).filter(({ id }) => !tried.has(id)).map(({ from }) => from - Date.now());
+    if (held.length && desk.signedIn()) timer = Number(setTimeout(sendCounts, Math.max(tries ? pauseAfter(tries) : 0, Math.min(...held), GAP)));
+}
 
-/** Gives a trip up for its rider or for the agency, and tells the site when: the desk keeps no moment of it.
+/** Sends what waits, and goes on by itself until the site has all of it. */
+export async function sendCounts() {
+    again = running;
+    clearTimeout(timer);
+    if (running || !desk.signedIn()) return;
+    running = true;
+    try {
+        await inTurn(sendThem);
+    } finally {
+        running = false;
+    }
+    tell({ refused: (await waiting()).filter(({ refused }) => refused), loose: tries ? loose.size : 0 });
+    if (again && !tries) await sendCounts();
+    else await wakeLater();
+}
+
+/** Calls act with what somebody should hear of, whenever something was sent.
+ * @param {(trouble: Trouble) => void} act */
+export function whenRefused(act) {
+    tell = act;
+}
+
+/** Another key has other rights: what was not taken is tried with it. */
+export function beginAnew() {
+    tried.clear();
+    tries = 0;
+    return sendCounts();
+}
+
+// Each use.
+
+/** @param {{ vehicle: number, trip: number, event: any, at: string }} stop at is YYYY-MM-DDTHH:MM:SS */
+export const stopPath = (stop) => eventPath("stops", stop);
+
+/** Gives a trip up for its rider or for the agency, and tells the site when: the desk keeps no moment of it. The event is kept before the desk is
+ * asked, so that it is told also where the page is closed before the answer comes; of a trip that is not cancelled it says nothing.
  * @param {number} trip @param {"rider" | "agency"} by
  */
 export async function cancelTrip(trip, by) {
-    const reply = await desk.cancel(trip);
-    if (reply.denied === undefined) tell(cancellationPath({ trip, by, at: momentNow() }));
+    const fields = filled("cancellations", { trip, by }), event = eventOf("cancellations", pathOf("cancellations", fields), fields.id, { held: UNSURE });
+    const keeping = keep(event), reply = await desk.cancel(trip);
+    await keeping;
+    if (reply.denied === undefined) await keep({ ...event, from: 0 });
+    else if (reply.denied !== "left") await drop(event.id);
+    sendCounts();
     return reply;
 }
+
+window.addEventListener("online", () => {
+    tries = 0;
+    sendCounts();
+});
+document.addEventListener("visibilitychange", () => { if (!document.hidden) sendCounts(); });

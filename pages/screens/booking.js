@@ -8,7 +8,7 @@ import { button, part } from "../parts/element.js";
 import { form } from "../parts/fields.js";
 import { riderLabel } from "../parts/roster.js";
 import { makeScreen } from "../parts/screen.js";
-import { tellDenial } from "../parts/tally.js";
+import { count } from "../parts/tally.js";
 import { otherWishes, searched, wishesFor } from "../parts/wishes.js";
 import { t } from "../parts/words.js";
 import { faultOf, wishFields } from "./booking-fields.js";
@@ -24,6 +24,10 @@ export { dollars, windowOf } from "./ticket.js";
  *   one trip that is asked for: asked is the minute that the rider named, waitsFor the leg that has to be booked before */
 /** @typedef {{ legs: Leg[], busy: boolean }} State */
 /** @typedef {(wish: Wish) => Promise<import("../types").Reply<Ticket>>} Send */
+
+/** The words of the site for what matters to the rider.
+ * @type {Record<Mode, "around" | "not-before" | "by">} */
+const MODES = { near: "around", "not-before": "not-before", appointment: "by" };
 
 /** Denials after which nothing more is asked. */
 const ENDS = ["desk.key", "desk.caller", "desk.number", "left"];
@@ -128,7 +132,7 @@ function askerOf({ change, state, send, booked }) {
         const told = await firstTaken(leg, wishes, send);
         set(leg.key, told.ticket ? { ticket: told.ticket, wish: told.wish, denied: null, other } : { denied: told.denied, other });
         const rule = told.denied?.denied ?? "";
-        if (!other && (/^\d/.test(rule) || rule === "no vehicle")) tellDenial({ day: leg.wish.day, minute: leg.asked, rule });
+        if (!other && (/^\d/.test(rule) || rule === "no vehicle")) count("denials", { day: leg.wish.day, minute: leg.asked, rule, mode: MODES[leg.mode] });
         return rule;
     };
     const find = (/** @type {string | null} */ key) => state().legs.find((leg) => leg.key === key);

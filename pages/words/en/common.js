@@ -1,5 +1,10 @@
 // Words that every screen uses.
 
+/** What is told to the site.
+ * @type {Record<string, string>} */
+const COUNTS = { denials: "a denial", bookings: "a booking", cancellations: "a cancellation", stops: "a stop", "no-shows": "a no-show", notes: "a note",
+    disagreements: "an entry that disagrees", calls: "a call" };
+
 /** @type {Record<string, string>} */
 const KINDS = { places: "place", routes: "line", vehicles: "vehicle" };
 
@@ -38,6 +43,10 @@ export const words = {
     "common.was-done": "What was being sent when this page was loaded is done, once.",
     "common.not-loaded": "This screen could not be loaded: the line broke. Nothing that you sent is lost.",
     "common.load-again": "Try again",
+    "common.counts-refused": ({ what }) => `${what.length} ${what.length === 1 ? "count" : "counts"} could not be kept: ${what
+        .map((/** @type {any} */ { kind, why }) => `${COUNTS[kind]} (${why})`).join(", ")}. Tell the people who run the desk.`,
+    "common.counts-loose": ({ count }) => `This browser has no room for counts, and the site does not answer. Leave this window open: ${count} ${
+        count === 1 ? "count waits" : "counts wait"} in it.`,
     "common.unproved": "This is a trial program. Nothing of it was proved. Do not use it for real trips.",
     "common.skip": "Skip to the main part",
     "common.screen": "Screen",

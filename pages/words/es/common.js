@@ -1,5 +1,10 @@
 // Palabras que usan todas las pantallas.
 
+/** Lo que se comunica al sitio.
+ * @type {Record<string, string>} */
+const COUNTS = { denials: "una denegación", bookings: "una reserva", cancellations: "una cancelación", stops: "una parada", "no-shows": "una ausencia",
+    notes: "una nota", disagreements: "un dato que no coincide", calls: "una llamada" };
+
 /** @type {Record<string, string>} */
 const KINDS = { places: "lugar", routes: "línea", vehicles: "vehículo" };
 
@@ -46,6 +51,10 @@ export const words = {
     "common.was-done": "Lo que se estaba enviando cuando se cargó esta página se hizo, una sola vez.",
     "common.not-loaded": "Esta pantalla no se pudo cargar: se cortó la conexión. No se perdió nada de lo que envió.",
     "common.load-again": "Intentar otra vez",
+    "common.counts-refused": ({ what }) => `No se ${what.length === 1 ? "pudo guardar 1 registro" : `pudieron guardar ${what.length} registros`}: ${what
+        .map((/** @type {any} */ { kind, why }) => `${COUNTS[kind]} (${why})`).join(", ")}. Avise a quienes manejan el sistema.`,
+    "common.counts-loose": ({ count }) => `Este navegador no tiene espacio para los registros y el sitio no responde. Deje abierta esta ventana: ${
+        count === 1 ? "hay 1 registro que espera" : `hay ${count} registros que esperan`} en ella.`,
     "common.unproved": "Este es un programa de prueba. Nada de él está demostrado. No lo use para viajes reales.",
     "common.skip": "Saltar a la parte principal",
     "common.screen": "Pantalla",
