@@ -125,16 +125,19 @@ export function tripsOfRider(rider, { heading, cards = false, purpose = "standin
                 : reply.denied !== undefined ? denialOf(reply, purpose)
                     : tripsShown({ rider, cards, trips: tripsNow(), told: taps?.reply()?.value, state, tools, below })];
         } });
-    const refresh = () => read.again();
-    const change = (/** @type {Trip} */ trip) => screen.change({ changing: trip.trip, answers: {} }, { focus: `change-${trip.trip}` });
-    const cancel = async (/** @type {Trip} */ trip) => {
+    // (what was read before is drawn at once, so these are there before the screen is)
+    function refresh() { return read.again(); }
+    /** @param {Trip} trip */
+    function change(trip) { screen.change({ changing: trip.trip, answers: {} }, { focus: `change-${trip.trip}` }); }
+    /** @param {Trip} trip */
+    async function cancel(trip) {
         if (!await sureToCancel(rider, trip)) return;
         const reply = await cancelTrip(trip.trip, "rider");
         const answer = reply.denied !== undefined ? denialOf(reply, "cancel") : part("p", { class: "good" }, t("booking.cancelled-now", { trip: trip.trip, rider: riderLabel(rider) }));
         screen.change({ answers: { [trip.trip]: answer }, changing: null });
         await refresh();
         screen.change({}, { focus: `answer-${trip.trip}` });
-    };
+    }
     const redraw = () => screen.change({});
     screen.onMedia(NARROW);
     screen.onNewDay(refresh);
