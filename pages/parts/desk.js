@@ -11,7 +11,7 @@ import * as line from "./line.js";
  * @typedef {import("../types").Reply<Value>} Reply
  */
 /** @typedef {{ value?: any, denied?: string, field?: string, silent?: string }} Told what one try gives: silent is the key of words that say why */
-/** @typedef {{ digest: string | null, number: number, path: string, body: string, nextKey?: string, resent: boolean }} Pending */
+/** @typedef {{ digest: string | null, number: number, path: string, body: string, nextKey?: string, resent: boolean, waited?: boolean }} Pending */
 
 const LONGEST_WAIT = 30_000, PAUSES = [500, 1000, 2000, 4000, 5000], CROWDED = 429;
 const KEY = "desk.key", PENDING = "desk.pending", SILENT = "common.silent";
@@ -201,6 +201,7 @@ async function untilAnswered(pending) {
         } else {
             line.waits(pending, reply.silent === SILENT ? "common.silent-write" : reply.silent);
             pending.resent ||= reply.silent === SILENT;
+            pending.waited = true;
             keep(pending);
         }
         await pause(tries);
@@ -211,9 +212,15 @@ async function untilAnswered(pending) {
     }
 }
 
-let wrote = () => {};
-/** @param {() => void} act what follows each write of this window that was answered */
-export const whenWrote = (act) => { wrote = act; };
+/** @typedef {{ path: string, fields: any, reply: any, waited: boolean }} Wrote waited says that the line was broken, or the page was loaded anew meanwhile */
+/** @type {Set<(wrote: Wrote) => void>} */
+const afterWrites = new Set();
+/** @type {Set<(sending: { path: string, fields: any }) => void>} */
+const beforeWrites = new Set();
+/** @param {(wrote: Wrote) => void} act what follows each write of this window that was answered */
+export const whenWrote = (act) => { afterWrites.add(act); };
+/** @param {(sending: { path: string, fields: any }) => void} act what is done as a write of this window goes out */
+export const whenSending = (act) => { beforeWrites.add(act); };
 
 let told = () => {};
 /** @param {() => void} act what is done where another window or device wrote with this key */
@@ -232,7 +239,7 @@ async function sent(pending) {
         if (reply.denied !== "desk.number") told();
     }
     sessionStorage.removeItem(PENDING);
-    wrote();
+    afterWrites.forEach((act) => act({ path: pending.path, fields: JSON.parse(pending.body), reply, waited: pending.waited === true }));
     return reply;
 }
 
@@ -240,6 +247,7 @@ async function sent(pending) {
 const write = (path, fields, nextKey) => inTurn(() => {
     const pending = { digest: mine, number: takeNumber(), path, body: JSON.stringify(fields), nextKey, resent: false };
     keep(pending);
+    beforeWrites.forEach((act) => act({ path, fields }));
     return sent(pending);
 });
 
@@ -249,7 +257,7 @@ const write = (path, fields, nextKey) => inTurn(() => {
 export async function finishPending() {
     const pending = JSON.parse(sessionStorage.getItem(PENDING) ?? "null");
     if (!pending || pending.digest !== mine) return null;
-    pending.resent = true;
+    pending.resent = pending.waited = true;
     return inTurn(() => sent(pending));
 }
 

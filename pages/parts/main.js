@@ -4,6 +4,7 @@ import { agency, forgetPlaces, hasAgency, loadAgency, loadPlaces, troubles } fro
 import { asked } from "./ask.js";
 import * as desk from "./desk.js";
 import { denialOf } from "./denials.js";
+import { forgetDrafts } from "./drafts.js";
 import { button, drawInto, found, make, part, say } from "./element.js";
 import * as line from "./line.js";
 import { clearNotes, dropNote, keepNotes, note, sayNotesAgain } from "./notes.js";
@@ -12,6 +13,7 @@ import { forgetReads, readAll } from "./reads.js";
 import { forgetRoster, loadRoster } from "./roster.js";
 import { drawAllAgain } from "./screen.js";
 import { screenOf, SCREENS, STAFF } from "./screens.js";
+import { lookAtSent, unread } from "./sent.js";
 import { signIn } from "./signing.js";
 import { beginAnew, whenRefused } from "./tally.js";
 import { chooseLanguage, language, LANGUAGE_NAMES, languageFor, t, useWords } from "./words.js";
@@ -275,6 +277,7 @@ async function leaveByHand() {
     const { maySignOut } = await queue();
     if (maySignOut && !await maySignOut()) return;
     if (line.isWaiting() && !await asked({ question: t("signing.waiting"), detail: t("signing.waiting-detail"), yes: t("signing.out-anyway"), danger: true })) return;
+    forgetDrafts();
     await signOut(t("signing.signed-out"));
 }
 
@@ -315,7 +318,9 @@ function isActive() {
 // What was under way when the page was loaded anew comes to its end before anything else is sent.
 async function finish() {
     const reply = await desk.finishPending();
-    if (reply) note("finished", () => (reply.denied ? [part("p", {}, t("common.was-denied")), denialOf(reply)] : t("common.was-done")));
+    lookAtSent();
+    // (what became of a trip is in the list of what was sent)
+    if (reply && !unread().length) note("finished", () => (reply.denied ? [part("p", {}, t("common.was-denied")), denialOf(reply)] : t("common.was-done")));
 }
 
 whenRefused(showCounts);
@@ -323,7 +328,7 @@ desk.whenOthersWrote(() => note("others", () => t("common.others-wrote")));
 keepNotes();
 await Promise.all([loadAgency(), desk.comeBack()]);
 await chooseLanguage(languageFor(agency().languages));
-await useWords("common", "denials", "fields", "signing");
+await useWords("common", "denials", "fields", "sent", "signing");
 window.addEventListener("hashchange", () => show());
 window.addEventListener("keydown", slash);
 // (a page that moves by itself, as where a note comes, is used by nobody)

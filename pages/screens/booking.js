@@ -8,6 +8,7 @@ import { button, part } from "../parts/element.js";
 import { form } from "../parts/fields.js";
 import { riderLabel } from "../parts/roster.js";
 import { makeScreen } from "../parts/screen.js";
+import { ended, planned } from "../parts/sent.js";
 import { count } from "../parts/tally.js";
 import { otherWishes, searched, wishesFor } from "../parts/wishes.js";
 import { t } from "../parts/words.js";
@@ -170,7 +171,9 @@ function wishScreen({ rider, trip, send, booked, known, heading, action }) {
         ask: async (values) => (trip ? null : questionOf(rider, legsOf(values), known)),
         send: async (values) => {
             screen.change({ legs: legsOf(values), busy: true });
+            planned(rider, screen.state.legs.map(({ wish }) => wish), trip?.trip ?? null);
             await asker.rest();
+            ended(rider);
             return { value: true };
         },
         done: () => {

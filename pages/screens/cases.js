@@ -4,6 +4,7 @@ import { dayInWords, monthNames, plus, today } from "../parts/clock.js";
 import * as desk from "../parts/desk.js";
 import { denialOf } from "../parts/denials.js";
 import { fresh, make, part } from "../parts/element.js";
+import { draftIn } from "../parts/drafts.js";
 import { enter } from "../parts/entered.js";
 import { dayField, form, numberField, reasonsField, tickField, ticksField } from "../parts/fields.js";
 import { MOST_FARTHER, SUSPENSION_DAYS } from "../parts/limits.js";
@@ -148,18 +149,25 @@ function letterWords({ until, conditions, reasons: why, basis, starts, ends }) {
  */
 function entryForm(rider, kind, entered) {
     const values = { who: riderLabel(rider), rider }, id = fresh("entered");
+    /** @type {ReturnType<typeof draftIn> | null} */
+    let draft = null;
+    const drafted = (/** @type {HTMLElement} */ whole) => {
+        draft = draftIn(whole, `${kind} ${rider}`);
+        return whole;
+    };
     /** @type {any} */
     const screen = makeScreen({
         state: { done: false },
         draw: ({ done }, { kept }) => part("details", { class: "card entry", "data-entry": kind }, part("summary", {}, t(`cases.heading-${kind}`, values)),
-            part("p", {}, t(`cases.about-${kind}`)), kept("form", () => form({ name: t(`cases.heading-${kind}`, values), fields: FIELDS[kind](), action: t(`cases.do-${kind}`, values),
+            part("p", {}, t(`cases.about-${kind}`)), kept("form", () => drafted(form({ name: t(`cases.heading-${kind}`, values), fields: FIELDS[kind](), action: t(`cases.do-${kind}`, values),
                 purpose: "entry", danger: AGAINST.includes(kind), check: faultOf, begun: () => screen.change({ done: false }),
                 ask: (given) => ({ question: t(`cases.ask-${kind}`, values), detail: letterWords(given), yes: t("cases.yes", { action: t(`cases.do-${kind}`, values) }),
                     danger: AGAINST.includes(kind) }),
                 send: (given) => enter(rider, { entry: kind, ...given }), done: async () => {
+                    draft?.drop();
                     screen.change({ done: true }, { focus: id });
                     await entered();
-                } })),
+                } }))),
             part("div", { role: "status", id }, done && part("p", { class: "good" }, t(`cases.done-${kind}`, values)))),
     });
     return screen.element;
