@@ -265,7 +265,8 @@ def who_does_nothing_for_long_is_signed_out(at):
 
 
 def list_of(at):
-    return at.browser.script("return document.querySelector('.trips-card').innerText")
+    return at.browser.script("""return [...document.querySelectorAll('h2')].find((it) => /^Trips of/.test(it.textContent))
+        ?.parentElement.innerText ?? ''""")
 
 
 def changed_beside(at, trip, minute):
@@ -478,6 +479,52 @@ def a_note_that_is_closed_leaves_the_focus_where_it_was(at):
     same("the next note has it", "two", at.browser.script("return document.activeElement.closest('[data-note]')?.dataset.note"))
     two.click()
     same("and then what had it before", "From", at.browser.focused())
+
+
+# What is half filled.
+
+
+def typed(at):
+    return [at.browser.value(name) for name in ["From", "To", "Day"]]
+
+
+@check
+def a_half_filled_form_outlives_the_next_call_a_part_a_reload_and_the_idle_sign_out(at):
+    at.town.write_files(idle_minutes=20)
+    wanted = ["Mill Road School (3)", "Public Library (7)", THURSDAY]
+    try:
+        with at.browser.clock(hurry=20):
+            begin(at, "1005")
+            wish(at, start="school", goal="library", day=THURSDAY)
+            at.browser.find("field", "To").click()
+            for number in ["1006", "1005"]:
+                at.browser.fill("Rider number", number)
+                at.browser.press("Show")
+                at.browser.sees(f"({number})")
+                until(f"the form of {number}", lambda number=number: typed(at) == (wanted if number == "1005" else ["", "", ""]))
+            at.browser.go_part("clerk", "file")
+            at.browser.shown("clerk/file")
+            at.browser.driver.back()
+            at.browser.shown("clerk/trips")
+            same("after Back", wanted, typed(at))
+            at.browser.reload()
+            at.browser.find("button", BOOK)
+            same("after a reload", wanted, typed(at))
+            at.browser.passes(1205)
+            at.browser.sees("Nobody did anything for 20 minutes")
+            kept = at.browser.script("return JSON.stringify([{ ...localStorage }, { ...sessionStorage }])")
+            holds(f"something of it is kept: {kept}", "School" not in kept and "1005" not in kept)
+            at.browser.fill("Key", at.keys["second clerk"])
+            at.browser.press("Sign in")
+            at.browser.fill("Rider number", "1005")
+            at.browser.press("Show")
+            at.browser.find("button", BOOK)
+            same("after the idle sign-out", wanted, typed(at))
+        at.browser.press("Sign out")
+        begin(at, "1005")
+        same("after signing out by hand", ["", "", ""], typed(at))
+    finally:
+        at.town.write_files()
 
 
 # What a clerk has to know of a case.
