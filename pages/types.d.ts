@@ -1,8 +1,12 @@
 // The records that the pages speak of, for the type checker alone.
 
-export type Denied = { denied: string, field?: string, value?: undefined };
+declare const ofReply: unique symbol;
+/** A denial. Only parts/desk.js makes one, of a reply: nothing else has the type. */
+export type Denied = { readonly denied: string, readonly field?: string, readonly value?: undefined, readonly [ofReply]: true };
+/** Whoever asked went away before there was a reply. */
+export type Left = { readonly denied: "left", readonly field?: undefined, readonly value?: undefined };
 export type Accepted<Value> = { value: Value, denied?: undefined, field?: undefined };
-export type Reply<Value> = Accepted<Value> | Denied;
+export type Reply<Value> = Accepted<Value> | Denied | Left;
 
 export type Status = "booked" | "cancelled" | "ridden" | "missed-rider" | "missed-operator";
 export type Wish = { day: string, wish: number, from: number, to: number, by: number | null, attendant: boolean, companions: number };
@@ -17,10 +21,10 @@ export type Route = { id: number, name?: string, width: number, points: [number,
 export type Vehicle = { id: number, name?: string };
 export type Appeal = { to: string, address: string, telephone: string, days: number };
 export type Agency = { name: string, telephone: string, address: string, zone: string | undefined, first_weekday: number, place_word: string, clock: 12 | 24,
-    languages: string[], wait_minutes: number, idle_minutes: number, appeal: Appeal, unproved: boolean };
+    languages: string[], wait_minutes: number, lead: number, idle_minutes: number, appeal: Appeal, unproved: boolean, closed: { day: string, name?: string }[] };
 export type Rider = { rider: number, name: string, telephone: string, language: string, home: number | null, usual: number[], aid: string, note: string };
 
-export type Field<Value = any> = { name: string, wants: string, control: any, element: HTMLElement,
+export type Field<Value = any> = { name: string, label?: string, wants: string, control: any, element: HTMLElement,
     read: () => { value?: Value, fault?: string, ambiguous?: number[] }, write: (value: any) => void, tell: (fault?: string | null) => void };
 export type ScreenPart = { id: string, name: string, draw: () => any };
 

@@ -4,13 +4,19 @@ docs/SITE-FILES.md defines the file. It is read here and nowhere else among the 
 its place, and what is right is used.
 """
 import collections
+import datetime
 import json
+import os
 import re
+import sys
 import zoneinfo
 
 from moving import whole_file
 from moving.limits import (DAYS_TO_APPEAL, GREATEST_COORDINATE, GREATEST_WIDTH, HIGHEST_NUMBER, LAST_MINUTE,
                            LEAST_WIDTH, MOST_POINTS, Wrong)
+
+sys.path.append(os.path.join(os.path.dirname(os.path.realpath(__file__)), "..", "..", "python"))
+from desk_tools.journal import lengths
 
 # What a file holds, as far as it is right, and a sentence for each thing that is wrong, led by its place.
 Read = collections.namedtuple("Read", "agency faults")
@@ -103,6 +109,17 @@ def share(value, *_):
     return None if value is None else whole(0, 100)(value)
 
 
+def time_kept(kind):
+    """For how long a kind of record is kept."""
+    def read(value, *_):
+        try:
+            lengths.days_of(kind, value)
+        except ValueError as error:
+            raise Fault(str(error)) from None
+        return value
+    return read
+
+
 def days_to_appeal(value, *_):
     if type(value) is not int or value != DAYS_TO_APPEAL:
         raise Fault(f"{shown(value)} is not {DAYS_TO_APPEAL}, the days within which the desk takes an appeal")
@@ -169,6 +186,31 @@ def points(value, where, faults):
     if not 2 <= len(found) <= MOST_POINTS:
         raise Fault(f"{len(found)} points, and a line has 2 to {MOST_POINTS}")
     return found
+
+
+def closed_days(value, where, faults):
+    """Days on which nobody is served, each once, with the word that people read of it."""
+    kept = {}
+
+    def read_one(it, at, inner):
+        found = fields_of(it, {"day": day, "name": text}, at, inner)
+        if "day" not in found:
+            raise Fault("it is left out, since its day is missing or wrong")
+        if found["day"] in kept:
+            raise Fault(f"it is left out, since {found['day']} stands above already")
+        kept[found["day"]] = found
+
+    parts(read_one, value, where, faults)
+    return [kept[it] for it in sorted(kept)]
+
+
+def day(value, *_):
+    try:
+        if isinstance(value, str) and datetime.date.fromisoformat(value).isoformat() == value:
+            return value
+    except ValueError:
+        pass
+    raise Fault(f"{shown(value)} is no day, such as \"2026-12-25\"")
 
 
 # Objects and lists of them.
@@ -257,8 +299,9 @@ ROUTE_PAIRS = [("first", "last", rising, "first and last go together, and first 
 FIELDS = {
     "name": text, "telephone": telephone, "address": lines, "zone": zone, "first_weekday": whole(1, 7),
     "place_word": text, "clock": clock, "languages": several(language, 1),
-    "wait_minutes": whole(0, 60), "idle_minutes": whole(0, LAST_MINUTE), "appeal": obj(APPEAL),
-    "subscription_share": share, "unproved": yes_or_no,
+    "wait_minutes": whole(0, 60), "lead": whole(0, 60), "idle_minutes": whole(0, LAST_MINUTE), "appeal": obj(APPEAL),
+    "subscription_share": share, "closed": closed_days, "unproved": yes_or_no,
+    "retention": obj({it: time_kept(it) for it in lengths.DEFAULTS}),
     "places": records(PLACE, ["id"], PLACE_PAIRS),
     "routes": records(ROUTE, ["id", "width", "points"], ROUTE_PAIRS),
     "vehicles": records(VEHICLE, ["id"], []),

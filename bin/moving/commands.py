@@ -298,6 +298,7 @@ def made_key(path):
 def put_caller(admin, record, path):
     """The key is in its file before the desk hears of it, so it is not lost when the line breaks."""
     def do():
-        body = {"id": record["number"], "role": record["role"], "subject": record["subject"]}
+        # (the desk passes over the name; the site's record keeps it)
+        body = {"id": record["number"], "role": record["role"], "subject": record["subject"], "name": record["name"]}
         accepted(admin.post("/callers", {**body, "digest": hashlib.sha256(made_key(path).encode()).hexdigest()}))
     return do

@@ -12,11 +12,12 @@ from moving import agency_file, roster_file, whole_file
 from moving.limits import Wrong
 
 PUBLIC = ("name", "telephone", "address", "zone", "first_weekday", "place_word", "clock", "languages", "wait_minutes",
-          "idle_minutes", "appeal", "unproved")
+          "lead", "idle_minutes", "appeal", "closed", "unproved")
 # Whoever serves the files is in the folder's group; nobody else reads them.
 FILE_MODE, FOLDER_MODE = 0o640, 0o2750
 FIXED = ("agency.json", "places.json", "staff/places.json", "staff/roster.csv", "drivers/places.json", "drivers/roster.csv")
-OWN = re.compile(r"own/[1-9][0-9]*/places\.json")
+OWN_NAMES = ("places.json", "name.json")
+OWN = re.compile(r"own/[1-9][0-9]*/(?:places|name)\.json")
 
 
 def texts_of(agency, roster=None, drivers=None):
@@ -35,6 +36,9 @@ def texts_of(agency, roster=None, drivers=None):
         texts[f"own/{rider}/places.json"] = agency_file.text_of({"places": own})
     if roster:
         texts["staff/roster.csv"] = roster_file.text_of(roster.riders, roster.columns)
+        # A letter that riders print themselves has to name them.
+        for it in roster.riders:
+            texts[f"own/{it['rider']}/name.json"] = agency_file.text_of({"name": it["name"]})
     if drivers:
         texts["drivers/roster.csv"] = roster_file.text_of(drivers.riders, roster_file.DRIVERS_COLUMNS)
     return texts
@@ -91,7 +95,7 @@ def made_folders(folder, inner, group):
 def made_before(folder):
     """The paths of all files in the folder that a run of this program makes, and what a killed run left of one."""
     riders = os.listdir(f"{folder}/own") if os.path.isdir(f"{folder}/own") else []
-    own = [it for it in (f"own/{rider}/places.json" for rider in riders) if OWN.fullmatch(it)]
+    own = [it for it in (f"own/{rider}/{name}" for rider in riders for name in OWN_NAMES) if OWN.fullmatch(it)]
     return {it for path in [*FIXED, *own] for it in (path, f"{path}.new") if os.path.exists(f"{folder}/{it}")}
 
 

@@ -2,9 +2,14 @@
 import collections
 import csv
 import datetime
+import os
 import re
+import sys
 
 from moving.limits import GREATEST_COORDINATE, HIGHEST_NUMBER, LAST_MINUTE, MOST_CHAIRS, MOST_SEATS, Wrong
+
+sys.path.append(os.path.join(os.path.dirname(os.path.realpath(__file__)), "..", "..", "python"))
+from desk_tools.tables import ROLES
 
 CONDITION = re.compile(r"always|nolift|farther:[1-9]\d*|months:[1-9]\d?(,[1-9]\d?)*")
 WEEKDAY_PART = re.compile(r"([1-7])(?:-([1-7]))?")
@@ -154,7 +159,7 @@ COLUMNS = {
     },
     "callers": {
         "number": Column(whole(2, HIGHEST_NUMBER), REQUIRED), "name": NAME,
-        "role": Column(one_of("rider", "clerk", "examiner", "officer", "dispatcher", "driver"), REQUIRED),
+        "role": Column(one_of(*(it for it in ROLES if it != "admin")), REQUIRED),
         "subject": Column(whole(0, HIGHEST_NUMBER), 0),
     },
     "orders": {

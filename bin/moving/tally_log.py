@@ -3,14 +3,11 @@
 `desk_tools.event_log` reads the lines, and `desk_tools.events` has the fields of each kind.
 """
 import collections
-import os
-import sys
 
-sys.path.append(os.path.join(os.path.dirname(os.path.realpath(__file__)), "..", "..", "python"))
-from desk_tools import event_log
-from desk_tools.events import EVENTS
 from moving.limits import Wrong
+from moving.typed import event_log, events
 
+EVENTS = events.EVENTS
 RIDER, AGENCY = "rider", "agency"
 # Lines that name no channel are of a time when the pages alone told denials.
 PAGE = "page"

@@ -6,16 +6,14 @@ import datetime
 import http.client
 import os
 import re
-import sys
 import threading
 from functools import partial
 from http.server import BaseHTTPRequestHandler, ThreadingHTTPServer
 
-sys.path.append(os.path.join(os.path.dirname(os.path.realpath(__file__)), "..", "..", "python"))
-from desk_tools.events import EVENTS, pattern_of
+from moving.typed import events
 
 DESKS_PATHS = re.compile(r"/(callers|policy|places|routes|vehicles|riders|trips|days)(/|$)")
-TALLY = {f"/tally/{event.name}": re.compile(pattern_of(event)) for event in EVENTS.values()}
+TALLY = {f"/tally/{it.name}": re.compile(events.pattern_of(it)) for it in events.EVENTS.values()}
 VEHICLE = re.compile("(?:^|&)vehicle=([0-9]+)")
 OWN = re.compile(r"/own/([1-9][0-9]*)/places\.json")
 OF_VEHICLE = re.compile(r"/drivers/([1-9][0-9]*)/(roster\.csv|places\.json)")
@@ -91,7 +89,7 @@ class Handler(BaseHTTPRequestHandler):
 
     def teller(self, path, words):
         """The status of a key that tells an event, and whose key it is."""
-        who = EVENTS[path.rpartition("/")[2]].who
+        who = events.EVENTS[path.rpartition("/")[2]].who
         if who == "vehicle":
             return self.judged(f"/vehicles/{VEHICLE.search(words)[1]}/manifest/2026-01-01"), "vehicle"
         status = self.judged(f"{NOBODY}/standing/2026-01-01")

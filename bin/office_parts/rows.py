@@ -1,13 +1,17 @@
 """Writes the made office as rows of the desk's tables (docs/FORMATS.md). The desk judges them at its opening."""
 import datetime
+import os
 import sqlite3
 import struct
+import sys
 from contextlib import closing
 
 from office_parts import past, town
 from office_parts.keys import digest_of
 
-ROLES = ["rider", "clerk", "examiner", "officer", "dispatcher", "driver", "admin"]
+sys.path.append(os.path.join(os.path.dirname(os.path.realpath(__file__)), "..", "..", "python"))
+from desk_tools.tables import ROLES
+
 PICKUP, DROP = 0, 1
 DAY_ZERO = datetime.date(1970, 1, 1).toordinal()
 

@@ -1,9 +1,11 @@
 """A night's run: each trip that an order has on the days that may be booked is booked, there, or refused."""
 import collections
 
+from moving import keys
 from moving.carry import reason_of
 from moving.limits import DAYS_AHEAD
 from moving.rules import RULES
+from moving.typed import events
 from orders import table
 from orders.clerk import STANDING
 
@@ -12,14 +14,17 @@ Outcome = collections.namedtuple("Outcome", "order day result reason trip")
 BOOKED, THERE, REFUSED = "booked", "there", "refused"
 SHARE_RULE = "37.133(b)"
 MOST_TRIES = 5
+# What the site is told of a denial: an order's minute is that of a pickup round it.
+CHANNEL, MODE = "standing-order", "around"
 
 
 class Night:
     """What one run needs."""
 
-    def __init__(self, orders, today, state, clerk, share):
+    def __init__(self, orders, today, state, clerk, share, closed=(), at=None):
+        self.at = at
         self.orders, self.state, self.clerk, self.share, self.today = orders, state, clerk, share, today
-        self.days = table.days_of(today, DAYS_AHEAD)
+        self.days = [it for it in table.days_of(today, DAYS_AHEAD) if it.isoformat() not in closed]
         self.keys = {it.key for it in orders}
         self.standing, self.notes, self.is_new = collections.Counter(), [], False
 
@@ -92,6 +97,14 @@ class Night:
             self.count(day, None if is_counted else trips[trip])
         return trip
 
+    def count_denial(self, order, day, reply):
+        """Keeps what the site is told of a trip that the desk denies."""
+        rule = denied_by(reply)
+        if rule in RULES:
+            fields = {"id": keys.made(), "day": day, "minute": order.wish, "rule": rule, "channel": CHANNEL,
+                      "mode": MODE, "at": self.at}
+            self.state.was_denied(order.key, day.isoformat(), events.path_of("denials", fields))
+
     def outcome(self, order, day):
         for _ in range(MOST_TRIES):
             trip = self.there(order, day)
@@ -104,6 +117,7 @@ class Night:
             if reply is None:
                 continue
             if reply.status != 200:
+                self.count_denial(order, day, reply)
                 return Outcome(order, day, REFUSED, refusal(reply), None)
             self.standing[day, order.wish // 60] += 1
             self.share.took(day, order.wish)
@@ -111,7 +125,11 @@ class Night:
         return Outcome(order, day, REFUSED, "another program writes with the clerk's key all the time", None)
 
 
+def denied_by(reply):
+    return reply.body.get("denied") if isinstance(reply.body, dict) else None
+
+
 def refusal(reply):
     """The rule by which the desk denied a trip, and what it means."""
-    denied = reply.body.get("denied") if isinstance(reply.body, dict) else None
+    denied = denied_by(reply)
     return f"{denied}: {RULES[denied]}" if denied in RULES else reason_of(reply)

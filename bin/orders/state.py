@@ -27,6 +27,8 @@ class State:
     def __init__(self, folder, url):
         self.path, self.url = f"{folder}/standing-orders.jsonl", url
         self.last, self.open, self.done, self.claims = {}, {}, {}, {}
+        # Of each trip that was denied the path that tells the site so, or none once it has it.
+        self.denials = {}
         for entry in self.entries():
             self.take(entry)
 
@@ -54,6 +56,8 @@ class State:
         elif kind == "done":
             self.done[entry["key"], entry["day"]] = Done(entry["rider"], entry["trip"])
             self.claims[entry["trip"]] = entry["key"]
+        elif kind == "denied":
+            self.denials[entry["key"], entry["day"]] = entry["path"]
 
     def add(self, **entry):
         """Takes an entry, once it is on the disk."""
@@ -75,6 +79,18 @@ class State:
     def has(self, key, day, rider, trip):
         self.add(kind="done", key=key, day=day, rider=rider, trip=trip)
 
+    def was_denied(self, key, day, path):
+        """A trip was denied: it counts the first time."""
+        if (key, day) not in self.denials:
+            self.add(kind="denied", key=key, day=day, path=path)
+
+    def denial_told(self, key, day):
+        self.add(kind="denied", key=key, day=day, path=None)
+
+    def untold(self):
+        """What the site is still to be told, by order and day."""
+        return {it: path for it, path in self.denials.items() if path}
+
     def forget(self):
         """Nothing of what is known of writes and trips holds: the desk has another database."""
         self.last, self.open, self.done, self.claims = {}, {}, {}, {}
@@ -84,6 +100,7 @@ class State:
         """Leaves out of the file what is long past, and what later lines replaced."""
         oldest = (today - datetime.timedelta(days=DAYS_KEPT)).isoformat()
         self.done = {it: done for it, done in self.done.items() if it[1] >= oldest}
+        self.denials = {it: path for it, path in self.denials.items() if it[1] >= oldest or path}
         self.rewrite()
 
     def rewrite(self):
@@ -92,6 +109,8 @@ class State:
                     for (key, day), it in self.done.items()]
         entries += [{"kind": "send", "caller": caller, "number": it.number, "key": it.key, "body": it.body}
                     for caller, it in self.open.items()]
+        entries += [{"kind": "denied", "key": key, "day": day, "path": path}
+                    for (key, day), path in self.denials.items()]
         whole_file.written(self.path, "".join(json.dumps(it, separators=(",", ":")) + "\n" for it in entries))
 
 

@@ -36,12 +36,17 @@ FIGURES = [
     counted("ridden", "Ridden"),
     Figure("missed_by_rider", "Missed by the rider", lambda it: it["missed by the rider"]),
     Figure("missed_by_operator", "Missed by the operator", lambda it: it["missed by the operator"]),
-    Figure("without_outcome", "Without an outcome", lambda it: it["booked"]),
-    counted("pickups_on_time", "Pickups on time", True),
+    Figure("without_outcome", "Over, without an outcome", lambda it: it["booked"]),
+    counted("to_come", "To come when the copy was made"),
+    counted("pickups_early", "Pickups before the promised window", True),
+    counted("pickups_on_time", "Pickups in the promised window", True),
     counted("pickups_late", "Pickups late", True),
     counted("pickups_untold", "Pickups whose time no driver tapped", True),
     share("on_time_percent", "On time, in percent", lambda it: 100 * it["pickups_on_time"],
-          lambda it: it["pickups_on_time"] + it["pickups_late"], 1, True),
+          lambda it: it["pickups_early"] + it["pickups_on_time"] + it["pickups_late"], 1, True),
+    counted("appointments_on_time", "Drops by the minute that the rider had named", True),
+    counted("appointments_late", "Drops after the minute that the rider had named", True),
+    counted("appointments_untold", "Drops to a named minute whose time no driver tapped", True),
     share("minutes_aboard_planned", "Minutes aboard a ride, as planned", lambda it: it["planned_minutes"],
           lambda it: it["ridden"], 1),
     share("minutes_aboard_driven", "Minutes aboard a ride, as driven", lambda it: it["driven_seconds"] / 60,
@@ -57,7 +62,8 @@ WITHOUT_LOG = ("Without the site's log (--tally) nothing says what was denied, w
                "pickups were on time, or how long riders were aboard.")
 MEANINGS = [
     "A trip counts in the month of its day, and a denial in the month for which it was asked.",
-    "Without an outcome are trips of days to come, and those that nobody ended.",
+    "Without an outcome are trips that nobody ended, of days before the copy was made. Those of its day and later are "
+    "to come.",
     "As planned means by the least service times, which are those of the manifests. A ride's minutes run from the end "
     "of the pickup to the drop.",
     "Vehicle hours run from the first pickup of a vehicle's day to the end of its last drop, on days on which it "
@@ -67,8 +73,9 @@ MEANINGS_OF_LOG = [
     "Rules by which nothing was denied are left out.",
     "A cancellation is late where it came less than {late_minutes} minutes before the promised window. The agency "
     "cancels where a vehicle is out of service.",
-    "A pickup is on time where the vehicle came by the last minute of the promised window. Pickups are those of trips "
-    "that were ridden or that the rider missed.",
+    "A pickup is on time where the vehicle came in the promised window, its first and last minute included; before the "
+    "window it is early. Pickups are those of trips that were ridden or that the rider missed.",
+    "A drop is compared with the minute by which the rider had to be there, of trips that had one and were ridden.",
 ]
 
 

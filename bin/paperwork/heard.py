@@ -9,12 +9,12 @@ from paperwork.copies import CANCELLED, day_of
 # A tap counts for a trip from the midnight of its day until the noon after it.
 MOST_SECONDS = 36 * 3_600
 
-Trip = collections.namedtuple("Trip", "number day vehicle window_from window_to ride status")
+Trip = collections.namedtuple("Trip", "number day vehicle window_from window_to latest ride status")
 
 
 def trips_of(copy, first, last):
     """The trips of the days from first to last, which are numbers."""
-    return [Trip(*it) for it in copy.rows("SELECT id, day, vehicle, window_from, window_to, ride, status FROM trips "
+    return [Trip(*it) for it in copy.rows("SELECT id, day, vehicle, window_from, window_to, latest, ride, status FROM trips "
                                           "WHERE day BETWEEN ? AND ? ORDER BY day, id", first, last)]
 
 
@@ -23,6 +23,8 @@ class Heard:
 
     def __init__(self, log):
         self.taps, self.cancelled = collections.defaultdict(list), {}
+        # What was asked for a trip is what was asked last: a change is told under the same number.
+        self.booked = {(it.trip, it.day): it for it in log.of["bookings"]} if log else {}
         for it in log.stops if log else ():
             self.taps[it.trip].append(it)
         for it in log.cancellations if log else ():
@@ -44,6 +46,10 @@ class Heard:
         """For how many seconds the rider was aboard, or None."""
         begin, end = self.tapped(trip, "aboard"), self.tapped(trip, "dropped")
         return None if begin is None or end is None or end < begin else end - begin
+
+    def requested(self, number, day):
+        """The event of what was asked for a trip, or None where no log has it."""
+        return self.booked.get((number, day_of(day)))
 
     def cancellation(self, trip, late_minutes):
         """How a trip was cancelled: for the agency, early, late, or untold."""

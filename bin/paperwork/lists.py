@@ -5,6 +5,7 @@ docs/WORKLIST.md says what each means.
 import collections
 
 from moving.limits import DAYS_TO_APPEAL
+from moving.tally_log import AGENCY
 from paperwork import case_files, copies
 from paperwork.copies import day_of, number_of
 
@@ -25,14 +26,14 @@ class Names:
         return (Rider(number), self.riders.get(number, ""))
 
 
-def all_lists(copy, today, names):
-    """Each list, for today, and the riders whose case files somebody has to decide on."""
+def all_lists(copy, today, names, log=None):
+    """Each list, for today, and the riders whose case files somebody has to decide on. The log is the site's."""
     files, now = copy.case_files(), number_of(today)
     patterns = patterns_of(copy, now)
     lists = [
         applications(files, now, names), appeals(files, now, names), grants(files, now, names),
         missed(files, patterns, now, names), suspended_trips(copy, files, now, names),
-        without_outcome(copy, now, names), vehicles(copy, now, names),
+        without_outcome(copy, now, names), vehicles(copy, now, names), not_rebooked(copy, log, now, names),
     ]
     deciding = {row[0].number for it in lists[:2] + lists[3:4] for row in it.rows}
     return lists, {rider: files.get(rider, []) for rider in sorted(deciding)}
@@ -151,6 +152,38 @@ def without_outcome(copy, now, names):
         "outcomes", "Trips without an outcome", "dispatcher",
         "Days before today. Until it has an outcome, a trip counts as neither ridden nor missed.",
         ("Day", "Vehicle", "Trips", "Their numbers"), rows)
+
+
+def not_rebooked(copy, log, now, names):
+    """Trips from today on that the agency canceled, whose riders have no other trip in their place."""
+    ours = {it.trip for it in log.cancellations if it.by == AGENCY} if log else set()
+    canceled, standing = [], collections.defaultdict(list)
+    for row in copy.rows("SELECT id, rider, day, vehicle, origin, goal, window_from, window_to, status FROM trips "
+                         "WHERE day >= ? ORDER BY day, window_from, id", now):
+        if row[-1] != copies.CANCELLED:
+            standing[row[1], row[2]].append(row)
+        elif row[0] in ours:
+            canceled.append(row)
+    rows = [(*names.rider(rider), day_of(day), f"{clock(begins)} to {clock(ends)}", trip, origin, goal,
+             vehicle_named(vehicle, names))
+            for trip, rider, day, vehicle, origin, goal, begins, ends, _ in canceled
+            if not taken_out(standing[rider, day], trip, (origin, goal), (begins, ends))]
+    note = ("The agency canceled these for a vehicle out of service, and no other trip of that day stands in their "
+            "place. Call the rider, and book again.")
+    return Listed(
+        "canceled", "Canceled by the agency and not booked again", "dispatcher",
+        note if log else "The site's log (--tally) was not given, so nobody knows what the agency canceled.",
+        ("Rider", "Name", "Day", "Window", "Trip", "From", "To", "Vehicle"), rows)
+
+
+def taken_out(standing, number, way, window):
+    """Takes out of a rider's trips of a day the one that stands in place of a canceled one; whether there is one."""
+    for row in standing:
+        trip, _, _, _, origin, goal, begins, ends, _ = row
+        if trip > number and ((origin, goal) == way or begins <= window[1] and ends >= window[0]):
+            standing.remove(row)
+            return True
+    return False
 
 
 def vehicles(copy, now, names):

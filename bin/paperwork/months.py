@@ -40,13 +40,14 @@ def months_between(month, last):
 
 
 def count_trips(copy, heard, period, late_minutes, counts):
-    """Counts the trips, and returns how each ended."""
-    status = {}
+    """Counts the trips, and returns how each ended. A trip of the copy's day or later is to come."""
+    status, made = {}, number_of(copy.made_on())
     for trip in trips_of(copy, *map(number_of, period)):
         count = counts[month_of(day_of(trip.day))]
         status[trip.number] = trip.status
         count["trips"] += 1
-        count[copy.status_of(trip.number, trip.status)] += 1
+        is_to_come = trip.status == copies.BOOKED and trip.day >= made
+        count["to_come" if is_to_come else copy.status_of(trip.number, trip.status)] += 1
         if trip.status == copies.CANCELLED:
             count[f"cancelled_{heard.cancellation(trip, late_minutes)}"] += 1
         elif trip.status in ON_THE_ROAD:
@@ -57,13 +58,21 @@ def count_trips(copy, heard, period, late_minutes, counts):
 def count_times(count, trip, heard):
     """When the vehicle came, and for how long the rider was aboard. The window's last minute is in time."""
     arrived = heard.arrived(trip)
-    is_late = arrived is not None and arrived >= 60 * (trip.window_to + 1)
-    count["pickups_untold" if arrived is None else "pickups_late" if is_late else "pickups_on_time"] += 1
+    count[f"pickups_{when(arrived, trip.window_from, trip.window_to)}"] += 1
+    if trip.latest != copies.NO_NUMBER and trip.status == copies.RIDDEN:
+        count[f"appointments_{when(heard.tapped(trip, 'dropped'), 0, trip.latest)}"] += 1
     seconds = heard.aboard(trip) if trip.status == copies.RIDDEN else None
     if seconds is not None:
         count["rides_timed"] += 1
         count["driven_seconds"] += seconds
         count["rides_over_limit"] += seconds > 60 * trip.ride
+
+
+def when(seconds, first, last):
+    """How a moment of a day, in seconds, lies to a first and a last minute, both of which are in time."""
+    if seconds is None:
+        return "untold"
+    return "early" if seconds < 60 * first else "late" if seconds >= 60 * (last + 1) else "on_time"
 
 
 def count_plans(copy, period, status, counts):

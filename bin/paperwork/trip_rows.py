@@ -11,8 +11,8 @@ from paperwork.plans import DROP, PICKUP, Plans
 MARK = "\ufeff"
 # What a spreadsheet would take for a formula.
 FORMULA = re.compile(r"[=+\-@\t\r]")
-COLUMNS = ("Trip", "Rider", "Name", "Telephone", "Day", "Wished", "Promised from", "Promised to", "From", "To", "By",
-           "Vehicle", "Attendant", "Companions", "Wheelchair", "Fare ($)", "Due ($)", "State", "Pickup planned",
+COLUMNS = ("Trip", "Rider", "Name", "Telephone", "Day", "Requested", "Requested time", "Sent to the desk",
+           "Promised from", "Promised to", "From", "To", "By", "Vehicle", "Attendant", "Companions", "Wheelchair", "Fare ($)", "Due ($)", "State", "Pickup planned",
            "Drop planned", "Arrived", "Aboard", "Dropped")
 
 
@@ -26,11 +26,21 @@ def rows_of(copy, log, period, names):
     for trip, rider, day, wish, origin, goal, latest, attendant, companions, fare, vehicle, begins, ends, status in \
             copy.rows("SELECT id, rider, day, wish, origin, goal, latest, attendant, companions, fare, vehicle, "
                       "window_from, window_to, status FROM trips WHERE day BETWEEN ? AND ? ORDER BY day, id", *days):
-        yield [trip, rider, *map(text, names.rider(rider)), day_of(day), clock(wish), clock(begins), clock(ends),
+        yield [trip, rider, *map(text, names.rider(rider)), day_of(day), *requested_words(heard.requested(trip, day)),
+               clock(wish), clock(begins), clock(ends),
                text(names.place(origin)), text(names.place(goal)), "" if latest == copies.NO_NUMBER else clock(latest),
                text(names.vehicle(vehicle)), yes(attendant), companions, yes(trip in chairs), dollars(fare),
                dollars(fare * (1 + companions)), copy.status_of(trip, status), planned.get((trip, PICKUP), ""),
                planned.get((trip, DROP), ""), *told[trip]]
+
+
+# How people say what they asked for.
+MODES = {"around": "around", "not-before": "not before", "by": "be there by"}
+
+
+def requested_words(asked):
+    """How a trip was asked for, and the minute that was named; empty where no log says."""
+    return ("", "") if asked is None else (MODES[asked.mode], clock(asked.minute))
 
 
 class Names:

@@ -115,3 +115,21 @@ def check_same(wanted, found, label):
         if wanted.counts[table] != found.counts.get(table):
             raise Failure(f"{label}: table {table} has {found.counts.get(table)} rows for {wanted.counts[table]}")
     raise Failure(f"{label}: the last numbers are others: {found.told()}, for {wanted.told()}")
+
+
+def summary_in(connection, name):
+    """Counts of rows, and the number of each caller's last write, in what JSON can hold. Writes leave no other trace
+    that is as short: two files of one desk with the same of these have the same writes."""
+    content = content_in(connection, name)
+    kept = {str(caller): number for caller, number in connection.execute("SELECT caller, number FROM kept")}
+    return {"counts": content.counts, "last_trip": content.last_trip, "kept": kept}
+
+
+def summary_of_pair(file):
+    with contextlib.closing(in_memory(file)) as connection:
+        return summary_in(connection, file)
+
+
+def summary_of(file):
+    with opened(file) as connection:
+        return summary_in(connection, file)

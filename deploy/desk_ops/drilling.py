@@ -3,18 +3,25 @@ import contextlib
 import glob
 import os
 import select
+import shlex
 import socket
 import subprocess
+import tarfile
 import time
 
+from . import typed  # noqa: F401  (it leads to the package `desk_tools`)
 from .content import check_same, content_of_pair
 from .copying import check_room, folder_within, size_of
 from .ending import WRONG_WORDS, Failure
 from .judge import ANY_ZONE
 from .places import program_to_start
 from .restoring import check_backup, prepared
+from desk_tools import elsewhere
 
 LONGEST_OPENING = 600
+# Without these a new machine would not be the one that was lost.
+NEEDED = ("etc/desk/agency.json", "etc/desk/setup.json", "etc/systemd/system/desk.service.d/zone.conf",
+          "etc/ssl/desk/certificate.pem", "etc/ssl/desk/key.pem")
 NOBODYS = b"GET /days/2000-01-01/sheet HTTP/1.1\r\nDesk-Key: drill\r\n\r\n"
 
 
@@ -61,14 +68,64 @@ def check_answer(port):
         raise Failure(f"the restored desk answered {said[:80]!r} to a key that nobody has")
 
 
+def newest_elsewhere(place, folder, ssh, identity):
+    """From another place alone: its newest backup in plain in `folder`, and what its newest copy of a machine has."""
+    where = elsewhere.place_of(place)
+    if where is None:
+        raise Failure(f"{place!r} names no other place", WRONG_WORDS)
+    shell = [*shlex.split(ssh), where.machine] if where.machine else []
+    listing = ran([*shell, f"ls {shlex.quote(where.folder)}"] if shell else ["ls", where.folder], f"the list of {where.told()}")
+    found = {kind: elsewhere.newest(listing.split(), kind) for kind in ("desk", "machine")}
+    for kind, name in found.items():
+        if not name:
+            raise Failure(f"{where.told()} has no copy of a {kind}, whose name would be {kind}-YYYY-MM-DD-HHMM", WRONG_WORDS)
+    paths = {kind: fetched(where, shell, name, folder, identity) for kind, name in found.items()}
+    return paths["desk"], found["desk"], told_of_machine(paths["machine"], found["machine"])
+
+
+def ran(words, what):
+    """What a command prints."""
+    said = subprocess.run(words, stdin=subprocess.DEVNULL, capture_output=True, check=False)
+    if said.returncode:
+        raise Failure(f"{what}: {' '.join(said.stderr.decode(errors='replace').split()) or 'failed'}")
+    return said.stdout.decode(errors="replace")
+
+
+def fetched(where, shell, name, folder, identity):
+    """The copy in plain, in a folder that is thrown away."""
+    path = f"{folder}/{name}"
+    with open(path, "wb") as file:
+        words = [*shell, f"cat {shlex.quote(f'{where.folder}/{name}')}"] if shell else ["cat", f"{where.folder}/{name}"]
+        if subprocess.run(words, stdin=subprocess.DEVNULL, stdout=file, check=False).returncode:
+            raise Failure(f"{name} could not be fetched from {where.told()}")
+    plain = f"{folder}/{name.removesuffix('.age').removesuffix('.gpg')}"
+    words = elsewhere.opening_words(name, identity, path, plain)
+    if words:
+        ran(words, f"{name} could not be decrypted by this key")
+    return plain
+
+
+def told_of_machine(path, name):
+    """What a new machine would have of it, beside the backup."""
+    try:
+        with tarfile.open(path) as archive:
+            names = archive.getnames()
+    except (tarfile.TarError, EOFError) as error:
+        raise Failure(f"{name} is cut, or no copy of a machine: {str(error).splitlines()[0]}") from None
+    lacking = [it for it in NEEDED if it not in names]
+    if lacking:
+        raise Failure(f"{name} lacks {', '.join(lacking)}: a new machine could not be set up from it")
+    return f"{name} has {len(names)} files: the settings, the zone and the certificate are among them"
+
+
 class Drill:
     """What a restore takes, step by step."""
 
-    def __init__(self, backup, folder):
+    def __init__(self, backup, folder, made_at=None):
         self.backup, self.folder = backup, folder
         self.seconds = {}
         self.content = None
-        self.age = time.time() - os.path.getmtime(backup)
+        self.age = time.time() - (made_at or os.path.getmtime(backup))
 
     @contextlib.contextmanager
     def timed(self, step):

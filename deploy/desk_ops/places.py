@@ -1,4 +1,5 @@
 """Where a desk's files and programs are. The environment may name others, which is what trials do."""
+import json
 import os
 import re
 import subprocess
@@ -41,6 +42,15 @@ class Desk:
         command = f"systemctl reset-failed {self.unit} 2>/dev/null; systemctl start {self.unit}"
         answer_of(os.environ.get("START") or command)
 
+    def enable(self):
+        """The desk, and what runs beside it by desk-setup's answers, begin at each start of the machine."""
+        nightly = ["backup"] if self.agency else nightly_in(f"{os.environ.get('SETTINGS') or SETTINGS}/setup.json")
+        end = f"@{self.agency}" if self.agency else ""
+        timers = " ".join(f"desk-{it}{end}.timer" for it in nightly)
+        command = (f"systemctl enable {self.unit} && "
+                   f"systemctl enable --now {timers} desk-watch.timer desk-restart.timer")
+        answer_of(os.environ.get("ENABLE") or command)
+
     def is_served(self):
         """Whether the process of the unit has the file open."""
         process = self.process()
@@ -53,6 +63,16 @@ class Desk:
             raise Failure(f"process {process} does not serve {self.file}: FILE or PROCESS is another desk's, "
                           "or this takes the rights of root")
         return process
+
+
+def nightly_in(path):
+    """What desk-setup was told runs each night: the backup, where nobody says."""
+    try:
+        with open(path, encoding="utf-8") as file:
+            said = json.load(file)["nightly"]
+    except (OSError, ValueError, KeyError, TypeError):
+        return ["backup"]
+    return [it for it in re.split(r"[ ,]+", str(said)) if re.fullmatch(r"[a-z-]+", it) and it != "none"]
 
 
 def answer_of(command):

@@ -14,6 +14,7 @@ from .copying import check_copy, check_room, copied, folder_within, size_of, sum
 from .ending import WRONG_WORDS, Failure, pass_over_signals
 from .judge import judge_or_migrate, migrated
 from .places import program_to_start
+from .zones import check_zone
 
 EMPTY_LOG = 41
 # The new file, what the desk opens and throws away, and what SQLite writes as it goes.
@@ -65,11 +66,14 @@ def callers_before(desk):
 
 
 class Restore:
-    """Puts the backup `copy` in the place of the database of a desk."""
+    """Puts the backup `copy` in the place of the database of a desk.
 
-    def __init__(self, desk, copy, migrate=False, another=False):
+    `starts_old` is whether the old file is served again where this fails: not where another machine has served since.
+    """
+
+    def __init__(self, desk, copy, migrate=False, another=False, starts_old=True):
         self.desk, self.copy = desk, os.path.abspath(copy)
-        self.migrate, self.another = migrate, another
+        self.migrate, self.another, self.starts_old = migrate, another, starts_old
         self.kept = None
         self.moved = []
         self.placed = self.stopped = False
@@ -81,6 +85,7 @@ class Restore:
         check_backup(self.copy)
         if not os.path.isdir(self.desk.folder):
             raise Failure(f"there is no folder {self.desk.folder}: set the machine up first, as README.md says")
+        check_zone(self.desk)
         check_room(self.desk.folder, COPIES * size_of(self.copy), "restoring this backup")
         program = program_to_start(self.desk.process())
         before = os.umask(0o077)
@@ -159,7 +164,7 @@ class Restore:
             os.rename(f"{self.kept}/{os.path.basename(path)}", path)
         if self.kept:
             shutil.rmtree(self.kept, ignore_errors=True)
-        if self.stopped and os.path.exists(self.desk.file):
+        if self.stopped and self.starts_old and os.path.exists(self.desk.file):
             self.desk.start()
 
     def told(self):

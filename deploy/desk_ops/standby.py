@@ -2,9 +2,11 @@
 
 The first machine sends to the place that its settings name, a folder of the second. That folder has `incoming/desk.db`,
 the last that came, whole or not; `copies/`, those that were checked there; and `opened`, once the second machine
-serves.
+serves. Who opens the desk holds the lock of `copies/` meanwhile. `opening.py` has what the second machine does then.
 """
+import contextlib
 import datetime
+import fcntl
 import hashlib
 import json
 import os
@@ -14,18 +16,32 @@ import subprocess
 import time
 
 from .backing_up import Backup
-from .content import check_whole, content_of
+from .content import check_whole, content_of, summary_of_pair
 from .copying import check_copy, copied, folder_within, give_name, synced
-from .ending import WRONG_WORDS, Failure
+from .ending import WRONG_WORDS, Failure, sentence_of
 from .judge import judge
 from .places import program_to_start
-from .restoring import Restore
 from .retention import copies_in, kept_of, name_after
 
 TARGET = re.compile(r"([A-Za-z0-9._@-]+):(/[A-Za-z0-9._/-]+)")
 SCRIPT = "/usr/local/lib/desk/standby"
-PATIENCE = 15
-OPENED, FENCED = "opened", "fenced"
+# Seconds until a line is taken for broken.
+PATIENCE = int(os.environ.get("PATIENCE_OF_LINE") or 15)
+# So many seconds a change-over waits for a copy that is on its way.
+TURN = 120
+OPENED, OPENING, WAITING = "opened", "opening", "waiting"
+# How the fence begins of a machine whose successor has not opened the desk yet.
+CHANGE = "change-over"
+# What ssh says where it did not get so far as to run anything.
+NOT_REACHED = ("ssh: ", "Host key verification failed", "Permission denied")
+
+
+class NotTold(Failure):
+    """The other machine could not be asked; `is_reached` is false where nothing can have run there."""
+
+    def __init__(self, sentence, is_reached):
+        super().__init__(sentence)
+        self.is_reached = is_reached
 
 
 class Settings:
@@ -57,17 +73,17 @@ class Settings:
 
     def shell(self):
         return [*shlex.split(self.ssh), "-o", "BatchMode=yes", "-o", f"ConnectTimeout={PATIENCE}", "-o",
-                "ServerAliveInterval=5",
+                f"ServerAliveInterval={PATIENCE // 3}",
                 "-o", "ServerAliveCountMax=3"]
 
     def told(self, machine, *words):
-        """What the script of the other machine answers: its last line, as it ends with status 0."""
+        """What the script of the other machine answers, as it ends with status 0."""
         command = " ".join(shlex.quote(it) for it in (self.script, *words))
         said = subprocess.run([*self.shell(), machine, command], stdin=subprocess.DEVNULL, capture_output=True,
                               text=True)
         if said.returncode:
-            raise Failure(f"{machine}: "
-                          f"{said.stderr.strip() or said.stdout.strip() or f'ended with status {said.returncode}'}")
+            why = said.stderr.strip() or said.stdout.strip() or f"ended with status {said.returncode}"
+            raise NotTold(f"{machine}: {why}", not why.startswith(NOT_REACHED))
         return said.stdout.strip()
 
 
@@ -79,28 +95,76 @@ def digest_of(path):
     return total.hexdigest()
 
 
+@contextlib.contextmanager
+def alone(folder, patience, why):
+    """Only one process at a time has the folder's lock; one waits so many seconds for it."""
+    line, end = os.open(folder, os.O_RDONLY | os.O_DIRECTORY), time.monotonic() + patience
+    try:
+        while True:
+            try:
+                fcntl.flock(line, fcntl.LOCK_EX | fcntl.LOCK_NB)
+                break
+            except BlockingIOError:
+                if time.monotonic() >= end:
+                    raise Failure(why) from None
+                time.sleep(0.2)
+        yield
+    finally:
+        os.close(line)
+
+
+def is_held(folder):
+    """Whether a process has the folder's lock."""
+    line = os.open(folder, os.O_RDONLY | os.O_DIRECTORY)
+    try:
+        fcntl.flock(line, fcntl.LOCK_SH | fcntl.LOCK_NB)
+        return False
+    except BlockingIOError:
+        return True
+    finally:
+        os.close(line)
+
+
 # On the first machine.
 
 
 def send(desk, settings, rate=None):
     """Makes a checked backup and brings it to the second machine, which checks it too. Returns what to say."""
     machine, folder = settings.place(desk.agency)
-    if settings.told(machine, "state", folder) == OPENED:
+    state_there = settings.told(machine, "state", folder)
+    if os.path.exists(desk.fence):
+        return told_of_fence(desk, machine, state_there)
+    if state_there == OPENED:
         fence(desk, f"{machine} serves since it was opened")
         raise Failure(f"{machine} has opened the desk: this machine is fenced and serves no longer")
+    begun = time.monotonic()
+    with alone(desk.folder, 0, "another copy is on its way to the second machine"):
+        made, came, _ = brought(desk, settings, rate)
+    seconds = time.monotonic() - begun
+    return f"{machine}: {came.rpartition(': ')[2]}, {made.content.told()}; it took {seconds:.1f} seconds"
+
+
+def told_of_fence(desk, machine, state_there):
+    """A change-over that ended in the middle left nobody serving: then this machine serves again."""
+    if is_changing(desk) and state_there == WAITING:
+        unfence(desk)
+        return f"{machine} has not opened the desk, so the change-over was given up: this machine serves again"
+    return "this machine is fenced and sends nothing"
+
+
+def brought(desk, settings, rate=None):
+    """A backup of this moment is at the second machine, which has checked it: the backup, the answer, its digest."""
+    machine, folder = settings.place(desk.agency)
     with folder_within(os.environ.get("OUTGOING") or "/var/tmp", "desk-standby-") as place:
         copy = f"{place}/desk.db"
-        begun = time.monotonic()
-        made = Backup(desk, copy).make()
-        brought(settings, copy, machine, folder, rate)
-        came = settings.told(machine, "receive", folder, digest_of(copy))
-        seconds = time.monotonic() - begun
-        return f"{machine}: {came.rpartition(': ')[2]}, {made.content.told()}; it took {seconds:.1f} seconds"
+        made, digest = Backup(desk, copy).make(), digest_of(copy)
+        put_there(settings, copy, machine, folder, rate)
+        return made, settings.told(machine, "receive", folder, digest), digest
 
 
-def brought(settings, copy, machine, folder, rate):
+def put_there(settings, copy, machine, folder, rate):
     """The copy is what comes in there. Only what differs from the one before goes over the line."""
-    words = ["rsync", "--times", "--compress", "--timeout=60", "--chmod=F600", f"--rsh={shlex.join(settings.shell())}"]
+    words = ["rsync", "--times", "--compress", "--timeout=60", f"--rsh={shlex.join(settings.shell())}"]
     words += [f"--bwlimit={rate}"] if rate else []
     said = subprocess.run([*words, copy, f"{machine}:{folder}/incoming/desk.db"], stdin=subprocess.DEVNULL,
                           capture_output=True, text=True)
@@ -111,23 +175,75 @@ def brought(settings, copy, machine, folder, rate):
 def fence(desk, why):
     """This machine serves no longer: neither its unit nor its site begins while that file is there."""
     os.makedirs(os.path.dirname(desk.fence), exist_ok=True)
-    if not os.path.exists(desk.fence):
+    is_new = not os.path.exists(desk.fence)
+    if is_new or is_changing(desk):
         with open(f"{desk.fence}.new", "w", encoding="utf-8") as file:
             file.write(f"{why}; fenced at {datetime.datetime.utcnow():%Y-%m-%dT%H:%M:%SZ}\n")
         os.chmod(f"{desk.fence}.new", 0o644)
         os.rename(f"{desk.fence}.new", desk.fence)
         synced(os.path.dirname(desk.fence))
-    desk.stop()
+    try:
+        desk.stop()
+        if desk.process():
+            raise Failure("the desk did not stop")
+    except BaseException:
+        # (a desk that goes on, and a site that lets nobody in, would be the worst of both)
+        if is_new:
+            unfence(desk)
+        raise
+
+
+def is_changing(desk):
+    """Whether the fence is that of a change-over whose end this machine has not seen."""
+    with contextlib.suppress(OSError), open(desk.fence, encoding="utf-8") as file:
+        return file.read().startswith(CHANGE)
+    return False
+
+
+def unfence(desk):
+    with contextlib.suppress(FileNotFoundError):
+        os.remove(desk.fence)
+    synced(os.path.dirname(desk.fence))
+    desk.start()
+
+
+def fence_for_change(desk, settings):
+    """This machine serves no longer, and has sent a last copy: a line of JSON for the second machine.
+
+    Where the last copy could not be sent, `why` says so, and `content` tells what the file has at rest.
+    """
+    with alone(desk.folder, TURN, "a copy is on its way: say the same again in a minute"):
+        fence(desk, f"{CHANGE} to another machine")
+        answer = {"at": f"{datetime.datetime.utcnow():%Y-%m-%dT%H:%M:%SZ}", "sent": None, "why": None, "content": None}
+        with contextlib.suppress(Failure, OSError):
+            answer["content"] = summary_of_pair(desk.file)
+        try:
+            answer["sent"] = brought(desk, settings)[2]
+        except (Failure, OSError, subprocess.SubprocessError) as error:
+            answer["why"] = sentence_of(error)
+    return json.dumps(answer)
+
+
+def give_up_change(desk, settings):
+    """This machine serves again, unless the second one has opened the desk."""
+    if not os.path.exists(desk.fence):
+        return "this machine has no fence"
+    with contextlib.suppress(NotTold):
+        machine, folder = settings.place(desk.agency)
+        if settings.told(machine, "state", folder) == OPENED:
+            raise Failure(f"{machine} has opened the desk, so this machine stays fenced")
+    unfence(desk)
+    return "the fence is gone, and this machine serves again"
 
 
 def ask_at_start(desk, settings):
     """Before the first machine serves: has the second opened the desk meanwhile?"""
     machine, folder = settings.place(desk.agency)
     try:
-        state = settings.told(machine, "state", folder)
-    except Failure as failure:
+        state_there = settings.told(machine, "state", folder)
+    except NotTold as failure:
         return f"{failure}; the second machine did not answer, and this one serves"
-    if state == OPENED:
+    if state_there == OPENED:
         fence(desk, f"{machine} serves since it was opened")
         raise Failure(f"{machine} has opened the desk: this machine is fenced and serves no longer")
     return f"{machine} has not opened the desk"
@@ -137,10 +253,26 @@ def ask_at_start(desk, settings):
 
 
 def state(folder):
-    """Whether the second machine has opened the desk."""
+    """Whether the second machine has opened the desk, and serves it still."""
     for name in ("incoming", "copies"):
         os.makedirs(f"{folder}/{name}", 0o700, exist_ok=True)
-    return OPENED if os.path.exists(f"{folder}/{OPENED}") else "waiting"
+    if is_opened(folder):
+        return OPENED
+    return OPENING if is_held(f"{folder}/copies") else WAITING
+
+
+def is_opened(folder):
+    """Whether the folder has the mark of an opening. Once this machine is fenced itself, that opening is over."""
+    try:
+        with open(f"{folder}/{OPENED}", encoding="utf-8") as file:
+            text = file.read()
+    except FileNotFoundError:
+        return False
+    except OSError:
+        text = ""
+    with contextlib.suppress(ValueError, AttributeError):
+        return not os.path.exists(json.loads(text).get("fence") or "/etc/desk/fenced")
+    return True
 
 
 def receive(folder, digest):
@@ -172,55 +304,3 @@ def listed(folder):
     """The copies, the newest first, with what each has."""
     for name in copies_in(os.listdir(f"{folder}/copies")):
         yield f"{name}: {content_of(f'{folder}/copies/{name}').told()}"
-
-
-def open_desk(desk, folder, settings, first, first_is_off):
-    """This machine serves the newest copy from now on. The first is fenced, or a person says that it is off."""
-    copies = copies_in(os.listdir(f"{folder}/copies")) if os.path.isdir(f"{folder}/copies") else []
-    if not copies:
-        raise Failure(f"{folder}/copies has no copy")
-    if state(folder) == OPENED:
-        raise Failure(f"this machine has opened the desk already: {folder}/{OPENED} says when. To put a copy in place "
-                      f"of what it "
-                      "has written since, run deploy/restore")
-    # (what can be known beforehand is looked at before the first machine is fenced)
-    program_to_start()
-    how = fenced_first(desk, settings, first, first_is_off)
-    mark_opened(folder, how)
-    if os.path.exists(desk.fence):
-        os.remove(desk.fence)
-    told = []
-    for name in copies:
-        try:
-            restored = Restore(desk, f"{folder}/copies/{name}", migrate=True, another=True).make()
-            return [*told, how, *restored.told().splitlines()]
-        except Failure as failure:
-            told.append(f"{name} could not be opened: {failure}")
-    os.remove(f"{folder}/{OPENED}")
-    raise Failure("; ".join(told))
-
-
-def fenced_first(desk, settings, first, first_is_off):
-    """How it is known that the first machine serves no longer."""
-    if first:
-        words = ["fence"] + ([desk.agency] if desk.agency else [])
-        try:
-            settings.told(first, *words)
-            return f"{first} is fenced and serves no longer"
-        except Failure as failure:
-            if not first_is_off:
-                raise Failure(f"{first} could not be fenced ({failure}): take its power or its network away, and say "
-                              f"--first-is-off") from None
-    elif not first_is_off:
-        raise Failure("name the first machine by --first, or say --first-is-off once its power or its network is gone",
-                      WRONG_WORDS)
-    return "the first machine is off, as was said; it fences itself when it is back"
-
-
-def mark_opened(folder, how):
-    """From now on the first machine is told so, whenever it asks, and no copy is taken."""
-    path = f"{folder}/{OPENED}"
-    with open(path, "w", encoding="utf-8") as file:
-        json.dump({"at": f"{datetime.datetime.utcnow():%Y-%m-%dT%H:%M:%SZ}", "how": how}, file)
-    synced(path)
-    synced(folder)

@@ -12,11 +12,12 @@ import time
 import urllib.error
 import urllib.request
 
+from . import elsewhere
 from .ending import Failure
 from .places import AGENCY_NAME, SETTINGS
 
 PORT, SHOWN = "8437", ("LoadState", "ActiveState", "Result", "NRestarts", "ExecMainExitTimestamp", "ExecMainStatus")
-OTHER_SETTINGS = ("standby", "watch")
+OTHER_SETTINGS = ("standby", "watch", "offsite")
 MINUTE, HOUR, DAY = 60, 3_600, 86_400
 MOST_RESTARTS, LONGEST_STEP = 3, 15 * MINUTE
 CERTIFICATE_DAYS, BACKUP_AGE, STANDBY_AGE = 21, 25 * HOUR, 20 * MINUTE
@@ -86,6 +87,8 @@ def facts(settings=SETTINGS):
         "backups": {it.unit: newest_in(os.environ.get("BACKUPS") or it.backups) for it in desks},
         "sizes": {it.unit: size_of(os.environ.get("DATA") or it.folder) for it in desks},
         "standby": {it.unit: shown(it.standby) for it in desks} if os.path.exists(f"{settings}/standby.conf") else {},
+        "elsewhere": elsewhere.facts(settings, {it.unit: (it.agency, os.environ.get("BACKUPS") or it.backups) for it in desks},
+                                     time.time()),
     }
 
 
@@ -231,6 +234,7 @@ def troubles(told, state, settings, patience):
                    *troubles_of_answer(desk, patience, wanted), *troubles_of_backup(told["backups"].get(unit), now)]
         if told["standby"].get(unit, {}).get("LoadState", "not-found") == "loaded":
             of_desk += troubles_of_standby(unit, told["standby"][unit], state, now)
+        of_desk += elsewhere.troubles(unit, told.get("elsewhere", {}), now, BACKUP_AGE)
         if site != "none":
             of_desk += troubles_of_certificate(desk.name, site, now)
         of_desk += troubles_of_room(os.environ.get("DATA") or desk.folder, told["sizes"].get(unit, 0))

@@ -12,7 +12,8 @@ from setting_up.changes import run
 from setting_up.settings import NIGHTLY, Failure
 
 DESK, SITE, CLOCK = "desk.service", "nginx.service", "systemd-time-wait-sync.service"
-ALWAYS = [DESK, "desk-watch.timer", "desk-restart.timer"]
+ALWAYS = [DESK, "desk-watch.timer", "desk-restart.timer", "desk-journal.timer", "desk-record.service", "desk-retention.timer",
+          "desk-today.service"]
 PORT, SECONDS, SECONDS_OF_SITE, NOBODY = 8437, 120, 30, "no key of anybody"
 
 

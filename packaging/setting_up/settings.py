@@ -7,6 +7,8 @@ import sys
 SETTINGS, ZONES = "/etc/desk/setup.json", "/usr/share/zoneinfo"
 NAME = re.compile(r"(?=.{1,253}$)[a-z0-9]([a-z0-9-]*[a-z0-9])?(\.[a-z0-9]([a-z0-9-]*[a-z0-9])?)*")
 OWN_PORTS = 80, 8436, 8437
+NO_OFFSITE = "none yet"
+OFFSITE = f"a mounted folder, a host by ssh (MACHINE:/FOLDER), or {NO_OFFSITE}"
 # What may run by itself, and the files without which it does not.
 NIGHTLY = {
     "backup": [],
@@ -22,6 +24,7 @@ QUESTIONS = {
     "zone": ("Its zone, such as America/New_York", None),
     "name": ("The site's name on the net, such as desk.example.org", None),
     "port": ("The site's port", "443"),
+    "offsite": (f"Where copies go beside this machine: {OFFSITE}", NO_OFFSITE),
     "nightly": (f"What runs each night: {', '.join(NIGHTLY)}, or none", "backup, worklist"),
 }
 
@@ -73,6 +76,8 @@ def judged(name, text):
         raise Failure(f"{text!r} is no port for the site: 1 to 65535, and not 80, 8436 or 8437, which it has besides")
     elif name == "agency" and (not text or not text.isprintable() or len(text) > 100):
         raise Failure("the agency's name is one line of 1 to 100 signs")
+    elif name == "offsite" and not re.fullmatch(rf"({NO_OFFSITE}|none|([A-Za-z0-9._@-]+:)?/[A-Za-z0-9._/-]+)", text):
+        raise Failure(f"{text!r} is not {OFFSITE}")
     return nightly_in(text) if name == "nightly" else text
 
 

@@ -16,6 +16,7 @@ TOP = os.path.dirname(os.path.dirname(os.path.dirname(os.path.realpath(__file__)
 PROGRAM, FILE, KEYS = "/usr/bin/desk", "/var/lib/desk/desk.db", "/var/lib/desk-setup"
 AGENCY, SERVED, WATCH = "/etc/desk/agency.json", "/var/lib/desk-site", "/etc/desk/watch.conf"
 NGINX, SITE, FILES_OF_NGINX = "/etc/nginx/nginx.conf", "/etc/nginx/conf.d/desk.conf", "/etc/nginx/modules-enabled/90-desk.conf"
+JAVASCRIPT = "/usr/lib/nginx/modules/ngx_http_js_module.so"
 TLS, UNITS = "/etc/ssl/desk", "/etc/systemd/system"
 CONNECTIONS = 16_384
 
@@ -105,7 +106,7 @@ def make_site(changes, settings, lines):
     if settings["port"] != "443":
         text = re.sub(r"(listen (?:\[::\]:)?)443\b", rf"\g<1>{settings['port']}", text)
         text = text.replace("https://$server_name$request_uri", f"https://$server_name:{settings['port']}$request_uri")
-    os.makedirs("/var/log/desk", exist_ok=True)
+    make_record()
     if is_by_hand(SITE, before().get("site")):
         changes.write(f"{SITE}.new", text)
         lines.append(f"{SITE} was changed by hand and stays. Compare it with {SITE}.new, which this version would serve.")
@@ -119,6 +120,14 @@ def make_site(changes, settings, lines):
         changes.write(NGINX, whole.replace(found[0], f"worker_connections {CONNECTIONS};"))
     changes.write(FILES_OF_NGINX, "worker_rlimit_nofile 40000;\n")
     run("nginx", "-t")
+
+
+def make_record():
+    """The folder of the record, and the key that signs each day of it."""
+    if not os.path.exists(JAVASCRIPT):
+        raise Failure("nginx has no JavaScript, by which the site keeps its record: apt install libnginx-mod-http-js")
+    os.makedirs("/var/log/desk", exist_ok=True)
+    run(f"{TOP}/bin/journal", "begin")
 
 
 def is_by_hand(path, digest):

@@ -1,7 +1,7 @@
 // What the agency calls its places, fixed routes and vehicles, and what anybody may know of it. The site serves it in some files: what is
 // right in them is used, whatever else is wrong, and each fault is one line. Over them lies what this browser's admin has put since.
 
-import { hearServersTime, isZone, keepClocksOf, keepServiceHours } from "./clock.js";
+import { hearServersTime, isDay, isZone, keepClocksOf, keepServiceHours } from "./clock.js";
 import * as desk from "./desk.js";
 import { APPEAL_DAYS, HIGHEST_ID, LAST_MINUTE } from "./limits.js";
 import { LANGUAGES, t } from "./words.js";
@@ -14,7 +14,7 @@ import { LANGUAGES, t } from "./words.js";
 
 /** @type {Kind[]} */
 export const KINDS = ["places", "routes", "vehicles"];
-const ADDED = "desk.agency", STAFF = ["clerk", "examiner", "officer", "dispatcher"], DEFAULT_CLOCK = 12, DEFAULT_WAIT = 5, DEFAULT_IDLE = 30, LONGEST_WAIT = 5_000;
+const ADDED = "desk.agency", STAFF = ["clerk", "examiner", "officer", "dispatcher"], DEFAULT_CLOCK = 12, DEFAULT_WAIT = 5, DEFAULT_LEAD = 15, DEFAULT_IDLE = 30, LONGEST_WAIT = 5_000;
 
 /** @typedef {[string, Record<string, any>]} Trouble a key of words and its values */
 /** What was wrong in each file that was read.
@@ -91,8 +91,9 @@ function recordsIn(kind, given, faults) {
 /** @type {Record<string, (it: any) => boolean>} */
 const SETTINGS = { name: isText, telephone: isText, address: isText, zone: (it) => isText(it) && isZone(it), first_weekday: (it) => within(it, 1, 7),
     place_word: (it) => isText(it) && it !== "", clock: (it) => it === 12 || it === 24,
-    languages: (it) => Array.isArray(it) && it.some((one) => LANGUAGES.includes(one)), wait_minutes: (it) => within(it, 0, 120),
-    idle_minutes: (it) => within(it, 0, 1440), appeal: isObject, unproved: isYesNo };
+    languages: (it) => Array.isArray(it) && it.some((one) => LANGUAGES.includes(one)), wait_minutes: (it) => within(it, 0, 120), lead: (it) => within(it, 0, 60),
+    idle_minutes: (it) => within(it, 0, 1440), appeal: isObject, unproved: isYesNo,
+    closed: (it) => Array.isArray(it) && it.every((one) => isObject(one) && isDay(one.day) && (one.name === undefined || isText(one.name))) };
 
 /** The settings with what is assumed of what is not there.
  * @returns {Agency}
@@ -102,8 +103,17 @@ export function agency() {
         days: (days) => within(days, 1, 366) }).right;
     return { name: it.name || t("common.agency"), telephone: it.telephone ?? "", address: it.address ?? "", zone: it.zone, first_weekday: it.first_weekday ?? 7,
         place_word: it.place_word ?? t("common.place"), clock: it.clock ?? DEFAULT_CLOCK, languages: it.languages ?? LANGUAGES,
-        wait_minutes: it.wait_minutes ?? DEFAULT_WAIT, idle_minutes: it.idle_minutes ?? DEFAULT_IDLE, unproved: it.unproved === true,
+        wait_minutes: it.wait_minutes ?? DEFAULT_WAIT, lead: it.lead ?? DEFAULT_LEAD, idle_minutes: it.idle_minutes ?? DEFAULT_IDLE, unproved: it.unproved === true,
+        closed: it.closed ?? [],
         appeal: { to: "", address: "", telephone: "", days: APPEAL_DAYS, ...appeal } };
+}
+
+/** The word of a day on which nobody is served, empty where it has none; or null where the day is none of them.
+ * @param {string} day
+ */
+export function closedOn(day) {
+    const closed = agency().closed.find((it) => it.day === day);
+    return closed ? closed.name ?? "" : null;
 }
 
 /** @param {Kind} kind */

@@ -59,10 +59,22 @@ export function hearServersTime(header) {
 /** Milliseconds since 1970, by the server's clock. */
 export const serverNow = () => Date.now() + ahead;
 
+/** The one that writes a moment by the clocks of a zone, and what it wrote last: to make one takes longer than a hundred readings.
+ * @type {{ zone: string | undefined, format: Intl.DateTimeFormat, second: number, parts: Record<string, string> } | null}
+ */
+let written = null;
+
 function parts() {
-    const shown = new Intl.DateTimeFormat("en-CA", { timeZone: zone, hourCycle: "h23", year: "numeric", month: "2-digit", day: "2-digit",
-        hour: "2-digit", minute: "2-digit", second: "2-digit" }).formatToParts(new Date(serverNow()));
-    return Object.fromEntries(shown.map(({ type, value }) => [type, value]));
+    const now = serverNow(), second = Math.floor(now / 1000);
+    if (written?.zone !== zone || !written) {
+        written = { zone, second: NaN, parts: {}, format: new Intl.DateTimeFormat("en-CA", { timeZone: zone, hourCycle: "h23", year: "numeric", month: "2-digit", day: "2-digit",
+            hour: "2-digit", minute: "2-digit", second: "2-digit" }) };
+    }
+    if (written.second !== second) {
+        written.second = second;
+        written.parts = Object.fromEntries(written.format.formatToParts(new Date(now)).map(({ type, value }) => [type, value]));
+    }
+    return written.parts;
 }
 
 export function today() {
@@ -95,17 +107,30 @@ export const weekdayOf = (day) => new Date(Date.parse(day)).getUTCDay() || 7;
 
 const speech = () => (language() === "es" ? "es-US" : "en-US");
 
-/** @param {string} day @param {Intl.DateTimeFormatOptions} options */
-const worded = (day, options) => new Intl.DateTimeFormat(speech(), { ...options, timeZone: "UTC" }).format(new Date(Date.parse(day)));
+/** The formats of days, by language and form.
+ * @type {Map<string, Intl.DateTimeFormat>}
+ */
+const formats = new Map();
 
+/** @param {string} day @param {Intl.DateTimeFormatOptions} options */
+function worded(day, options) {
+    const name = `${speech()} ${Object.entries(options)}`, format = formats.get(name) ?? new Intl.DateTimeFormat(speech(), { ...options, timeZone: "UTC" });
+    formats.set(name, format);
+    return format.format(new Date(Date.parse(day)));
+}
+
+/** Spanish has no comma behind the day of the week.
+ * @param {string} text @param {string} [it] the language
+ */
+export const asSpoken = (text, it = language()) => (it === "es" ? text.replace(/^([^\s,]+), /, "$1 ") : text);
 /** "Monday, March 10, 2025".
  * @param {string} day
  */
-export const dayInWords = (day) => worded(day, { dateStyle: "full" });
+export const dayInWords = (day) => asSpoken(worded(day, { dateStyle: "full" }));
 /** "Mon, Mar 10".
  * @param {string} day
  */
-export const dayShort = (day) => worded(day, { weekday: "short", month: "short", day: "numeric" });
+export const dayShort = (day) => asSpoken(worded(day, { weekday: "short", month: "short", day: "numeric" }));
 /** "Monday".
  * @param {string} day
  */

@@ -13,10 +13,18 @@ export function inWords(name, purpose = "") {
     return { says: t(key, { name }), help: t(`${key}/help`, { name }), section: /^\d/.test(regulation) ? `49 CFR ${regulation}` : null };
 }
 
-/** What a denial says, on the page.
- * @param {{ denied?: string }} reply @param {string} [purpose]
- */
-export function denialOf(reply, purpose) {
-    const { says, help, section } = inWords(reply.denied ?? "", purpose);
+/** @param {string} name @param {string} [purpose] */
+function shown(name, purpose) {
+    const { says, help, section } = inWords(name, purpose);
     return part("div", { class: "denial" }, part("p", {}, part("strong", {}, says), section && ` (${section})`), part("p", {}, help));
 }
+
+/** What a denial says, on the page. It is a reply's: nothing else has its type.
+ * @param {import("../types").Denied | import("../types").Left} reply @param {string} [purpose]
+ */
+export const denialOf = (reply, purpose) => shown(reply.denied, purpose);
+
+/** The same of a name that a log in this browser kept of a reply.
+ * @param {string | null | undefined} name @param {string} [purpose]
+ */
+export const keptDenialOf = (name, purpose) => shown(name ?? "", purpose);

@@ -10,7 +10,9 @@ import * as line from "./line.js";
  * @template Value
  * @typedef {import("../types").Reply<Value>} Reply
  */
-/** @typedef {{ value?: any, denied?: string, field?: string, silent?: string }} Told what one try gives: silent is the key of words that say why */
+/** @typedef {import("../types").Denied} Denied */
+/** @typedef {{ value: any, denied?: undefined, silent?: undefined } | (Denied & { silent?: undefined }) | { silent: string, denied?: undefined, value?: undefined }} Told
+ *   what one try gives: silent is the key of words that say why */
 /** @typedef {{ digest: string | null, number: number, path: string, body: string, nextKey?: string, resent: boolean, waited?: boolean }} Pending */
 
 const LONGEST_WAIT = 30_000, PAUSES = [500, 1000, 2000, 4000, 5000], CROWDED = 429;
@@ -47,7 +49,7 @@ export async function signIn(typed, isKnown = async () => false) {
         return { value: true };
     }
     const reply = first.silent ? await read(PROBE, text) : first;
-    if (reply.denied !== undefined && reply.denied !== "desk.caller") return { denied: reply.denied, field: reply.field };
+    if (reply.denied !== undefined && reply.denied !== "desk.caller") return reply;
     await hold(text);
     return { value: true };
 }
@@ -69,6 +71,14 @@ export function leave() {
 }
 
 // One request. {silent} says that the line broke, or that what answered was not the desk.
+
+/** The one way to a denial: a reply of the desk that has its name.
+ * @param {Response} reply @param {any} body @returns {Denied | null}
+ */
+function denialIn(reply, body) {
+    if (reply.ok || reply.status >= 500 || typeof body?.denied !== "string") return null;
+    return /** @type {Denied} */ ({ denied: body.denied, field: body.field });
+}
 
 /** @param {Response} reply @returns {Promise<any>} */
 async function bodyOf(reply) {
@@ -98,8 +108,7 @@ async function once(method, path, headers, body, signal) {
         hearServersTime(reply.headers.get("date"));
         if (reply.status === CROWDED) return { silent: "common.crowded" };
         if (reply.ok && told !== undefined && told !== null) return { value: told };
-        if (reply.status < 500 && typeof told?.denied === "string") return { denied: told.denied, field: told.field };
-        return { silent: SILENT };
+        return denialIn(reply, told) ?? { silent: SILENT };
     } catch {
         return { silent: SILENT };
     }

@@ -5,6 +5,7 @@ import { asked, choose } from "./ask.js";
 import { clock, clock24, isDay, readTime, weekdays } from "./clock.js";
 import { denialOf } from "./denials.js";
 import { drawInto, element, fresh, make, part, say } from "./element.js";
+import { waysOf } from "./halves.js";
 import { FIRST_DAY, HIGHEST_FARE, HIGHEST_ID, LAST_DAY, MOST_REASONS } from "./limits.js";
 import { plainOf } from "./plain.js";
 import { counted, t } from "./words.js";
@@ -31,7 +32,7 @@ export function field(name, label, control, wants, read, write, options = {}) {
     control.addEventListener("input", () => tell(""));
     const lead = make("label", { for: id }, label);
     const body = options.tick ? [make("div", { class: "tick" }, control, lead), hint, fault] : [lead, control, options.after, hint, fault];
-    return { name, wants, control, read, write, tell, element: make("div", { class: `field ${options.class ?? ""}`.trim() }, body) };
+    return { name, label, wants, control, read, write, tell, element: make("div", { class: `field ${options.class ?? ""}`.trim() }, body) };
 }
 
 /** @param {any} control @param {string} wants @param {(text: string) => any} judge @param {boolean} [optional] @returns {() => Read} */
@@ -214,9 +215,10 @@ export { denialOf } from "./denials.js";
 
 // Forms.
 
-/** The values of all fields by their names, or null, and then each fault stands at its field and the first has the focus.
- * @param {Field[]} fields @returns {Promise<Record<string, any> | null>} */
-export async function valuesOf(fields) {
+/** The values of all fields by their names, or null, and then each fault stands at its field and the first has the focus. Where a time may be of the
+ * morning or of the evening, it is asked about only if both are possible beside the other fields, which check() says.
+ * @param {Field[]} fields @param {(values: any) => any} [check] what is wrong of values together @returns {Promise<Record<string, any> | null>} */
+export async function valuesOf(fields, check = () => null) {
     const reads = fields.map((it) => ({ it, read: it.read() }));
     reads.forEach(({ it, read }) => it.tell(read.fault));
     const first = reads.find(({ read }) => read.fault);
@@ -226,23 +228,26 @@ export async function valuesOf(fields) {
         return null;
     }
     /** @type {Record<string, any>} */
-    const values = {};
+    const sure = Object.fromEntries(reads.filter(({ read }) => !read.ambiguous).map(({ it, read }) => [it.name, read.value]));
+    let ways = waysOf(reads.flatMap(({ it, read }) => (read.ambiguous ? [{ name: it.name, halves: read.ambiguous }] : [])), sure, check);
     for (const { it, read } of reads) {
-        const value = read.ambiguous ? await halfOf(it, read.ambiguous) : read.value;
-        if (read.ambiguous && value === null) return null;
-        values[it.name] = value;
+        if (!read.ambiguous) continue;
+        const halves = read.ambiguous.filter((half) => ways.some((way) => way[it.name] === half));
+        const minute = halves.length === 1 ? halves[0] : await halfOf(it, read.ambiguous);
+        if (minute === null) return null;
+        it.write(minute);
+        ways = ways.filter((way) => way[it.name] === minute);
     }
-    return values;
+    return ways[0];
 }
 
-/** Which half of the day is meant; the field shows it from then on.
+/** Which half of the day is meant.
  * @param {Field} it @param {number[]} ambiguous
  */
 async function halfOf(it, [early, late]) {
-    const minute = await choose({ question: t("fields.which-question", { typed: it.control.value.trim() }),
+    const minute = await choose({ question: t("fields.which-question", { field: it.label ?? "", early: clock(early), late: clock(late) }),
         choices: [[early, clock(early), t("fields.early-key")], [late, clock(late), t("fields.late-key")]] });
     if (minute === null) it.control.focus();
-    else it.write(minute);
     return minute;
 }
 
@@ -284,7 +289,7 @@ export function form({ name, fields, action, purpose, send, done, begun = () => 
         } else drawInto(box, denied?.(reply, values) || denialOf(reply, purpose));
     };
     const run = async () => {
-        const values = await valuesOf(fields);
+        const values = await valuesOf(fields, check);
         if (!values) return;
         const wrong = check(values);
         if (wrong) return tellAt(fields, wrong);

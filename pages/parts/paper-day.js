@@ -107,11 +107,12 @@ export function printDaySheet(day, manifests, text) {
 
 /** A list of riders with a blank for what was said.
  * @param {string} title @param {Called[]} trips @param {(trip: Called) => Given} more what else has to be said of each
+ * @param {(trip: Called) => Given} [called] what came of the call already
  */
-export function printCalls(title, trips, more) {
+export function printCalls(title, trips, more, called = () => "") {
     const heads = ["rider", "telephone", "day", "promised", "from-to", "say", "called"].map((name) => part("th", { scope: "col" }, t(`dispatcher.head-${name}`)));
     const cells = (/** @type {Called} */ it) => [part("strong", {}, riderLabel(it.rider)), riderOf(it.rider)?.telephone ?? "", dayInWords(it.day), between(it.window_from, it.window_to),
-        t("dispatcher.way", { trip: it.trip, from: placeName(it.from), to: placeName(it.to) }), more(it), ""];
+        t("dispatcher.way", { trip: it.trip, from: placeName(it.from), to: placeName(it.to) }), more(it), called(it)];
     printParts(title, part("table", { class: "calls" }, part("thead", {}, part("tr", {}, heads)),
         part("tbody", {}, trips.map((it) => part("tr", {}, cells(it).map((cell) => part("td", {}, cell)))))), { class: "sheets" });
 }

@@ -239,8 +239,7 @@ export async function sendTallies() {
     if (!desk.digest()) return;
     for (const entry of await entries()) {
         if (!entry.tally || entry.since > serverNow() - HELD) continue;
-        await countPath(entry.tally);
-        await changed(entry.order, (now) => ({ ...now, tally: null }));
+        if (await countPath(entry.tally)) await changed(entry.order, (now) => ({ ...now, tally: null }));
     }
 }
 

@@ -42,7 +42,7 @@ async function readWith(source, ask) {
     const order = (orders += 1), mine = era, { reply } = source.kept;
     source.begun = serverNow();
     const told = await source.read(ask, reply?.denied === undefined ? reply?.value : undefined);
-    if (mine !== era) return { denied: "left" };
+    if (mine !== era) return told;
     source.kept = afterHearing(source.kept, { order, told, moment: { at: serverNow(), day: today(), minute: minuteNow() } });
     tell(source);
     return told;

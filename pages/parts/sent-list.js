@@ -2,7 +2,8 @@
 
 /** @typedef {import("../types").Wish} Wish */
 /** @typedef {"planned" | "sending" | "booked" | "denied" | "unsent"} State planned: it waits for its turn; unsent: the page was gone before its turn came */
-/** @typedef {{ rider: number, wish: Wish, trip: number | null, state: State, reply: any, late: boolean }} Leg trip is the number of a trip that is
+/** @typedef {{ mode: string, minute: number } | null} Said what the rider named: the minute of a wish is the page's */
+/** @typedef {{ rider: number, wish: Wish, said: Said, trip: number | null, state: State, reply: any, late: boolean }} Leg trip is the number of a trip that is
  *   changed, reply the desk's, late says that whoever asked could not see the answer at once */
 
 /** @param {Leg} leg @param {{ rider: number, wish: Wish, trip: number | null }} asked */
@@ -18,17 +19,17 @@ const lastAt = (legs, holds) => legs.reduce((found, leg, at) => (holds(leg) ? at
 const isOpen = ({ state }) => state === "planned" || state === "sending";
 
 /** What a rider wants anew takes the place of what was seen of the rider before; what is still to be read stays.
- * @param {Leg[]} legs @param {{ rider: number, trip?: number | null, wishes: Wish[] }} given @returns {Leg[]}
+ * @param {Leg[]} legs @param {{ rider: number, trip?: number | null, wanted: { wish: Wish, said: Said }[] }} given @returns {Leg[]}
  */
-export const afterPlanning = (legs, { rider, trip = null, wishes }) => [...legs.filter((leg) => leg.late || leg.rider !== rider),
-    ...wishes.map((wish) => ({ rider, wish, trip, state: /** @type {State} */ ("planned"), reply: null, late: false }))];
+export const afterPlanning = (legs, { rider, trip = null, wanted }) => [...legs.filter((leg) => leg.late || leg.rider !== rider),
+    ...wanted.map(({ wish, said }) => ({ rider, wish, said, trip, state: /** @type {State} */ ("planned"), reply: null, late: false }))];
 
 /** One try of a leg goes out: it may be the second one, with another minute.
  * @param {Leg[]} legs @param {{ rider: number, trip: number | null, wish: Wish }} asked @returns {Leg[]}
  */
 export function afterSending(legs, asked) {
     const at = lastAt(legs, (leg) => isSame(leg, asked) && leg.state !== "booked");
-    if (at < 0) return [...legs, { ...asked, state: "sending", reply: null, late: false }];
+    if (at < 0) return [...legs, { ...asked, said: null, state: "sending", reply: null, late: false }];
     return legs.map((leg, index) => (index === at ? { ...leg, ...asked, state: "sending", reply: null } : leg));
 }
 

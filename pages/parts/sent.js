@@ -66,11 +66,11 @@ function askedIn(path, fields) {
 }
 
 /** What is going to be asked for a rider, one after another: what a page that is gone has not sent is told from it.
- * @param {number} rider @param {Wish[]} wishes @param {number | null} [trip] the trip that is changed
+ * @param {number} rider @param {{ wish: Wish, said: import("./sent-list.js").Said }[]} wanted @param {number | null} [trip] the trip that is changed
  */
-export function planned(rider, wishes, trip = null) {
+export function planned(rider, wanted, trip = null) {
     if (trip !== null) riders.set(trip, rider);
-    keep(afterPlanning(legs(), { rider, trip, wishes }));
+    keep(afterPlanning(legs(), { rider, trip, wanted: wanted.map(({ wish, said }) => ({ wish, said: said && { mode: said.mode, minute: said.minute } })) }));
 }
 
 /** All of it was asked.
@@ -79,8 +79,9 @@ export function planned(rider, wishes, trip = null) {
 export const ended = (rider) => keep(afterEnding(legs(), rider));
 
 /** @param {Leg} leg */
-function words({ rider, wish, state, reply, trip }) {
-    const way = { day: dayShort(wish.day), from: placeName(wish.from), to: placeName(wish.to), time: clock(wish.wish), rider: riderLabel(rider) };
+function words({ rider, wish, said, state, reply, trip }) {
+    const way = { day: dayShort(wish.day), from: placeName(wish.from), to: placeName(wish.to), rider: riderLabel(rider),
+        said: said ? t(`sent.said-${said.mode}`, { time: clock(said.minute) }) : "" };
     if (state === "booked") return t(trip === null ? "sent.booked" : "sent.changed", { ...way, trip: reply.trip, window: between(reply.window_from, reply.window_to) });
     return t(state === "denied" ? "sent.denied" : state === "unsent" ? "sent.unsent" : "sent.sending", way);
 }

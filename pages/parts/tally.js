@@ -41,9 +41,13 @@ let running = false, again = false, tries = 0, timer = 0;
 /** @param {string} id @param {Kept | null} event */
 const stored = (id, event) => within("readwrite", (store) => (event ? store.put(event) : store.delete(id)));
 
-/** @param {Kept} event */
+/** Whether the browser's database has it; else this window keeps it.
+ * @param {Kept} event */
 async function keep(event) {
-    await stored(event.id, event).then(() => loose.delete(event.id), () => loose.set(event.id, event));
+    const isStored = await stored(event.id, event).then(() => true, () => false);
+    if (isStored) loose.delete(event.id);
+    else loose.set(event.id, event);
+    return isStored;
 }
 
 /** @param {string} id */
@@ -80,12 +84,12 @@ export async function count(kind, fields) {
     sendCounts();
 }
 
-/** The same for an event whose path was made before, as the driver's log has it.
+/** The same for an event whose path was made before, as the driver's log has it; whether it outlives this page.
  * @param {string} path */
 export async function countPath(path) {
-    const named = namedIn(path);
-    if (named) await keep(eventOf(named.kind, path, named.id));
+    const named = namedIn(path), isStored = !named || await keep(eventOf(named.kind, path, named.id));
     sendCounts();
+    return isStored;
 }
 
 /** The path of an event that is told later.
@@ -110,8 +114,7 @@ async function next() {
  * @returns {Promise<void>} */
 async function sendThem() {
     for (let event = await next(); event && desk.signedIn(); event = await next()) {
-        const isOwn = event.digest === desk.digest(), fault = event.refused && !/^\d+$/.test(event.refused);
-        const status = fault ? 400 : await desk.postFile(event.path), end = endOf(status, isOwn);
+        const status = await desk.postFile(event.path), end = endOf(status, event.digest === desk.digest());
         if (end === "later") {
             tries += 1;
             return;
@@ -119,7 +122,7 @@ async function sendThem() {
         tries = 0;
         if (end === "kept") await drop(event.id);
         else tried.add(event.id);
-        if (end === "refused" && !fault) await keep({ ...event, refused: String(status) });
+        if (end === "refused") await keep({ ...event, refused: event.refused ?? String(status) });
         await pause(GAP);
     }
 }

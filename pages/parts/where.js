@@ -4,13 +4,16 @@
 /** @typedef {"before" | "during" | "over" | "arrived" | "aboard" | "ended"} Place */
 /** @typedef {{ place: Place, own: Tap | null, last: Tap | null }} Where own is the last tap of the trip itself, last that of its vehicle */
 
-const ENDED = ["dropped", "no-show-rider", "no-show-agency"];
+const ENDED = ["dropped", "no-show", "missed"];
+/** A file that was made so many milliseconds ago tells nothing of now. */
+const STALE = 300_000;
 
-/** The taps of a vehicle in their order, of what /staff/today.json holds: whatever is not of that form is none.
- * @param {any} told @param {number} vehicle @returns {Tap[]}
+/** The taps of a vehicle in their order, of what /staff/today.json holds: whatever is not of that form is none, and neither is what was made for
+ * another day or some minutes ago.
+ * @param {any} told @param {number} vehicle @param {{ day: string, at: number }} now the day, and milliseconds since 1970 @returns {Tap[]}
  */
-export function tapsOf(told, vehicle) {
-    const taps = told?.vehicles?.[String(vehicle)]?.taps;
+export function tapsOf(told, vehicle, { day, at }) {
+    const isOfNow = told?.day === day && Math.abs(at - Date.parse(told?.made)) < STALE, taps = isOfNow && told.vehicles?.[String(vehicle)]?.taps;
     const right = Array.isArray(taps) ? taps.filter((it) => Number.isInteger(it?.trip) && Number.isInteger(it?.minute) && typeof it?.kind === "string") : [];
     return [...right].sort((a, b) => a.minute - b.minute);
 }

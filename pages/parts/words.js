@@ -79,6 +79,19 @@ export const hasText = (key) => key in texts[now] || key in texts.en;
  */
 export const inBoth = (key, values = {}) => Object.fromEntries(LANGUAGES.map((it) => [it, textIn(it, key, values)]));
 
+/** What act() gives in another language: its words, and its days and times. Whoever asks has loaded them by loadBoth; act waits for nothing.
+ * @template Made @param {string} it @param {() => Made} act @returns {Made}
+ */
+export function speaking(it, act) {
+    const before = now;
+    now = it;
+    try {
+        return act();
+    } finally {
+        now = before;
+    }
+}
+
 /** Loads the words that are used now in every language, so that inBoth has them. */
 export const loadBoth = () => Promise.all(LANGUAGES.flatMap((it) => [...loaded].map((name) => load(it, name))));
 

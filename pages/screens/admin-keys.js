@@ -4,7 +4,7 @@ import { agency, vehicleName } from "../parts/agency.js";
 import { dayInWords, today } from "../parts/clock.js";
 import * as desk from "../parts/desk.js";
 import { button, part, table } from "../parts/element.js";
-import { choiceField, form, idField, numberField } from "../parts/fields.js";
+import { choiceField, form, idField, numberField, textField } from "../parts/fields.js";
 import { grouped } from "../parts/key.js";
 import { HIGHEST_ID } from "../parts/limits.js";
 import { printParts } from "../parts/paper.js";
@@ -13,9 +13,9 @@ import { makeScreen } from "../parts/screen.js";
 import { t } from "../parts/words.js";
 import { keepNote, notes } from "./admin-notes.js";
 
-/** @typedef {{ id: number, role: string, subject: number, day: string }} Caller */
+/** @typedef {{ id: number, role: string, subject: number, day: string, name?: string }} Caller */
 
-const FIRST_ADMIN = 1, WITH_SUBJECT = ["rider", "driver"], ROLES = ["rider", "clerk", "examiner", "officer", "dispatcher", "driver", "admin"];
+const FIRST_ADMIN = 1, MOST_NAME = 100, WITH_SUBJECT = ["rider", "driver"], ROLES = ["rider", "clerk", "examiner", "officer", "dispatcher", "driver", "admin"];
 
 const roleName = (/** @type {string} */ role) => t(`signing.${role}`);
 
@@ -77,20 +77,23 @@ export function callers() {
             part("section", { class: "card" }, part("h2", {}, t("admin.keys-of-callers")), part("p", { class: "hint" }, t("admin.keys-hint")), kept("form", makeForm),
                 part("div", { role: "status" }, key && keyShown(key, caller, copied, () => change({ copied: true }), () => change({ key: "", caller: null })))),
             part("section", { class: "card" }, part("h2", {}, t("admin.given")), part("p", { class: "hint" }, t("admin.given-hint")),
-                given().length ? table(t("admin.given"), [{ head: t("admin.caller"), cell: ({ id }) => String(id) }, { head: t("admin.whose"), cell: whose },
+                given().length ? table(t("admin.given"), [{ head: t("admin.caller"), cell: ({ id }) => String(id) }, { head: t("admin.name"), cell: ({ name }) => name ?? "" }, { head: t("admin.whose"), cell: whose },
                     { head: t("admin.since"), cell: ({ day }) => dayInWords(day) }], given(), { rowKey: ({ id }) => id }) : part("p", {}, t("admin.none-given")))],
     });
     function makeForm() {
         const roles = /** @type {[string, string][]} */ (ROLES.map((role) => [role, roleName(role)]));
         return form({ name: t("admin.a-caller"), action: t("admin.make-key"), purpose: "caller", check: faultOf, ask: question, begun: () => screen.change({ key: "", copied: false }),
-            fields: [idField("id", t("admin.caller-number"), { hint: t("admin.caller-hint") }), choiceField("role", t("admin.role"), roles, { empty: t("admin.choose") }),
+            fields: [idField("id", t("admin.caller-number"), { hint: t("admin.caller-hint") }),
+                textField("name", t("admin.name"), { optional: true, judge: (text) => (text.length <= MOST_NAME ? text : null), hint: t("admin.caller-name-hint"), wants: t("admin.caller-name-wants") }), choiceField("role", t("admin.role"), roles, { empty: t("admin.choose") }),
                 numberField("subject", t("admin.subject"), 1, HIGHEST_ID, { optional: true, hint: t("admin.subject-hint"), wants: t("admin.subject-wants") })],
-            send: async ({ id, role, subject }) => {
-                const key = desk.newKey(), reply = await desk.putCaller({ id, role, subject: subject ?? 0, digest: await desk.digestOf(key) }, key);
+            // The desk passes over the name; the site's record keeps it beside the number.
+            send: async ({ id, name, role, subject }) => {
+                const key = desk.newKey(), caller = { id, role, subject: subject ?? 0, digest: await desk.digestOf(key), ...(name ? { name } : {}) };
+                const reply = await desk.putCaller(caller, key);
                 return reply.denied === undefined ? { value: key } : reply;
             },
-            done: (key, { id, role, subject }) => {
-                keepCaller({ id, role, subject: subject ?? 0, day: today() });
+            done: (key, { id, name, role, subject }) => {
+                keepCaller({ id, role, subject: subject ?? 0, day: today(), ...(name ? { name } : {}) });
                 screen.change({ key, caller: { id, role, subject } }, { focus: "new-key" });
             } });
     }

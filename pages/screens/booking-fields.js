@@ -1,15 +1,26 @@
 // The fields of a wish: places, days, times, who comes along.
 
-import { placeName } from "../parts/agency.js";
+import { closedOn, placeName } from "../parts/agency.js";
 import { bookableDays, dayInWords, dayShort } from "../parts/clock.js";
 import { drawInto, fresh, make, part, say } from "../parts/element.js";
-import { choiceField, placeField, tickField, timeField } from "../parts/fields.js";
+import { placeField, radioField, tickField, timeField } from "../parts/fields.js";
 import { NEGOTIATED_MINUTES } from "../parts/limits.js";
 import { map, nearestPlace } from "../parts/map.js";
 import { riderOf } from "../parts/roster.js";
+import { MODES } from "../parts/wishes.js";
 import { t } from "../parts/words.js";
 
 /** @typedef {import("../types").Field} Field */
+
+/** A day as the list has it; one on which nobody is served says so.
+ * @param {string} day
+ */
+const dayChoice = (day) => (closedOn(day) === null ? dayInWords(day) : t("booking.day-closed", { day: dayInWords(day), name: closedOn(day) }));
+
+/** What is wrong of a day on which nobody is served, or null.
+ * @param {string} day
+ */
+const closedFault = (day) => (day && closedOn(day) !== null ? t("booking.closed-wants", { day: dayShort(day), name: closedOn(day) }) : null);
 
 /** The day of a wish, and further days below it where several may be booked at once. Its list is that of the present day.
  * @param {{ several: boolean }} options @returns {Field & { renew: () => void }}
@@ -27,21 +38,22 @@ export function daysField({ several }) {
     };
     const renew = () => {
         const days = bookableDays(), gone = control.value && !days.includes(control.value), chosen = gone ? "" : control.value;
-        drawInto(control, [part("option", { value: "", key: "none" }, t("booking.choose")), days.map((day) => part("option", { value: day, key: day }, dayInWords(day)))]);
+        drawInto(control, [part("option", { value: "", key: "none" }, t("booking.choose")), days.map((day) => part("option", { value: day, key: day }, dayChoice(day)))]);
         control.value = chosen;
         [...ticked].filter((day) => !days.includes(day)).forEach((day) => ticked.delete(day));
-        drawInto(more, days.filter((day) => day !== chosen).map((day) => part("div", { class: "tick", key: day }, part("input", { type: "checkbox",
+        drawInto(more, days.filter((day) => day !== chosen && closedOn(day) === null).map((day) => part("div", { class: "tick", key: day }, part("input", { type: "checkbox",
             id: `${id}-${day}`, checked: ticked.has(day), on: { change: (event) => (event.target.checked ? ticked.add(day) : ticked.delete(day)) } }),
         part("label", { for: `${id}-${day}` }, dayShort(day)))));
         if (gone) tell(t("booking.day-gone"));
     };
     control.addEventListener("change", () => {
-        tell("");
+        tell(closedFault(control.value));
         ticked.delete(control.value);
         renew();
     });
     const read = () => {
-        const days = bookableDays().filter((day) => day === control.value || (several && ticked.has(day)));
+        const days = bookableDays().filter((day) => day === control.value || (several && ticked.has(day))), closed = days.map(closedFault).find(Boolean);
+        if (closed) return { fault: closed };
         return control.value && days.includes(control.value) ? { value: days } : { fault: wants };
     };
     const write = (/** @type {string | string[]} */ given) => {
@@ -91,29 +103,67 @@ const usualOf = (rider) => {
     return known ? [...(known.home === null ? [] : [known.home]), ...known.usual] : [];
 };
 
-/** The fields of a wish. fresh ones are for a new trip: several days, and the way back.
+/** What matters of a trip, of the way there or back.
+ * @param {string} name @param {string} legend @param {import("../parts/wishes.js").Mode} value
+ */
+const modeField = (name, legend, value) => radioField(name, legend, MODES.map((mode) => [mode, t(`booking.mode-${mode}`)]), { value, class: "modes" });
+
+/** A field that counts only while isShown() says so; else it is hidden, and null.
+ * @param {Field} field @param {() => boolean} isShown @returns {Field & { look: () => void }}
+ */
+function whileShown(field, isShown) {
+    const look = () => { field.element.hidden = !isShown(); };
+    look();
+    return { ...field, read: () => (isShown() ? field.read() : { value: null }), look };
+}
+
+/** The way back: its time, and what matters of it, which is asked once there is a time. It begins with not before: the rider is not ready earlier.
+ * @returns {Field[]}
+ */
+function backFields() {
+    const time = timeField("back", t("booking.back"), { optional: true, hint: t("booking.back-hint") });
+    const mode = modeField("backMode", t("booking.back-mode"), "not-before"), label = time.element.querySelector("label");
+    const shown = whileShown(mode, () => time.control.value.trim() !== "");
+    const look = () => {
+        shown.look();
+        if (label) label.textContent = t(mode.read().value === "by" ? "booking.back-by" : "booking.back");
+    };
+    time.control.addEventListener("input", look);
+    mode.element.addEventListener("change", look);
+    const written = (/** @type {Field} */ field) => (/** @type {any} */ value) => {
+        field.write(value);
+        look();
+    };
+    return [{ ...time, write: written(time) }, { ...shown, write: written(mode) }];
+}
+
+/** The fields of a wish: of a new trip with several days and the way back.
  * @param {{ rider: number, again: boolean }} options again where a trip is changed
  */
 export function wishFields({ rider, again }) {
     const usual = () => usualOf(rider);
     const from = placeField("from", t("booking.from"), { rider, usual }), to = placeField("to", t("booking.to"), { rider, usual });
-    const days = daysField({ several: !again });
-    const wish = timeField("wish", t("booking.wish"), { optional: true, hint: t("booking.wish-hint") });
-    const back = timeField("back", t("booking.back"), { optional: true, hint: t("booking.back-hint") });
+    const days = daysField({ several: !again }), mode = modeField("mode", t("booking.mode"), "around");
+    const wish = whileShown(timeField("wish", t("booking.wish"), { optional: true, hint: t("booking.wish-hint") }), () => mode.read().value !== "by");
     const by = timeField("by", t("booking.by"), { optional: true, hint: t("booking.by-hint") });
-    const mode = choiceField("mode", t("booking.mode"), [["near", t("booking.near")], ["not-before", t("booking.not-before")], ["appointment", t("booking.appointment")]]);
+    mode.element.addEventListener("change", wish.look);
+    const chosen = { ...mode, write: (/** @type {any} */ value) => {
+        mode.write(value);
+        wish.look();
+    } };
     const companion = tickField("companion", t("booking.with-companion")), attendant = tickField("attendant", t("booking.with-attendant"));
-    return { fields: [from, to, days, wish, ...(again ? [] : [back]), by, mode, companion, attendant], days, map: mapFor(from, to) };
+    const [back, backMode] = backFields(), ofBack = again ? [] : [backMode];
+    return { fields: [from, to, days, wish, ...(again ? [] : [back]), by, chosen, ...ofBack, companion, attendant], days, map: mapFor(from, to) };
 }
 
 /** What is wrong of the values together.
  * @param {any} values @returns {{ field: string, fault: string } | null}
  */
-export function faultOf({ mode, wish, by, back }) {
-    if (mode === "appointment" && by === null) return { field: "by", fault: t("booking.by-wants") };
-    if (mode !== "appointment" && wish === null) return { field: "wish", fault: t("booking.wish-wants") };
-    const earliest = mode === "near" ? wish - NEGOTIATED_MINUTES : wish;
-    if (mode !== "appointment" && by !== null && by <= earliest) return { field: "by", fault: t("booking.by-early") };
-    if (back !== null && back !== undefined && back <= (mode === "appointment" ? by : wish)) return { field: "back", fault: t("booking.back-early") };
+export function faultOf({ mode, wish, by, back, backMode }) {
+    const there = mode === "by" ? by : by ?? wish;
+    if (mode === "by" && by === null) return { field: "by", fault: t("booking.by-wants") };
+    if (mode !== "by" && wish === null) return { field: "wish", fault: t("booking.wish-wants") };
+    if (mode !== "by" && by !== null && by <= (mode === "around" ? wish - NEGOTIATED_MINUTES : wish)) return { field: "by", fault: t("booking.by-early") };
+    if (back !== null && back !== undefined && back <= there) return { field: "back", fault: t(backMode === "by" ? "booking.back-by-early" : "booking.back-early") };
     return null;
 }

@@ -7,7 +7,7 @@ import { fresh, make, part } from "../parts/element.js";
 import { draftIn } from "../parts/drafts.js";
 import { enter } from "../parts/entered.js";
 import { dayField, form, numberField, reasonsField, tickField, ticksField } from "../parts/fields.js";
-import { MOST_FARTHER, SUSPENSION_DAYS } from "../parts/limits.js";
+import { FEW_REASONS, MOST_FARTHER, SUSPENSION_DAYS } from "../parts/limits.js";
 import { reading } from "../parts/reads.js";
 import { riderLabel } from "../parts/roster.js";
 import { makeScreen } from "../parts/screen.js";
@@ -78,7 +78,7 @@ export function ofResident(rider, draw) {
     const screen = makeScreen({ state: { reply: /** @type {any} */ (null) }, draw: ({ reply }, { kept }) => {
         if (reply === null) return part("p", { role: "status" }, t("cases.reading"));
         if (reply.denied !== undefined) return part("div", { role: "status" }, denialOf(reply, "standing"));
-        if (reply.value.standing.startsWith("visitor")) return [kept("standing", () => standingOf(rider).element), part("div", { role: "status" }, denialOf({ denied: "37.127" }))];
+        if (reply.value.standing.startsWith("visitor")) return [kept("standing", () => standingOf(rider).element), part("div", { role: "status" }, part("p", { class: "note" }, t("denials.37.127"), " ", t("denials.37.127/help")))];
         return [part("h2", { class: "case-of" }, t("cases.case-of", { who: riderLabel(rider) })), kept("case", draw)];
     } });
     desk.standing(rider, today()).then((reply) => {
@@ -112,7 +112,6 @@ function conditionsField() {
 
 const untilField = () => dayField("until", t("cases.last-day"), { least: today(), wants: t("cases.last-day-wants") });
 const reasons = () => reasonsField("reasons", t("cases.reasons"));
-const tomorrow = () => plus(today(), 1);
 
 /** The fields of each kind of entry.
  * @type {Record<string, () => Field[]>}
@@ -120,8 +119,7 @@ const tomorrow = () => plus(today(), 1);
 const FIELDS = {
     complete: () => [], grant: () => [untilField(), conditionsField()], refuse: () => [reasons()],
     heard: () => [], "appeal-granted": () => [untilField(), conditionsField()], "appeal-denied": () => [reasons()], overturn: () => [],
-    notice: () => [reasonsField("basis", t("cases.basis"))], "notice-heard": () => [],
-    suspend: () => [dayField("starts", t("cases.starts"), { least: tomorrow() }), dayField("ends", t("cases.ends"), { least: tomorrow() }), reasons()],
+    "notice-heard": () => [],
 };
 /** Those that take something from the rider. */
 const AGAINST = ["refuse", "appeal-denied", "suspend", "notice"];
@@ -129,7 +127,7 @@ const AGAINST = ["refuse", "appeal-denied", "suspend", "notice"];
 /** What is wrong of the days together.
  * @param {any} values
  */
-function faultOf({ starts, ends }) {
+export function faultOfDays({ starts, ends }) {
     if (!starts) return null;
     const last = plus(starts, SUSPENSION_DAYS - 1);
     return ends < starts || ends > last ? { field: "ends", fault: t("cases.ends-wants", { first: dayInWords(starts), last: dayInWords(last) }) } : null;
@@ -144,10 +142,18 @@ function letterWords({ until, conditions, reasons: why, basis, starts, ends }) {
         (why || basis) && part("p", {}, t("cases.asked-reasons"), " ", part("q", {}, why || basis)), part("p", {}, t("cases.asked-final"))];
 }
 
-/** The form of one kind of entry. entered() follows what was accepted.
- * @param {number} rider @param {string} kind @param {() => any} entered
+/** What is asked of a decision whose reasons are so few that hardly anything is said. (49 CFR 37.125(d) asks for specific ones)
+ * @param {any} values
  */
-function entryForm(rider, kind, entered) {
+const fewWords = ({ reasons: why }) => why && why.length < FEW_REASONS && part("p", { class: "note" }, t("cases.few-reasons"));
+
+/** @typedef {{ fields?: Field[], check?: (values: any) => { field: string, fault: string } | null, entryOf?: (values: any) => any }} Otherwise another form than that of the kind, and what it sends */
+
+/** The form of one kind of entry. entered() follows what was accepted.
+ * @param {number} rider @param {string} kind @param {() => any} entered @param {Otherwise} [otherwise]
+ */
+export function entryForm(rider, kind, entered, otherwise = {}) {
+    const { fields = FIELDS[kind](), check = faultOfDays, entryOf = (/** @type {any} */ given) => given } = otherwise;
     const values = { who: riderLabel(rider), rider }, id = fresh("entered");
     /** @type {ReturnType<typeof draftIn> | null} */
     let draft = null;
@@ -159,11 +165,11 @@ function entryForm(rider, kind, entered) {
     const screen = makeScreen({
         state: { done: false },
         draw: ({ done }, { kept }) => part("details", { class: "card entry", "data-entry": kind }, part("summary", {}, t(`cases.heading-${kind}`, values)),
-            part("p", {}, t(`cases.about-${kind}`)), kept("form", () => drafted(form({ name: t(`cases.heading-${kind}`, values), fields: FIELDS[kind](), action: t(`cases.do-${kind}`, values),
-                purpose: "entry", danger: AGAINST.includes(kind), check: faultOf, begun: () => screen.change({ done: false }),
-                ask: (given) => ({ question: t(`cases.ask-${kind}`, values), detail: letterWords(given), yes: t("cases.yes", { action: t(`cases.do-${kind}`, values) }),
+            part("p", {}, t(`cases.about-${kind}`)), kept("form", () => drafted(form({ name: t(`cases.heading-${kind}`, values), fields, action: t(`cases.do-${kind}`, values),
+                purpose: "entry", danger: AGAINST.includes(kind), check, begun: () => screen.change({ done: false }),
+                ask: (given) => ({ question: t(`cases.ask-${kind}`, values), detail: [fewWords(given), letterWords(entryOf(given))], yes: t("cases.yes", { action: t(`cases.do-${kind}`, values) }),
                     danger: AGAINST.includes(kind) }),
-                send: (given) => enter(rider, { entry: kind, ...given }), done: async () => {
+                send: (given) => enter(rider, { entry: kind, ...entryOf(given) }), done: async () => {
                     draft?.drop();
                     screen.change({ done: true }, { focus: id });
                     await entered();

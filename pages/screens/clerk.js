@@ -12,6 +12,7 @@ import { keepSubject, subjectOf, withSubject } from "../parts/subject.js";
 import { counted, t } from "../parts/words.js";
 import { bookingFor } from "./booking.js";
 import { entryForms, lettersFor, ofResident, standingOf } from "./cases.js";
+import { noticeFor } from "./notice.js";
 import { withCard } from "./rider-card.js";
 import { tripsOfRider } from "./trips.js";
 import { worklist } from "./worklist.js";
@@ -99,7 +100,7 @@ const forRider = (draw, focus) => () => {
 const file = (rider) => ofResident(rider, () => {
     const standing = standingOf(rider), letters = lettersFor(rider);
     const entered = () => Promise.all([standing.refresh(), letters.refresh()]);
-    return [standing.element, ...entryForms(rider, ["complete", "appeal", "notice"], entered), letters.element];
+    return [standing.element, ...entryForms(rider, ["complete", "appeal"], entered), noticeFor(rider, entered), letters.element];
 });
 
 /** @param {number} rider */
@@ -111,7 +112,7 @@ const booking = (rider) => withCard(rider, () => {
     const book = bookingFor(rider, { booked: () => {
         draft.drop();
         trips.refresh();
-    }, known: trips.known });
+    }, changed: trips.refresh });
     const draft = draftIn(book.element, `book ${rider}`);
     lookAtSent();
     return [trips.element, make("div", { class: "stack", "data-sent": rider }, sentFor(rider), book.element)];

@@ -3,6 +3,7 @@
 import { withSubject } from "../parts/subject.js";
 import { t } from "../parts/words.js";
 import { entryForms, lettersFor, ofResident, standingOf } from "./cases.js";
+import { suspensionFor } from "./notice.js";
 import { waitingOf, worklist } from "./worklist.js";
 
 /** A rider's case, with what may be decided.
@@ -11,7 +12,9 @@ import { waitingOf, worklist } from "./worklist.js";
 const caseOf = (rider, kinds) => ofResident(rider, () => {
     const standing = standingOf(rider), letters = lettersFor(rider, { appeals: false });
     const entered = () => Promise.all([standing.refresh(), letters.refresh()]);
-    return [standing.element, letters.element, ...(kinds.includes("suspend") ? [waitingOf(rider)] : []), ...entryForms(rider, kinds, entered)];
+    const mayEnd = kinds.includes("suspend");
+    return [standing.element, letters.element, ...(mayEnd ? [waitingOf(rider)] : []), ...entryForms(rider, kinds.filter((kind) => kind !== "suspend"), entered),
+        ...(mayEnd ? [suspensionFor(rider, entered)] : [])];
 });
 
 /** @param {string[]} kinds */

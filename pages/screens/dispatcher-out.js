@@ -1,56 +1,46 @@
 // A vehicle out of service: its trips from a day on, whom to call, and what is done with them: cancelled, or booked again in other vehicles.
 
-import { placeName, vehicleName } from "../parts/agency.js";
+import { vehicleName } from "../parts/agency.js";
 import { asked } from "../parts/ask.js";
-import { clock, dayInWords, dayShort, plus, today } from "../parts/clock.js";
+import { clock, dayInWords, dayShort, minuteNow, plus, today } from "../parts/clock.js";
 import * as desk from "../parts/desk.js";
 import { denialOf, inWords } from "../parts/denials.js";
-import { button, part, table } from "../parts/element.js";
-import { dayField, form, idField } from "../parts/fields.js";
-import { printCalls, printManifests } from "../parts/paper-day.js";
-import { riderLabel, riderName, riderOf } from "../parts/roster.js";
+import { button, part } from "../parts/element.js";
+import { dayField, form, valuesOf } from "../parts/fields.js";
+import { byPickup, countsOf, isFar, keyOf, movedBy, saidOf, toTryAgain } from "../parts/out-of-service.js";
+import { printManifests } from "../parts/paper-day.js";
 import { makeScreen } from "../parts/screen.js";
 import { keepSubject, subjectOf } from "../parts/subject.js";
 import { manifestsIn, rowsIn } from "../parts/texts.js";
+import { vehicleField } from "../parts/vehicle-field.js";
 import { t } from "../parts/words.js";
 import { dollars, windowOf } from "./booking.js";
-import { saveCsv } from "./dispatcher-files.js";
-import { carryOut, keepPlan, keptPlan, readAgain, readVehicle } from "./dispatcher-plan.js";
+import { callTools, callsTable, saveCalls } from "./dispatcher-calls.js";
+import { carryOut, dropPlan, keepPlan, keptPlans, readAgain, readVehicle } from "./dispatcher-plan.js";
+import { settingsOn } from "./dispatcher-settings.js";
+import { settingsFields } from "./dispatcher-vehicles.js";
 
-/** @typedef {import("./dispatcher-plan.js").Plan} Plan */
-/** @typedef {import("./dispatcher-plan.js").Item} Item */
-/** @typedef {import("./dispatcher-plan.js").Found} Found */
-/** @typedef {Exclude<Found, { denied: string }>} Read */
-/** @typedef {import("../parts/texts.js").Row} Row */
-/** @typedef {{ found: Found | null, reading: boolean, plan: Plan | null, running: boolean, unkept: boolean }} State */
+/** @typedef {import("../parts/out-of-service.js").Plan} Plan */
+/** @typedef {import("../parts/out-of-service.js").Item} Item */
+/** @typedef {import("./dispatcher-plan.js").Read} Read */
+/** @typedef {import("../types").Field} Field */
+/** @typedef {"cancel" | "move"} Mode */
+/** @typedef {Read & { back: string | null, settings: Field[] }} Shown settings are the fields of what the vehicle comes back with */
+/** @typedef {{ found: Shown | null, denied: any, reading: boolean, plans: Plan[], shown: string | null, running: string | null, unkept: boolean }} State
+ *   shown and running name plans */
 
-/** What this window is doing for a key, over every part of the screen: the work goes on while another part is shown.
- * @type {{ whose: string, plan: Plan | null, running: boolean, unkept: boolean, tell: () => void }}
+const LOOKED = 5_000;
+
+/** What this window is doing, over every part of the screen: the work goes on while another part is shown.
+ * @type {{ plans: Plan[], shown: string | null, running: string | null, unkept: boolean, tell: () => void }}
  */
-const work = { whose: "", plan: null, running: false, unkept: false, tell: () => {} };
+const work = { plans: [], shown: null, running: null, unkept: false, tell: () => {} };
 
-// Whom to call.
-
-/** @param {Item} item @returns {import("../parts/paper-day.js").Called} */
+/** @param {Item} item */
 const calledOf = ({ old, rider }) => ({ ...old, rider });
 
-/** @param {string} name @param {import("../parts/paper-day.js").Called[]} trips @param {(trip: any) => string} more */
-function saveCalls(name, trips, more) {
-    const heads = ["trip", "rider", "name", "telephone", "day", "window-from", "window-to", "from", "to"].map((it) => t(`dispatcher.csv-${it}`));
-    saveCsv(name, [[...heads, t("dispatcher.head-say")], ...trips.map((it) => [it.trip, it.rider, riderName(it.rider), riderOf(it.rider)?.telephone ?? "", it.day,
-        clock(it.window_from), clock(it.window_to), placeName(it.from), placeName(it.to), more(it)])]);
-}
-
-/** @param {number} vehicle @param {import("../parts/paper-day.js").Called[]} trips @param {(trip: any) => string} more */
-const callTools = (vehicle, trips, more) => [button(t("dispatcher.print-calls"), () => printCalls(t("dispatcher.calls-of", { vehicle: vehicleName(vehicle) }), trips, more)),
-    button(t("dispatcher.save-calls"), () => saveCalls(`calls-vehicle-${vehicle}.csv`, trips, more))];
-
-/** @param {string} caption @param {import("../parts/paper-day.js").Called[]} trips @param {(trip: any) => import("../types").Given} more @param {string} head */
-const tripsTable = (caption, trips, more, head) => table(caption, [
-    { head: t("dispatcher.head-rider"), cell: (it) => riderLabel(it.rider) }, { head: t("dispatcher.head-telephone"), cell: (it) => riderOf(it.rider)?.telephone ?? "" },
-    { head: t("dispatcher.head-day"), cell: (it) => dayShort(it.day) }, { head: t("dispatcher.head-promised"), cell: windowOf },
-    { head: t("dispatcher.head-from-to"), cell: (it) => t("dispatcher.way", { trip: it.trip, from: placeName(it.from), to: placeName(it.to) }) },
-    { head, cell: more }], trips, { rowKey: ({ trip }) => trip, class: "out-trips" });
+/** @param {string} vehicle */
+const callsTitle = (vehicle) => t("dispatcher.calls-of", { vehicle });
 
 // Today: nothing of it can be moved.
 
@@ -61,191 +51,264 @@ async function printToday(vehicle) {
     printManifests(manifestsIn(text.value), new Map(rowsIn(csv.value).map(({ trip, due }) => [trip, due])));
 }
 
-/** @param {Read} found */
-const todayCard = ({ vehicle, todays }) => todays.length > 0 && part("section", { class: "card", "aria-labelledby": "out-today" },
-    part("h3", { id: "out-today" }, t("dispatcher.out-today", { vehicle: vehicleName(vehicle), count: todays.length })), part("p", {}, t("dispatcher.out-today-hint")),
-    part("div", { class: "row" }, button(t("dispatcher.print-for-other"), () => printToday(vehicle)), callTools(vehicle, todays, () => "")),
-    tripsTable(t("dispatcher.out-today-list"), todays, (it) => clock(it.wish), t("dispatcher.column-wish")));
+/** Whom to call first: by pickup. What is over by the plan stands apart.
+ * @param {Read} found
+ */
+function todayCard({ vehicle, todays, drops }) {
+    if (!todays.length) return null;
+    const over = todays.filter((it) => (drops.get(it.trip) ?? it.window_to) < minuteNow()), coming = todays.filter((it) => !over.includes(it)), name = `today-${vehicle}-${today()}`;
+    return part("section", { class: "card", "aria-labelledby": "out-today" },
+        part("h3", { id: "out-today" }, t("dispatcher.out-today", { vehicle: vehicleName(vehicle), count: todays.length })), part("p", {}, t("dispatcher.out-today-hint")),
+        part("div", { class: "row" }, button(t("dispatcher.print-for-other"), () => printToday(vehicle)), callTools(name, callsTitle(vehicleName(vehicle)), coming, () => "")),
+        coming.length ? callsTable(name, t("dispatcher.out-today-list"), coming, (it) => clock(it.wish), t("dispatcher.column-wish")) : part("p", {}, t("dispatcher.out-today-none")),
+        over.length > 0 && part("details", {}, part("summary", {}, t("dispatcher.out-over", { count: over.length })),
+            callsTable(name, t("dispatcher.out-over-list"), over, (it) => clock(it.wish), t("dispatcher.column-wish"))));
+}
 
 // Later days: what will be tried.
 
 /** @param {Item} item */
-const wishWords = ({ old }) => [clock(old.wish), old.by !== null && t("dispatcher.by", { by: clock(old.by) })].filter(Boolean).join(", ");
+const wishWords = (item) => [clock(saidOf(item).wish), saidOf(item).by !== null && t("dispatcher.by", { by: clock(Number(saidOf(item).by)) })].filter(Boolean).join(", ");
 
-/** @param {Read} found @param {(mode: "cancel" | "move") => void} begin */
-function laterCard({ vehicle, from, items, depot }, begin) {
-    const heading = t("dispatcher.out-later", { vehicle: vehicleName(vehicle), count: items.length, day: dayInWords(from) });
+/** What the vehicle has when it comes back: as it was put from here, or to be typed once.
+ * @param {Shown} found
+ */
+const settingsCard = ({ vehicle, back, settings }) => back !== null && part("fieldset", { class: "stack settings" },
+    part("legend", {}, t("dispatcher.out-settings", { vehicle: vehicleName(vehicle), day: dayInWords(back) })),
+    part("p", { class: "hint" }, t(settingsOn(vehicle, back) ? "dispatcher.out-settings-kept" : "dispatcher.out-settings-asked")),
+    part("div", { class: "grid" }, settings.map((field) => field.element)));
+
+/** @param {Shown} found @param {(mode: Mode) => void} begin @param {boolean} isBegun */
+function laterCard(found, begin, isBegun) {
+    const { vehicle, from, back, items, depot } = found, name = `list-${keyOf(found)}`, said = { count: items.length, vehicle: vehicleName(vehicle), day: dayInWords(from) };
+    const heading = t("dispatcher.out-later", said), off = depot === null || isBegun;
     if (!items.length) return part("section", { class: "card" }, part("h3", {}, heading), part("p", {}, t("dispatcher.out-none")));
-    const wishes = new Map(items.map((item) => [item.old.trip, wishWords(item)]));
+    const wishes = new Map(items.map((item) => [item.old.trip, wishWords(item)])), trips = items.map(calledOf);
+    const steps = ["1", "2", back === null ? "no-return" : "return", "3", "4"].map((step) => part("li", {}, t(`dispatcher.out-step-${step}`, { ...said, back: back && dayInWords(back) })));
     return part("section", { class: "card", "aria-labelledby": "out-later" }, part("h3", { id: "out-later" }, heading),
-        part("div", { class: "row" }, callTools(vehicle, items.map(calledOf), () => "")),
-        tripsTable(t("dispatcher.out-later-list"), items.map(calledOf), (it) => wishes.get(it.trip), t("dispatcher.column-wish")),
-        part("h4", {}, t("dispatcher.out-tried")), part("ol", {}, ["1", "2", "3", "4"].map((step) => part("li", {}, t(`dispatcher.out-step-${step}`, { count: items.length, vehicle: vehicleName(vehicle),
-            day: dayInWords(from) })))),
-        part("div", { class: "row" }, button(t("dispatcher.out-move", { count: items.length }), () => begin("move"), { class: "main", disabled: depot === null }),
-            button(t("dispatcher.out-cancel", { count: items.length }), () => begin("cancel"), { class: "danger", disabled: depot === null })));
+        part("div", { class: "row" }, callTools(name, callsTitle(vehicleName(vehicle)), trips, () => "")),
+        callsTable(name, t("dispatcher.out-later-list"), trips, (it) => wishes.get(it.trip) ?? "", t("dispatcher.column-wish")), settingsCard(found),
+        part("h4", {}, t("dispatcher.out-tried")), part("ol", {}, steps), isBegun && part("p", { class: "note" }, t("dispatcher.out-begun")),
+        part("div", { class: "row" }, button(t("dispatcher.out-move", said), () => begin("move"), { class: "main", disabled: off }),
+            button(t("dispatcher.out-cancel", said), () => begin("cancel"), { class: "danger", disabled: off })));
 }
 
-/** @param {Read} found @param {"cancel" | "move"} mode */
+/** @param {Read} found @param {Mode} mode */
 const sure = ({ vehicle, items, from }, mode) => asked({ question: t(`dispatcher.out-${mode}-question`, { vehicle: vehicleName(vehicle), count: items.length }), danger: true,
     detail: t(`dispatcher.out-${mode}-detail`, { day: dayInWords(from) }), yes: t(`dispatcher.out-${mode}-yes`, { count: items.length }) });
 
 // What came of it.
 
+/** @param {import("../types").Trip} trip */
+const tripWords = (trip) => t("dispatcher.other-trip", { trip: trip.trip, day: dayShort(trip.day), window: windowOf(trip), vehicle: vehicleName(trip.vehicle) });
+
+/** @param {Item} item */
+function againWords(item) {
+    const { old, ticket } = item, where = ticket && vehicleName(ticket.vehicle), later = movedBy(item);
+    if (!ticket || !where) return "";
+    const day = /** @type {Partial<import("../types").Trip>} */ (ticket).day;
+    if (day && day !== old.day) return t("dispatcher.changed-since", { other: tripWords(/** @type {any} */ (ticket)) });
+    const said = later === 0 ? t("dispatcher.same-window", { vehicle: where, window: windowOf(ticket) })
+        : t(later > 0 ? "dispatcher.later" : "dispatcher.earlier", { minutes: Math.abs(later), window: windowOf(ticket), before: windowOf(old), vehicle: where });
+    return [said, isFar(item) && t("dispatcher.too-far", { wish: clock(saidOf(item).wish) }), ticket.due !== old.due
+        && t("dispatcher.other-due", { due: dollars(ticket.due), before: dollars(old.due) })].filter(Boolean).join(" ");
+}
+
 /** What a rider has to be told.
  * @param {Item} item @param {Plan} plan
  */
-function resultWords({ step, old, ticket, denied }, { mode, done }) {
-    if (step === "again" && ticket) {
-        const later = ticket.window_from - old.window_from, where = vehicleName(ticket.vehicle);
-        const said = later === 0 ? t("dispatcher.same-time", { vehicle: where })
-            : t(later > 0 ? "dispatcher.later" : "dispatcher.earlier", { minutes: Math.abs(later), window: windowOf(ticket), before: windowOf(old), vehicle: where });
-        return ticket.due === old.due ? said : `${said} ${t("dispatcher.other-due", { due: dollars(ticket.due), before: dollars(old.due) })}`;
-    }
+function resultWords(item, { mode }) {
+    const { step, other, denied } = item;
+    if (step === "again") return againWords(item);
     if (step === "nowhere") return t("dispatcher.nowhere", { says: inWords(denied ?? "", "trip").says });
     if (step === "kept") return t("dispatcher.kept", { says: inWords(denied ?? "", "cancel").says });
-    return t(step === "cancelled" && mode === "move" && !done ? "dispatcher.step-waits" : `dispatcher.step-${step}`);
-}
-
-/** @param {Plan} plan */
-function countsOf({ items }) {
-    const count = (/** @type {(item: Item) => boolean} */ is) => items.filter(is).length;
-    return { count: items.length, cancelled: count(({ step }) => !["booked", "cancelling", "kept", "gone"].includes(step)), again: count(({ step }) => step === "again"),
-        moved: count(({ ticket, old }) => ticket !== null && ticket.window_from !== old.window_from), nowhere: count(({ step }) => step === "nowhere") };
+    if (step === "cancelled" && mode === "move") return t("dispatcher.step-waits");
+    const said = t(step === "booked" && item.isChanged ? "dispatcher.step-booked-changed" : `dispatcher.step-${step}`);
+    if (step === "gone") return `${said} ${other ? tripWords(other) : t("dispatcher.no-other")}`;
+    return other ? `${said} ${tripWords(other)}` : said;
 }
 
 /** @param {Plan} plan @param {boolean} running */
 function statusWords(plan, running) {
-    const counts = countsOf(plan), { mode, done, stopped, vehicle, from } = plan;
+    const counts = countsOf(plan), { mode, done, stopped, vehicle, from, back, isBack, backDenied } = plan, named = { ...counts, vehicle: vehicleName(vehicle), day: dayInWords(from) };
     if (running) return part("p", {}, t(mode === "move" ? "dispatcher.out-running-move" : "dispatcher.out-running-cancel", counts));
-    if (done) return part("p", { class: counts.nowhere ? "note" : "good" }, t(`dispatcher.out-done-${mode}`, { ...counts, vehicle: vehicleName(vehicle), day: dayInWords(from) }));
-    return part("div", { class: "note" }, part("p", {}, t("dispatcher.out-broken", counts)), stopped !== null && part("p", {}, stopped === "desk.booked" ? t("dispatcher.out-meanwhile")
-        : t("dispatcher.out-stopped", { says: inWords(stopped, "vehicle").says })));
+    if (!done) {
+        return part("div", { class: "note" }, part("p", {}, t("dispatcher.out-broken", counts)), stopped !== null && part("p", {}, stopped === "desk.booked"
+            ? t("dispatcher.out-meanwhile") : t("dispatcher.out-stopped", { says: inWords(stopped, "vehicle").says })));
+    }
+    const others = ["gone", "elsewhere", "passed"].filter((name) => counts[/** @type {"gone"} */ (name)] > 0);
+    return [part("p", { class: counts.nowhere || counts.passed ? "note" : "good" }, t(`dispatcher.out-done-${mode}`, named), others.map((name) => ` ${t(`dispatcher.out-done-${name}`, counts)}`)),
+        back !== null && part("p", { class: isBack ? null : "note" }, t(isBack ? "dispatcher.out-back" : "dispatcher.out-not-back", { vehicle: vehicleName(vehicle), day: dayInWords(back),
+            says: backDenied ? inWords(backDenied, "vehicle").says : "" }))];
 }
 
-/** @param {State} state @param {{ goOn: () => void, retry: () => void, away: () => void }} acts */
-function reportCard({ plan, running, unkept }, { goOn, retry, away }) {
+/** Trips that wait to be booked again.
+ * @param {Plan} plan
+ */
+const unplaced = ({ mode, items }) => (mode === "move" ? items.filter(({ step }) => ["nowhere", "cancelled"].includes(step)).length : 0);
+
+/** @typedef {{ goOn: (plan: Plan) => void, retry: (plan: Plan) => void, look: (plan: Plan) => void, away: (plan: Plan) => void, show: (key: string) => void }} Acts */
+
+/** @param {State} state @param {Acts} acts */
+function reportCard({ plans, shown, running, unkept }, acts) {
+    const plan = plans.find((it) => keyOf(it) === shown);
     if (!plan) return null;
-    const said = new Map(plan.items.map((item) => [item.old.trip, resultWords(item, plan)])), say = (/** @type {{ trip: number }} */ { trip }) => said.get(trip) ?? "";
-    const trips = plan.items.map(calledOf), { nowhere } = countsOf(plan);
-    return part("section", { class: "card", "aria-labelledby": "out-report" }, part("h3", { id: "out-report", tabindex: -1 }, t("dispatcher.out-report", { vehicle: vehicleName(plan.vehicle),
-        day: dayInWords(plan.from) })), part("div", { role: "status", id: "out-status", tabindex: -1 }, statusWords(plan, running), unkept && part("p", { class: "denial" }, t("dispatcher.out-unkept"))),
-    part("div", { class: "row" }, !running && !plan.done && button(t("dispatcher.out-go-on"), goOn, { class: "main" }),
-        !running && plan.done && nowhere > 0 && button(t("dispatcher.out-retry", { count: nowhere }), retry),
-        callTools(plan.vehicle, trips, say), !running && button(t("dispatcher.out-away"), away)),
-    tripsTable(t("dispatcher.out-report-list"), trips, say, t("dispatcher.head-say")));
+    const isRunning = running === shown, said = new Map(plan.items.map((item) => [item.old.trip, resultWords(item, plan)])), say = (/** @type {{ trip: number }} */ { trip }) => said.get(trip) ?? "";
+    const trips = [...plan.items].sort((a, b) => byPickup(a.old, b.old)).map(calledOf), waits = unplaced(plan), name = `plan-${keyOf(plan)}`;
+    return part("section", { class: "card", key: name, "aria-labelledby": "out-report" }, part("h3", { id: "out-report", tabindex: -1 }, t("dispatcher.out-report", {
+        vehicle: vehicleName(plan.vehicle), day: dayInWords(plan.from) })),
+    part("div", { role: "status", id: "out-status", tabindex: -1 }, statusWords(plan, isRunning), unkept && part("p", { class: "denial" }, t("dispatcher.out-unkept"))),
+    part("div", { class: "row" }, !running && !plan.done && button(t("dispatcher.out-go-on"), () => acts.goOn(plan), { class: "main" }),
+        !running && plan.done && waits > 0 && button(t("dispatcher.out-retry", { count: waits }), () => acts.retry(plan)),
+        callTools(name, callsTitle(vehicleName(plan.vehicle)), trips, say), !running && plan.done && button(t("dispatcher.out-look"), () => acts.look(plan)),
+        !isRunning && button(t("dispatcher.out-away"), () => acts.away(plan))),
+    callsTable(name, t("dispatcher.out-report-list"), trips, say, t("dispatcher.head-say")));
 }
+
+/** @param {State} state @param {Acts} acts */
+const otherPlans = ({ plans, shown }, { show }) => plans.length > 1 && part("section", { class: "card", "aria-labelledby": "out-plans" },
+    part("h3", { id: "out-plans" }, t("dispatcher.out-plans")), part("div", { class: "row" }, plans.map((plan) => button(t(plan.done ? "dispatcher.out-plan-done"
+        : "dispatcher.out-plan-open", { vehicle: vehicleName(plan.vehicle), day: dayShort(plan.from) }), () => show(keyOf(plan)), { key: keyOf(plan), "aria-pressed": String(keyOf(plan) === shown) }))));
 
 // The work.
 
-/** Writes down how far it came, for the key that began it.
- * @param {string} whose @returns {(plan: Plan) => Promise<void>}
+/** @param {Plan} plan */
+function holdPlan(plan) {
+    const key = keyOf(plan), others = work.plans.filter((it) => keyOf(it) !== key);
+    work.plans = [...others, plan].sort((a, b) => (keyOf(a) < keyOf(b) ? -1 : 1));
+}
+
+/** Writes down how far it came, for whoever goes on.
+ * @param {Plan} plan
  */
-const keeper = (whose) => async (plan) => {
-    const kept = await keepPlan(plan, whose);
-    if (work.whose !== whose) return;
-    work.plan = plan;
-    if (!kept) work.unkept = true;
+async function keep(plan) {
+    holdPlan(plan);
+    if (!await keepPlan(plan)) work.unkept = true;
     work.tell();
-};
+}
 
 /** One window does it at a time.
- * @param {() => Promise<void>} act
+ * @param {Plan} plan @param {() => Promise<void>} act
  */
-async function alone(act) {
-    await navigator.locks.request(`desk-out ${work.whose}`, { ifAvailable: true }, async (lock) => {
+async function alone(plan, act) {
+    await navigator.locks.request(`desk-out ${keyOf(plan)}`, { ifAvailable: true }, async (lock) => {
         if (!lock || work.running) return;
-        work.running = true;
+        work.running = work.shown = keyOf(plan);
         work.tell();
         try {
             await act();
         } finally {
-            work.running = false;
+            work.running = null;
             work.tell();
         }
     });
 }
 
-/** @param {Plan} plan */
-const carry = (plan) => alone(async () => {
-    const keep = keeper(work.whose);
-    await keep(plan);
-    await carryOut(plan, keep);
+/** Goes on by what the desk says now.
+ * @param {Plan} plan @param {(plan: Plan) => Plan} [made]
+ */
+const goOn = (plan, made = (it) => it) => alone(plan, async () => {
+    const now = await readAgain(plan);
+    if (!now) return;
+    await keep(now);
+    await carryOut(made(now), keep);
 });
 
-/** Goes on where it broke off, by what the desk says now. */
-const goOn = () => alone(async () => {
-    const keep = keeper(work.whose), plan = work.plan && await readAgain(work.plan);
-    if (!plan) return;
-    await keep(plan);
-    await carryOut(plan, keep);
-});
+/** What was found becomes a plan, once the desk was read again and the call list is on disk.
+ * @param {Shown} found @param {Mode} mode @param {() => void} begun
+ */
+async function begin(found, mode, begun) {
+    const { vehicle, from, back, items, depot } = found, values = back === null ? null : await valuesOf(found.settings);
+    if (work.running || depot === null || (back !== null && !values) || !await sure(found, mode)) return;
+    const settings = /** @type {import("../parts/out-of-service.js").Settings | null} */ (values);
+    const plan = { vehicle, from, back, mode, depot, settings, items, isOut: false, isBack: false, backDenied: null, stopped: null, done: false, counted: [] };
+    await alone(plan, async () => {
+        const now = await readAgain(plan);
+        if (!now) return;
+        await keep(now);
+        saveCalls(`calls-vehicle-${vehicle}-${from}.csv`, `plan-${keyOf(plan)}`, now.items.map(calledOf), (it) => resultWords(now.items.filter(({ old }) => old.trip === it.trip)[0], now));
+        begun();
+        await carryOut(now, keep);
+    });
+}
 
 /** @param {{ change: (patch: Partial<State>, options?: any) => void }} screen */
 function actsOf(screen) {
     const shown = () => screen.change({}, { focus: "out-status" });
-    return {
-        begin: async (/** @type {Read} */ found, /** @type {"cancel" | "move"} */ mode) => {
-            if (work.running || found.depot === null || !await sure(found, mode)) return;
-            const { vehicle, from, items, depot } = found;
-            screen.change({ found: null });
-            await carry({ vehicle, from, mode, depot, items, isOut: false, stopped: null, done: false });
-            shown();
-        },
-        goOn: () => goOn().then(shown),
-        retry: async () => {
-            const { plan } = work;
-            if (plan) await carry({ ...plan, done: false, items: plan.items.map((item) => (item.step === "nowhere" ? { ...item, step: "cancelled", denied: null } : item)) });
-            shown();
-        },
-        away: async () => {
-            if (work.plan && !work.plan.done && !await asked({ question: t("dispatcher.out-away-question"), detail: t("dispatcher.out-away-detail"), yes: t("dispatcher.out-away-yes"), danger: true })) return;
-            work.plan = null;
-            await keepPlan(null, work.whose);
-            screen.change({ plan: null });
-        },
+    const away = async (/** @type {Plan} */ plan) => {
+        if ((!plan.done || unplaced(plan) > 0) && !await asked({ question: t("dispatcher.out-away-question"), detail: t("dispatcher.out-away-detail"), yes: t("dispatcher.out-away-yes"), danger: true })) return;
+        await dropPlan(plan);
+        work.plans = work.plans.filter((it) => keyOf(it) !== keyOf(plan));
+        work.shown = null;
+        work.tell();
     };
+    return {
+        begin: (/** @type {Shown} */ found, /** @type {Mode} */ mode) => begin(found, mode, () => screen.change({ found: null }, { focus: "out-report" })).then(shown),
+        goOn: (/** @type {Plan} */ plan) => goOn(plan).then(shown), retry: (/** @type {Plan} */ plan) => goOn(plan, toTryAgain).then(shown),
+        look: (/** @type {Plan} */ plan) => alone(plan, async () => {
+            const now = await readAgain(plan);
+            if (now) await keep(now);
+        }).then(shown),
+        away, show: (/** @type {string} */ key) => {
+            work.shown = key;
+            work.tell();
+            screen.change({}, { focus: "out-report" });
+        } };
 }
 
-/** @param {(values: { vehicle: number, from: string }) => Promise<void>} show */
+/** @param {(values: { vehicle: number, from: string, back: string | null }) => Promise<void>} show */
 function askForm(show) {
-    const vehicle = idField("vehicle", t("dispatcher.vehicle-number"), { value: subjectOf("vehicle") ?? "" });
+    const vehicle = vehicleField("vehicle", t("dispatcher.vehicle-field"), { value: subjectOf("vehicle") });
     return form({ name: t("dispatcher.out-ask"), action: t("dispatcher.out-show"), class: "inline", fields: [vehicle,
-        dayField("from", t("dispatcher.out-from"), { value: plus(today(), 1), least: today() })], send: async (values) => {
+        dayField("from", t("dispatcher.out-from"), { value: plus(today(), 1), least: today() }), dayField("back", t("dispatcher.out-until"), { optional: true, least: plus(today(), 2),
+            hint: t("dispatcher.out-until-hint") })],
+    check: ({ from, back }) => (back !== null && back <= from ? { field: "back", fault: t("dispatcher.out-until-wants") } : null),
+    send: async (values) => {
         keepSubject("vehicle", values.vehicle);
         await show(values);
         return { value: true };
     }, done: () => {} });
 }
 
-/** What another key began in this window is none of this key's. */
-function takeWork() {
-    const whose = desk.digest() ?? "";
-    if (work.whose !== whose) Object.assign(work, { whose, plan: null, running: false, unkept: false });
-    if (!work.running) keptPlan(whose).then((plan) => {
-        if (work.running || work.whose !== whose) return;
-        work.plan = plan;
-        work.tell();
-    });
+/** The plans of this browser, for a key that may read a day. */
+async function takeWork() {
+    if (work.running || (await desk.tripsOn(today())).denied !== undefined) return;
+    const plans = await keptPlans();
+    if (work.running) return;
+    work.plans = plans.sort((a, b) => (keyOf(a) < keyOf(b) ? -1 : 1));
+    if (!plans.some((it) => keyOf(it) === work.shown)) work.shown = plans.length ? keyOf(plans.find(({ done }) => !done) ?? plans[0]) : null;
+    work.tell();
+}
+
+/** @param {{ vehicle: number, from: string, back: string | null }} asked @returns {Promise<Partial<State>>} */
+async function foundOf({ vehicle, from, back }) {
+    const found = await readVehicle(vehicle, from);
+    if (found.denied !== undefined) return { denied: found, found: null };
+    const known = back === null ? null : settingsOn(vehicle, back);
+    const settings = settingsFields(known ?? { days: found.weekdays, depot: found.depot });
+    return { denied: null, found: { ...found, back, settings } };
 }
 
 export function outOfService() {
-    const ask = askForm(async ({ vehicle, from }) => {
-        screen.change({ reading: true, found: null });
-        const found = await readVehicle(vehicle, from);
-        screen.change({ reading: false, found }, { focus: "out-found" });
+    const ask = askForm(async (values) => {
+        screen.change({ reading: true, found: null, denied: null });
+        screen.change({ reading: false, ...await foundOf(values) }, { focus: "out-found" });
     });
     const acts = actsOf({ change: (patch, options) => screen.change(patch, options) });
-    const screen = makeScreen({ state: /** @type {State} */ ({ found: null, reading: false, plan: null, running: false, unkept: false }), class: "stack dispatch-wide",
+    const screen = makeScreen({ state: /** @type {State} */ ({ found: null, denied: null, reading: false, plans: [], shown: null, running: null, unkept: false }), class: "stack dispatch-wide",
         draw: (state) => {
-            const { found, reading, plan } = state;
+            const { found, denied, reading, plans, running } = state;
+            const isBegun = running !== null || plans.some((plan) => found && keyOf(plan) === keyOf(found));
             return [part("section", { class: "card" }, part("h2", {}, t("dispatcher.out-heading")), part("p", { class: "hint" }, t("dispatcher.out-hint")), ask),
-                reportCard(state, acts), part("div", { id: "out-found", class: "stack", tabindex: -1 }, reading && part("p", {}, t("dispatcher.reading")),
-                    found && (found.denied !== undefined ? denialOf(found, "manifest") : [todayCard(found), !plan && laterCard(found, (mode) => acts.begin(found, mode))]))];
+                otherPlans(state, acts), reportCard(state, acts), part("div", { id: "out-found", class: "stack", tabindex: -1 }, reading && part("p", {}, t("dispatcher.reading")),
+                    denied && denialOf(denied, "manifest"), found && [todayCard(found), laterCard(found, (mode) => acts.begin(found, mode), isBegun)])];
         } });
-    work.tell = () => screen.change({ plan: work.plan, running: work.running, unkept: work.unkept });
+    work.tell = () => {
+        const { plans, shown, running, unkept } = work;
+        screen.change({ plans, shown, running, unkept });
+    };
     takeWork();
-    work.tell();
+    screen.every(LOOKED, takeWork);
     screen.onNewDay(() => screen.change({ found: null }));
     return screen.element;
 }

@@ -1,20 +1,23 @@
-// What is done with the trips of a vehicle that is out of service, step by step. Each step is written down before it is sent, in the browser's
-// database and for the key alone, so that a closed tab or a broken line forgets no rider; and where it broke off, the desk itself is read again.
+// What parts/out-of-service.js decides, done with the desk: its lists are read, its steps are sent, and a plan is kept in this browser's database
+// under its vehicle and day, so that any dispatcher's key goes on with it.
 
-import { plus, today } from "../parts/clock.js";
+import { plus, today, weekdayOf } from "../parts/clock.js";
 import * as desk from "../parts/desk.js";
-import { DAYS_AHEAD, LAST_MINUTE, MOST_DURATION } from "../parts/limits.js";
-import { cancelTrip } from "../parts/tally.js";
+import { EVENTS } from "../parts/events.js";
+import { DAYS_AHEAD } from "../parts/limits.js";
+import { byPickup, carryOut as carriedOut, keyOf, readAgain as readPlanAgain, saidOf } from "../parts/out-of-service.js";
+import { cancelTrip, count } from "../parts/tally.js";
 import { manifestsIn, rowsIn } from "../parts/texts.js";
+import { firstSaid, keepSaid, keepSettings } from "./dispatcher-settings.js";
 
 /** @typedef {import("../types").Trip} Trip */
-/** @typedef {import("../types").Ticket} Ticket */
 /** @typedef {import("../parts/texts.js").Row} Row */
-/** @typedef {"booked" | "cancelling" | "cancelled" | "booking" | "again" | "nowhere" | "gone" | "kept"} Step gone: somebody else cancelled it; kept: it could not be cancelled */
-/** @typedef {{ rider: number, old: Trip, highest: number, step: Step, ticket: Ticket | null, denied: string | null }} Item highest is the last trip of the rider
- *   that was there before */
-/** @typedef {{ vehicle: number, from: string, mode: "cancel" | "move", depot: number, isOut: boolean, stopped: string | null, done: boolean, items: Item[] }} Plan */
-/** @typedef {{ vehicle: number, from: string, depot: number | null, todays: Row[], items: Item[], denied?: undefined } | { denied: string }} Found */
+/** @typedef {import("../parts/out-of-service.js").Item} Item */
+/** @typedef {import("../parts/out-of-service.js").Plan} Plan */
+/** @typedef {import("../parts/out-of-service.js").Ports} Ports */
+/** @typedef {{ vehicle: number, from: string, depot: number | null, weekdays: number[], todays: Row[], drops: Map<number, number>, items: Item[], denied?: undefined }} Read
+ *   drops has the planned drop of each trip of today */
+/** @typedef {Read | { denied: string }} Found */
 
 // Kept.
 
@@ -38,15 +41,34 @@ const withStore = (mode, act) => new Promise((go, fail) => {
     };
 });
 
-/** What a key has begun, or null.
- * @param {string} whose its digest @returns {Promise<Plan | null>}
+/** A plan as it is now made, of one that an earlier page kept.
+ * @param {any} plan @returns {Plan}
  */
-export const keptPlan = (whose) => withStore("readonly", (store) => store.get(whose)).then((plan) => plan ?? null).catch(() => null);
+const asNow = (plan) => ({ back: null, settings: null, isBack: false, backDenied: null, counted: [], ...plan,
+    items: plan.items.map((/** @type {any} */ item) => ({ drop: null, other: null, ...item })) });
+
+/** What was begun in this browser, whoever began it.
+ * @returns {Promise<Plan[]>}
+ */
+export const keptPlans = () => withStore("readonly", (store) => store.getAll())
+    .then((plans) => plans.filter((/** @type {any} */ it) => it?.vehicle && Array.isArray(it.items)).map(asNow)).catch(() => []);
 
 /** Whether it is written down.
- * @param {Plan | null} plan @param {string} whose
+ * @param {Plan} plan
  */
-export const keepPlan = (plan, whose) => withStore("readwrite", (store) => (plan ? store.put(plan, whose) : store.delete(whose))).then(() => true).catch(() => false);
+export const keepPlan = (plan) => withStore("readwrite", (store) => store.put(plan, keyOf(plan))).then(() => true).catch(() => false);
+
+/** Forgets a plan, also where an earlier page kept it under another name.
+ * @param {Plan} plan
+ */
+export const dropPlan = (plan) => withStore("readwrite", (store) => {
+    store.openCursor().onsuccess = ({ target }) => {
+        const cursor = /** @type {any} */ (target).result;
+        if (cursor?.value && keyOf(cursor.value) === keyOf(plan)) cursor.delete();
+        cursor?.continue();
+    };
+    return store.count();
+}).then(() => true).catch(() => false);
 
 // Reading.
 
@@ -59,20 +81,33 @@ const daysFrom = (from) => Array.from({ length: DAYS_AHEAD + 1 }, (_, at) => plu
  * @param {number} vehicle @param {string[]} days @returns {Promise<{ rows?: Row[], denied?: string }>}
  */
 async function bookedIn(vehicle, days) {
-    /** @type {Row[]} */
-    const rows = [];
-    for (const day of days) {
-        const reply = await desk.tripsOn(day);
-        if (reply.denied !== undefined) return { denied: reply.denied };
-        rows.push(...rowsIn(reply.value).filter((row) => row.vehicle === vehicle && row.status === "booked"));
-    }
-    return { rows };
+    const replies = await Promise.all(days.map((day) => desk.tripsOn(day))), denied = replies.find((reply) => reply.denied !== undefined);
+    if (denied) return { denied: denied.denied };
+    return { rows: replies.flatMap((reply) => rowsIn(reply.value ?? "").filter((row) => row.vehicle === vehicle && row.status === "booked")) };
 }
 
-/** The trips of some rows as they were asked for, which the riders' own lists say.
- * @param {Row[]} rows @returns {Promise<{ items?: Item[], denied?: string }>}
+/** The manifests of a vehicle on some days: its depot, and the minute of each planned drop.
+ * @param {number} vehicle @param {string[]} days @returns {Promise<{ depot: number | null, drops: Map<number, number>, denied?: string }>}
  */
-async function itemsOf(rows) {
+async function plannedOn(vehicle, days) {
+    /** @type {Map<number, number>} */
+    const drops = new Map();
+    let depot = null;
+    for (const day of days) {
+        const reply = await desk.manifest(vehicle, day);
+        if (reply.denied !== undefined) return { depot, drops, denied: reply.denied };
+        for (const { what, trip, place, at } of manifestsIn(reply.value).flatMap(({ stops }) => stops)) {
+            if (what === "DEPOT") depot ??= place;
+            if (what === "DROP") drops.set(Number(trip), at);
+        }
+    }
+    return { depot, drops };
+}
+
+/** The trips of some rows as they were asked for, which the riders' own lists say; whose pickup is nearest comes first.
+ * @param {Row[]} rows @param {Map<number, number>} drops @returns {Promise<{ items?: Item[], denied?: string }>}
+ */
+async function itemsOf(rows, drops) {
     /** @type {Item[]} */
     const items = [];
     for (const rider of new Set(rows.map((row) => row.rider))) {
@@ -81,130 +116,85 @@ async function itemsOf(rows) {
         const all = reply.value.trips, highest = Math.max(...all.map(({ trip }) => trip));
         for (const row of rows.filter((it) => it.rider === rider)) {
             const old = all.find(({ trip }) => trip === row.trip);
-            if (old) items.push({ rider, old, highest, step: "booked", ticket: null, denied: null });
+            if (old) items.push({ rider, old, said: firstSaid(old.trip), drop: drops.get(old.trip) ?? null, highest, step: "booked", ticket: null, other: null, denied: null });
         }
     }
-    return { items: items.sort((a, b) => a.old.trip - b.old.trip) };
+    return { items: items.sort((a, b) => byPickup(a.old, b.old)) };
+}
+
+/** @param {Iterable<{ day: string }>} rows */
+const daysOf = (rows) => [...new Set([...rows].map(({ day }) => day))];
+
+/** On which of some days a vehicle is on duty.
+ * @param {number} vehicle @param {string[]} days
+ */
+async function dutyOn(vehicle, days) {
+    const near = days.filter((day) => daysFrom(today()).includes(day)), replies = await Promise.all(near.map((day) => desk.sheet(day)));
+    const denied = replies.find((reply) => reply.denied !== undefined);
+    if (denied) return { denied: denied.denied };
+    return { value: near.filter((_, at) => manifestsIn(replies[at].value ?? "").some((it) => it.vehicle === vehicle)) };
 }
 
 /** What a vehicle has from a day on.
  * @param {number} vehicle @param {string} from @returns {Promise<Found>}
  */
 export async function readVehicle(vehicle, from) {
-    const booked = await bookedIn(vehicle, daysFrom(from));
+    const booked = await bookedIn(vehicle, daysFrom(from)), rows = booked.rows ?? [];
     if (!booked.rows) return { denied: booked.denied ?? "left" };
-    const later = booked.rows.filter(({ day }) => day > today()), read = await itemsOf(later);
-    if (!read.items) return { denied: read.denied ?? "left" };
-    const manifest = await desk.manifest(vehicle, (booked.rows[0] ?? { day: from }).day);
-    if (manifest.denied !== undefined) return { denied: manifest.denied };
-    const depot = manifestsIn(manifest.value)[0]?.stops.find(({ what }) => what === "DEPOT")?.place ?? null;
-    return { vehicle, from: later.length && from <= today() ? plus(today(), 1) : from, depot, todays: booked.rows.filter(({ day }) => day === today()), items: read.items };
+    const planned = await plannedOn(vehicle, daysOf(rows.length ? rows : [{ day: from }]));
+    if (planned.denied !== undefined) return { denied: planned.denied };
+    const later = rows.filter(({ day }) => day > today()), read = await itemsOf(later, planned.drops), duty = await dutyOn(vehicle, daysFrom(today()));
+    if (!read.items || duty.denied !== undefined) return { denied: read.denied ?? duty.denied ?? "left" };
+    return { vehicle, from: from <= today() ? plus(today(), 1) : from, depot: planned.depot, drops: planned.drops, items: read.items,
+        weekdays: [...new Set((duty.value ?? []).map(weekdayOf))].sort(), todays: rows.filter(({ day }) => day === today()).sort((a, b) => a.window_from - b.window_from) };
 }
 
-// Doing. A step that is under way says so before it is sent.
+// Doing.
 
-/** @param {Item} item @returns {import("../types").Wish & { rider: number }} */
-const wishOf = ({ rider, old: { day, wish, from, to, by, attendant, companions } }) => ({ rider, day, wish, from, to, by, attendant, companions });
+/** @param {Plan} plan @returns {Promise<Item[]>} */
+async function itemsNow({ vehicle, from }) {
+    const { rows = [] } = await bookedIn(vehicle, daysFrom(from)), { drops } = await plannedOn(vehicle, daysOf(rows));
+    return (await itemsOf(rows, drops)).items ?? [];
+}
 
-/** @typedef {(plan: Plan) => Promise<void>} Keep */
+/** @param {any} fields */
+async function putVehicle(fields) {
+    const reply = await desk.putVehicle(fields);
+    if (reply.denied === undefined) keepSettings(fields);
+    return reply;
+}
 
-/** @param {Plan} plan @param {number} at @param {Partial<Item>} patch @returns {Plan} */
-const withItem = (plan, at, patch) => ({ ...plan, items: plan.items.map((item, index) => (index === at ? { ...item, ...patch } : item)) });
-
-/** Denials after which nobody knows whether it was done, or nothing more can be done: the desk has to be read again first. */
-const STOPS = ["left", "desk.key", "desk.caller", "desk.number"];
-
-/** Does one step of each item that is ready for it; stop says why it went no further.
- * @param {Plan} plan @param {{ ready: Step, under: Step, send: (item: Item) => Promise<any>, after: (reply: any) => Partial<Item> }} how @param {Keep} keep
- * @returns {Promise<{ plan: Plan, stop: string | null }>}
+/** Tells the site what the rider of a trip asked for: the desk has the wish by which the page kept the window.
+ * @param {Item} item @param {import("../types").Ticket} ticket
  */
-async function each(plan, { ready, under, send, after }, keep) {
+function tellBooked(item, { trip, window_from: from, window_to: to }) {
+    const said = saidOf(item);
+    keepSaid(trip, said);
+    count("bookings", { day: item.old.day, trip, mode: said.by === null ? "around" : "by", minute: said.by ?? said.wish, from, to });
+}
+
+/** @param {{ day: string, minute: number, rule: string }} denial */
+function tellDenial(denial) {
+    if (EVENTS.denials.rule.words?.includes(denial.rule)) count("denials", denial);
+}
+
+/** @param {number} vehicle @param {Ports["keep"]} keep @returns {Ports} */
+function portsOf(vehicle, keep) {
     const whose = desk.digest();
-    let now = plan;
-    for (let at = 0; at < plan.items.length; at += 1) {
-        if (now.items[at].step !== ready) continue;
-        if (desk.digest() !== whose) return { plan: now, stop: "left" };
-        await keep(now = withItem(now, at, { step: under }));
-        const reply = await send(now.items[at]);
-        if (STOPS.includes(reply.denied)) return { plan: now, stop: reply.denied };
-        await keep(now = withItem(now, at, after(reply)));
-    }
-    return { plan: now, stop: null };
+    return { tripsOf: desk.tripsOf, cancel: (trip) => cancelTrip(trip, "agency"), book: desk.book, putVehicle, dutyOn: (days) => dutyOn(vehicle, days), itemsNow, keep,
+        count: tellDenial, booked: tellBooked, isMine: () => desk.digest() === whose };
 }
 
-/** @param {Plan} plan */
-const offDuty = ({ vehicle, from, depot }) => desk.putVehicle({ id: vehicle, from_day: from, days: [], depot, capacity: 1, chairs: 0, opens: 0, closes: LAST_MINUTE,
-    duration: MOST_DURATION });
-
-/** Trips that came into the vehicle meanwhile.
- * @param {Plan} plan
+/** Goes on with a plan to its end, or to where it has to stop.
+ * @param {Plan} plan @param {Ports["keep"]} keep
  */
-async function newcomers(plan) {
-    const { rows = [] } = await bookedIn(plan.vehicle, daysFrom(plan.from));
-    const { items = [] } = await itemsOf(rows.filter(({ trip }) => !plan.items.some(({ old }) => old.trip === trip)));
-    return items;
-}
+export const carryOut = (plan, keep) => carriedOut(plan, portsOf(plan.vehicle, keep));
 
-/** Goes on with a plan to its end, or to where it has to stop: cancels, takes the vehicle off duty, books again.
- * @param {Plan} begun @param {Keep} keep
- */
-export async function carryOut(begun, keep) {
-    const cancelled = await each({ ...begun, stopped: null }, { ready: "booked", under: "cancelling", send: ({ old }) => cancelTrip(old.trip, "agency"),
-        after: ({ denied }) => ({ step: denied === undefined ? "cancelled" : "kept", denied: denied ?? null }) }, keep);
-    let { plan } = cancelled;
-    if (cancelled.stop) return keep({ ...plan, stopped: cancelled.stop });
-    if (!plan.isOut) {
-        const reply = await offDuty(plan);
-        if (reply.denied !== undefined) {
-            const more = reply.denied === "desk.booked" ? await newcomers(plan) : [];
-            return keep({ ...plan, stopped: reply.denied, items: [...plan.items, ...more] });
-        }
-        await keep(plan = { ...plan, isOut: true });
-    }
-    if (plan.mode === "move") {
-        const booked = await each(plan, { ready: "cancelled", under: "booking", send: (item) => desk.book(wishOf(item)),
-            after: ({ value, denied }) => (denied === undefined ? { step: "again", ticket: value, denied: null } : { step: "nowhere", denied }) }, keep);
-        plan = booked.plan;
-        if (booked.stop) return keep({ ...plan, stopped: booked.stop });
-    }
-    return keep({ ...plan, done: true });
-}
-
-// After a break.
-
-/** The trip that was booked for an item, where it is there.
- * @param {Item} item @param {Trip[]} trips @param {Set<number>} taken
- */
-const bookedFor = ({ old, highest }, trips, taken) => trips.find((it) => it.trip > highest && it.status === "booked" && !taken.has(it.trip) && it.day === old.day
-    && it.wish === old.wish && it.from === old.from && it.to === old.to);
-
-/** What an item is by the rider's own list: a step that was under way was done, or it was not.
- * @param {Item} item @param {Trip[]} trips @param {Set<number>} taken @returns {Item}
- */
-function itemNow(item, trips, taken) {
-    const status = trips.find(({ trip }) => trip === item.old.trip)?.status;
-    if (["booked", "kept"].includes(item.step)) return { ...item, step: status === "cancelled" ? "gone" : "booked", denied: null };
-    if (item.step === "cancelling") return { ...item, step: status === "cancelled" ? "cancelled" : "booked" };
-    if (item.step !== "booking") return item;
-    const ticket = bookedFor(item, trips, taken);
-    if (!ticket) return { ...item, step: "cancelled" };
-    taken.add(ticket.trip);
-    return { ...item, step: "again", ticket };
-}
-
-/** A plan that broke off, by what the desk says now; null where it could not be read.
+/** A plan by what the desk says now; null where it could not be read.
  * @param {Plan} plan @returns {Promise<Plan | null>}
  */
 export async function readAgain(plan) {
     // (what was under way when the page was loaded anew comes to its end first)
     await desk.inTurn(async () => {});
-    const taken = new Set(plan.items.flatMap(({ ticket }) => (ticket ? [ticket.trip] : [])));
-    /** @type {Map<number, Trip[]>} */
-    const all = new Map();
-    for (const rider of new Set(plan.items.map((item) => item.rider))) {
-        const reply = await desk.tripsOf(rider);
-        if (reply.denied !== undefined) return null;
-        all.set(rider, reply.value.trips);
-    }
-    return { ...plan, items: plan.items.map((item) => itemNow(item, all.get(item.rider) ?? [], taken)) };
+    return readPlanAgain(plan, desk);
 }

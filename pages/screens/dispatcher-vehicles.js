@@ -4,35 +4,60 @@ import { placePairs, vehicleName, vehicles as named } from "../parts/agency.js";
 import { dayInWords, today } from "../parts/clock.js";
 import * as desk from "../parts/desk.js";
 import { button, part } from "../parts/element.js";
-import { choiceField, dayField, form, idField, numberField, timeField, weekdaysField } from "../parts/fields.js";
+import { choiceField, dayField, form, numberField, timeField, weekdaysField } from "../parts/fields.js";
 import { MOST_CHAIRS, MOST_DURATION, MOST_SEATS } from "../parts/limits.js";
 import { makeScreen } from "../parts/screen.js";
 import { keepSubject } from "../parts/subject.js";
+import { vehicleField } from "../parts/vehicle-field.js";
 import { t } from "../parts/words.js";
+import { keepSettings, settingsOn } from "./dispatcher-settings.js";
 
-const fieldsOf = () => [idField("id", t("dispatcher.vehicle-number")), dayField("from_day", t("dispatcher.holds-from"), { value: today() }),
-    weekdaysField("days", t("dispatcher.on-duty")), choiceField("depot", t("dispatcher.depot-place"), placePairs(), { empty: t("dispatcher.choose-one") }),
-    numberField("capacity", t("dispatcher.seats"), 1, MOST_SEATS), numberField("chairs", t("dispatcher.chairs"), 0, MOST_CHAIRS, { value: 0 }),
-    timeField("opens", t("dispatcher.opens"), { hint: t("dispatcher.opens-hint"), wants: t("dispatcher.opens-wants") }), timeField("closes", t("dispatcher.closes")),
-    numberField("duration", t("dispatcher.duration"), 1, MOST_DURATION)];
+/** The fields of what a vehicle has, with what is known of it.
+ * @param {Partial<Omit<import("../parts/out-of-service.js").Settings, "depot">> & { depot?: number | null }} known
+ */
+export const settingsFields = ({ days, depot, capacity, chairs, opens, closes, duration } = {}) => [weekdaysField("days", t("dispatcher.on-duty"), days),
+    choiceField("depot", t("dispatcher.depot-place"), placePairs(), { empty: t("dispatcher.choose-one"), value: depot ?? undefined }),
+    numberField("capacity", t("dispatcher.seats"), 1, MOST_SEATS, { value: capacity }), numberField("chairs", t("dispatcher.chairs"), 0, MOST_CHAIRS, { value: chairs ?? 0 }),
+    timeField("opens", t("dispatcher.opens"), { hint: t("dispatcher.opens-hint"), wants: t("dispatcher.opens-wants"), value: opens }),
+    timeField("closes", t("dispatcher.closes"), { value: closes }), numberField("duration", t("dispatcher.duration"), 1, MOST_DURATION, { value: duration })];
 
 /** The number is the pages' own only where the agency's file has no name for it, and then the page says who gives one.
  * @param {number} id
  */
 const nameWords = (id) => (named().some((it) => it.id === id && it.name) ? null : part("p", { class: "hint" }, t("dispatcher.no-name", { vehicle: id })));
 
+/** What was put of a vehicle from this browser, so that nobody types it from memory.
+ * @param {number} id
+ */
+function knownWords(id) {
+    const last = settingsOn(id, "9999-12-31");
+    return last ? t("dispatcher.vehicle-last", { vehicle: vehicleName(id), day: dayInWords(last.from_day) }) : "";
+}
+
+/** @typedef {{ done: { id: number, day: string } | null, booked: number | null, known: string }} State */
+
 export function vehicles() {
-    const whole = form({ name: t("dispatcher.vehicle-form"), action: t("dispatcher.put-vehicle"), purpose: "vehicle", fields: fieldsOf(), class: "vehicle",
-        begun: () => screen.change({ done: null, booked: null }),
+    const settings = settingsFields();
+    const chosen = (/** @type {number | null} */ id) => {
+        const last = id === null ? null : settingsOn(id, "9999-12-31");
+        for (const field of last ? settings : []) field.write(/** @type {any} */ (last)[field.name]);
+        screen?.change({ known: id === null ? "" : knownWords(id) });
+    };
+    const vehicle = vehicleField("id", t("dispatcher.vehicle-field"), { chosen });
+    const whole = form({ name: t("dispatcher.vehicle-form"), action: t("dispatcher.put-vehicle"), purpose: "vehicle", class: "vehicle",
+        fields: [vehicle, dayField("from_day", t("dispatcher.holds-from"), { value: today() }), ...settings], begun: () => screen?.change({ done: null, booked: null }),
+        check: ({ opens, closes }) => (opens > closes ? { field: "opens", fault: t("dispatcher.opens-wants") } : null),
         send: async (values) => {
-            const reply = await (values.opens > values.closes ? Promise.resolve({ denied: "http.field", field: "opens" }) : desk.putVehicle(values));
-            if (reply.denied === "desk.booked") screen.change({ booked: values.id });
+            const reply = await desk.putVehicle(values);
+            if (reply.denied === "desk.booked") screen?.change({ booked: values.id });
+            if (reply.denied === undefined) keepSettings(values);
             return reply;
         },
-        done: (_, { id, from_day: day }) => screen.change({ done: { id, day } }, { focus: "vehicle-done" }) });
-    const screen = makeScreen({ state: { done: /** @type {{ id: number, day: string } | null} */ (null), booked: /** @type {number | null} */ (null) }, class: "card",
-        draw: ({ done, booked }) => [part("h2", {}, t("dispatcher.vehicle-heading")), part("p", { class: "hint" }, t("dispatcher.vehicle-hint")), whole,
-            booked !== null && part("div", { class: "row" }, button(t("dispatcher.to-out", { vehicle: vehicleName(booked) }), () => {
+        done: (_, { id, from_day: day }) => screen?.change({ done: { id, day }, known: knownWords(id) }, { focus: "vehicle-done" }) });
+    /** @type {ReturnType<typeof makeScreen<State>> | undefined} */
+    const screen = makeScreen({ state: /** @type {State} */ ({ done: null, booked: null, known: "" }), class: "card",
+        draw: ({ done, booked, known }) => [part("h2", {}, t("dispatcher.vehicle-heading")), part("p", { class: "hint" }, t("dispatcher.vehicle-hint")),
+            part("p", { role: "status" }, known), whole, booked !== null && part("div", { class: "row" }, button(t("dispatcher.to-out", { vehicle: vehicleName(booked) }), () => {
                 keepSubject("vehicle", booked);
                 location.hash = "#dispatcher/out";
             })),

@@ -2,7 +2,7 @@
 
 import { agency } from "../parts/agency.js";
 import { clock, dayInWords, dayShort, plus } from "../parts/clock.js";
-import { denialOf } from "../parts/denials.js";
+import { keptDenialOf } from "../parts/denials.js";
 import { button, part } from "../parts/element.js";
 import { whyStopped } from "../parts/queue.js";
 import { t } from "../parts/words.js";
@@ -49,7 +49,7 @@ function queueOf(state) {
     const { waits, kept } = state, stopped = whyStopped();
     const elsewhere = kept.some((entry) => entry.state === "waiting" && entry.sheet !== sheetName(state.vehicle, state.day));
     return [waits > 0 && part("p", { class: "note" }, t("driver.waiting", { count: waits }), elsewhere && ` ${t("driver.waits-elsewhere")}`),
-        stopped && waits > 0 && [denialOf(stopped), part("p", {}, t("driver.stopped"))],
+        stopped && waits > 0 && [keptDenialOf(stopped.denied), part("p", {}, t("driver.stopped"))],
         state.loose.some(({ write }) => !write) && part("p", { class: "note" }, t("driver.loose"))];
 }
 
@@ -60,7 +60,7 @@ function deniedOne(entry, state, acts) {
     const day = isHere ? "" : `${dayShort(entry.sheet.split(" ")[1])}: `, there = isHere && shownDay(state).stops.some(({ name }) => name === stop);
     return part("div", { class: "card driver-denied", key: `denied-${entry.order}` },
         part("p", {}, t("driver.denied-one", { what: didWords(what), stop: `${day}${whoAt(rider, namesOf(state))}, ${t("driver.trip", { trip })}.` })),
-        denialOf({ denied: entry.denied ?? "" }, "outcome"), part("div", { class: "driver-choices" },
+        keptDenialOf(entry.denied, "outcome"), part("div", { class: "driver-choices" },
             there && button(t("driver.open-stop"), () => acts.open(stop), PLAIN), button(t("driver.put-aside"), () => acts.aside(entry), PLAIN)));
 }
 
@@ -72,7 +72,7 @@ export function noticesOf(state, acts) {
         part("div", { role: "status", id: "driver-line" }, silent && part("p", { class: "note" }, read
             ? t("driver.read-at", { time: `${dayShort(read.readAt.slice(0, 10))}, ${timeOf(read.readAt)}` }) : t("driver.none-kept"))),
         part("div", { role: "status", id: "driver-queue" }, queueOf(state)),
-        part("div", { role: "alert", id: "driver-denied" }, denied && denialOf({ denied }, denied === "desk.caller" ? "driver" : "manifest"),
+        part("div", { role: "alert", id: "driver-denied" }, denied && keptDenialOf(denied, denied === "desk.caller" ? "driver" : "manifest"),
             gone && part("div", { class: "note" }, part("p", {}, t("driver.gone", { stops: gone })), button(t("driver.put-aside"), acts.seenGone, PLAIN)),
             deniedIn(state).map((entry) => deniedOne(entry, state, acts))));
 }

@@ -2,7 +2,7 @@
 
 import { agency, placeNote } from "../parts/agency.js";
 import { between, clock } from "../parts/clock.js";
-import { denialOf } from "../parts/denials.js";
+import { keptDenialOf } from "../parts/denials.js";
 import { button, part } from "../parts/element.js";
 import { counted, t } from "../parts/words.js";
 import { canTakeBack, choicesAt, minutesUntil, waitAt } from "./driver-day.js";
@@ -93,7 +93,7 @@ function toldOf(stop, { noRoom }) {
         arrived && !aboard && !outcome && part("p", {}, t("driver.arrived-at", { time: timeOf(arrived.tap.at) })),
         aboard && !outcome && part("p", { class: "good" }, t("driver.told", { what: didWords("aboard") })),
         outcome && part("p", { class: outcome.state === "waiting" ? "note" : "good" }, t(how, { what })),
-        denied && [part("p", { class: "fault" }, t("driver.told-denied", { what })), denialOf({ denied: denied.denied ?? "" }, "outcome")],
+        denied && [part("p", { class: "fault" }, t("driver.told-denied", { what })), keptDenialOf(denied.denied, "outcome")],
         noRoom === stop.name && part("p", { class: "denial" }, t("driver.no-room")));
 }
 

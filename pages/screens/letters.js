@@ -3,13 +3,14 @@
 import { agency, placeOf } from "../parts/agency.js";
 import { asked } from "../parts/ask.js";
 import { appealedHere } from "../parts/case-facts.js";
-import { plus, today } from "../parts/clock.js";
+import { asSpoken, plus, today } from "../parts/clock.js";
 import * as desk from "../parts/desk.js";
 import { denialOf } from "../parts/denials.js";
 import { button, part } from "../parts/element.js";
 import { enter, enteredOf } from "../parts/entered.js";
-import { APPEAL_DAYS, MOST_ENTRIES } from "../parts/limits.js";
-import { printParts, sheetOf } from "../parts/paper.js";
+import { APPEAL_DAYS, HEARING_DAYS, MOST_ENTRIES } from "../parts/limits.js";
+import { noticeIn } from "../parts/notices.js";
+import { printParts } from "../parts/paper.js";
 import { reading } from "../parts/reads.js";
 import { riderLabel, riderName, riderOf } from "../parts/roster.js";
 import { makeScreen } from "../parts/screen.js";
@@ -35,7 +36,7 @@ const said = (own, key, values) => (own === language() ? t(key, values) : inBoth
 /** @param {string} own @param {string} day @param {Intl.DateTimeFormatOptions} [options] */
 function dayIn(own, day, options = { dateStyle: "full" }) {
     const at = Date.parse(day);
-    return Number.isNaN(at) ? day : new Intl.DateTimeFormat(SPEECH[own], { ...options, timeZone: "UTC" }).format(new Date(at));
+    return Number.isNaN(at) ? day : asSpoken(new Intl.DateTimeFormat(SPEECH[own], { ...options, timeZone: "UTC" }).format(new Date(at)), own);
 }
 
 /** What a condition of a grant says.
@@ -50,6 +51,26 @@ export function conditionInWords(text, own = language()) {
 }
 
 // Reading.
+
+/** The rider's own name, which the site tells where there is no roster.
+ * @type {{ rider: number, name: string }}
+ */
+let own = { rider: 0, name: "" };
+
+/** @param {number} rider */
+const ownName = (rider) => (own.rider === rider ? own.name : "");
+
+/** @param {number} rider */
+async function loadOwnName(rider) {
+    if (!isOwn() || ownName(rider)) return;
+    const { status, text } = await desk.fetchFile(`/own/${rider}/name.json`);
+    try {
+        const { name } = JSON.parse(status === 200 ? text ?? "" : "{}");
+        if (typeof name === "string") own = { rider, name };
+    } catch {
+        own = { rider: 0, name: "" };
+    }
+}
 
 // Of entries that stand side by side at most four have no letter: an application, an appeal, its hearing, and the hearing of a notice. So
 // behind five of them in a row there is none.
@@ -100,15 +121,42 @@ const lastDay = ({ date }) => plus(date, APPEAL_DAYS);
 /** @param {string} own @param {Letter} letter */
 const titleOf = (own, { decision }) => (decision in NAMES ? said(own, `cases.letter-${NAMES[decision]}`) : decision);
 
-/** @param {string} own @param {Letter} letter @param {string} who @returns {string[]} */
-function meaningOf(own, { decision, lines }, who) {
+/** The days that a letter speaks of: those proposed, those of a suspension, or those of the suspension that a denied appeal leaves.
+ * @param {Letter} letter @param {Letter[]} letters
+ */
+function daysOf({ entry, decision, lines }, letters) {
+    const proposed = decision === "notice" ? noticeIn(lines.get("REASONS") ?? "") : null;
+    if (proposed) return proposed;
+    const against = decision === "appeal denied" ? letters.filter((it) => it.entry < entry && APPEALABLE.includes(it.decision)).at(-1) : null;
+    const of = against?.decision === "suspended" ? against.lines : lines;
+    return { first: of.get("FROM") ?? "", last: of.get("TO") ?? "" };
+}
+
+/** @param {string} own @param {Letter} letter @param {string} who @param {Letter[]} letters @returns {string[]} */
+function meaningOf(own, letter, who, letters) {
+    const { decision, lines } = letter;
     if (!(decision in NAMES)) return [];
-    const { name, telephone } = agency(), day = (/** @type {string} */ line) => dayIn(own, lines.get(line) ?? "");
-    const means = said(own, `cases.means-${NAMES[decision]}`, { who, agency: name, telephone, until: day("UNTIL"), from: day("FROM"), to: day("TO") });
+    const { name, telephone } = agency(), { first, last } = daysOf(letter, letters), hasDays = ["notice", "appeal denied"].includes(decision) && first !== "";
+    const means = said(own, `cases.means-${NAMES[decision]}${hasDays ? "-days" : ""}`, { who, agency: name, telephone, until: dayIn(own, lines.get("UNTIL") ?? ""),
+        from: dayIn(own, first), to: dayIn(own, last) });
     if (!lines.has("CONDITIONS")) return [means];
-    const conditions = (lines.get("CONDITIONS") ?? "").split("; ").map((it) => conditionInWords(it, own));
+    const all = (lines.get("CONDITIONS") ?? "").split("; "), conditions = all.map((it) => conditionInWords(it, own));
     return [means, said(own, "cases.letter-conditions", { conditions: new Intl.ListFormat(own, { type: "disjunction" }).format(conditions) }),
-        said(own, lines.get("ATTENDANT") === "yes" ? "cases.letter-attendant" : "cases.letter-no-attendant")];
+        said(own, lines.get("ATTENDANT") === "yes" ? "cases.letter-attendant" : "cases.letter-no-attendant"),
+        ...(all.includes("always") ? [] : [said(own, "cases.letter-other-trips", { telephone: telephone || name })])];
+}
+
+/** The reasons of a decision, or the trips of a notice, as they were written. They are kept in English.
+ * @param {string} own @param {Letter} letter @returns {Given}
+ */
+function reasonsOf(own, { decision, lines }) {
+    const reasons = lines.get("REASONS"), { name, telephone } = agency();
+    if (!reasons || !(decision in NAMES)) return null;
+    const proposed = decision === "notice" ? noticeIn(reasons) : null;
+    return [own !== "en" && part("p", {}, said(own, "cases.reasons-in-english", { telephone: telephone || name })),
+        proposed ? [part("p", {}, said(own, "cases.notice-trips")), part("ul", { lang: "en" }, proposed.missed.map((it) => part("li", {}, it))), proposed.more && part("p", { lang: "en" }, proposed.more),
+            part("p", {}, said(own, "cases.notice-not-counted"))]
+            : part("p", {}, said(own, decision === "notice" ? "cases.notice-basis" : "cases.reasons-are"), " ", part("span", { lang: "en" }, reasons))];
 }
 
 /** Where one writes or calls.
@@ -125,7 +173,11 @@ function whereTo(own) {
  */
 function rightsOf(own, letter) {
     const { decision } = letter;
-    if (decision === "notice") return [part("h2", {}, said(own, "cases.hearing")), part("p", {}, said(own, "cases.hearing-right")), whereTo(own)];
+    if (decision === "notice") {
+        const until = plus(letter.date, HEARING_DAYS);
+        return [part("h2", {}, said(own, "cases.hearing")), part("p", {}, part("strong", {}, said(own, "cases.hearing-until", { day: dayIn(own, until) }))),
+            part("p", {}, said(own, "cases.hearing-right")), whereTo(own), part("p", {}, said(own, "cases.hearing-meanwhile"))];
+    }
     if (!APPEALABLE.includes(decision)) return null;
     const days = { day: dayIn(own, lastDay(letter)), date: dayIn(own, letter.date), days: APPEAL_DAYS };
     return [part("h2", {}, said(own, "cases.appeal-right")), part("p", {}, part("strong", {}, said(own, "cases.appeal-until", days))),
@@ -136,25 +188,25 @@ function rightsOf(own, letter) {
 // The paper.
 
 /** One letter in one language.
- * @param {string} own @param {Letter} letter @param {number} rider
+ * @param {string} own @param {Letter} letter @param {number} rider @param {Letter[]} letters
  */
-function paperOf(own, letter, rider) {
+function paperOf(own, letter, rider, letters) {
     const { name, address, telephone } = agency(), home = riderOf(rider)?.home ?? null, place = home === null ? null : placeOf(home);
-    const who = riderName(rider) || said(own, "cases.you-number", { rider });
+    const called = riderName(rider) || ownName(rider), who = called || said(own, "cases.you-number", { rider });
     return part("article", { class: "letter-page", lang: own },
         part("header", {}, part("p", { class: "letterhead" }, name), address && part("p", {}, address.split("\n").map((line) => [line, part("br")])),
             telephone && part("p", {}, said(own, "cases.telephone", { telephone }))),
         part("p", {}, dayIn(own, letter.date)),
-        part("p", { class: "to" }, riderName(rider) && [riderName(rider), part("br")], place?.name && [place.name, part("br")], said(own, "cases.rider-number", { rider })),
-        part("h1", {}, titleOf(own, letter)), meaningOf(own, letter, who).map((it) => part("p", {}, it)),
-        part("p", {}, said(own, "cases.desk-text")), part("pre", { lang: "en" }, letter.text), rightsOf(own, letter),
-        part("p", { class: "hint" }, said(own, "cases.formats", { telephone: telephone || name })));
+        part("p", { class: "to" }, called ? [called, part("br")] : [said(own, "cases.name-line"), part("br")], place?.name && [place.name, part("br")], said(own, "cases.rider-number", { rider })),
+        part("h1", {}, titleOf(own, letter)), meaningOf(own, letter, who, letters).map((it) => part("p", {}, it)), reasonsOf(own, letter), rightsOf(own, letter),
+        part("p", { class: "hint" }, said(own, "cases.formats", { telephone: telephone || name })),
+        part("footer", { class: "on-record" }, part("p", {}, said(own, "cases.desk-text")), part("pre", { lang: "en" }, letter.text)));
 }
 
-/** @param {Letter} letter @param {number} rider @param {{ own: string, large: boolean }} how own is a language, or both */
-function print(letter, rider, { own, large }) {
+/** @param {Letter} letter @param {number} rider @param {{ own: string, large: boolean, letters: Letter[] }} how own is a language, or both */
+function print(letter, rider, { own, large, letters }) {
     const languages = own === "both" ? Object.keys(LANGUAGE_NAMES) : [own];
-    printParts("", languages.map((it) => paperOf(it, letter, rider)), { class: large ? "letter large" : "letter" });
+    printParts("", languages.map((it) => paperOf(it, letter, rider, letters)), { class: large ? "letter large" : "letter" });
 }
 
 /** The language that a rider's letters begin with: the rider's own where the roster names it.
@@ -207,9 +259,11 @@ export function lettersFor(rider, { appeals = true } = {}) {
                     reply && !letters.length && !denied && t("cases.letters-none")),
                 letters.length > 0 && howPrinted(own, large, change),
                 letters.length > 0 && part("ol", { class: "letters" }, letters.map((letter) => part("li", { key: letter.entry },
-                    sheetOf(`${dayIn(language(), letter.date)}: ${titleOf(language(), letter)}`, letter.text, { label: t("cases.print-letter", { entry: letter.entry, rider }),
-                        print: () => print(letter, rider, { own, large }) }),
-                    meaningOf(language(), letter, isOwn() ? t("cases.you") : who).map((it) => part("p", {}, it)),
+                    part("h3", {}, `${dayIn(language(), letter.date)}: ${titleOf(language(), letter)}`),
+                    meaningOf(language(), letter, isOwn() ? t("cases.you") : who, letters).map((it) => part("p", {}, it)), reasonsOf(language(), letter),
+                    part("div", { class: "row" }, button(t("cases.print-letter", { entry: letter.entry, rider }), () => print(letter, rider, { own, large, letters }))),
+                    part("details", {}, part("summary", {}, t("cases.on-record", { entry: letter.entry })),
+                        part("pre", { lang: "en", tabindex: 0, role: "region", "aria-label": t("cases.on-record", { entry: letter.entry }) }, letter.text)),
                     appealShown(letter, letters, { rider, entered, appeal: appeals ? () => appeal(letter) : null }),
                     part("div", { role: "status", id: `answer-letter-${letter.entry}` }, answerAt === letter.entry && answer))))];
         },
@@ -227,6 +281,6 @@ export function lettersFor(rider, { appeals = true } = {}) {
         screen.change({ answerAt: letter.entry, answer }, { focus: `answer-letter-${letter.entry}` });
     }
     read.watch(screen.element, redraw);
-    loadBoth().then(() => screen.change({ ready: true }));
+    Promise.all([loadBoth(), loadOwnName(rider)]).then(() => screen.change({ ready: true }));
     return { element: screen.element, refresh: read.again };
 }

@@ -11,7 +11,7 @@ import { makeScreen } from "../parts/screen.js";
 import { lookAtSent, sentFor } from "../parts/sent.js";
 import { keepSubject, withSubject } from "../parts/subject.js";
 import { t } from "../parts/words.js";
-import { bookingFor } from "./booking.js";
+import { bookingFor, offersFor } from "./booking.js";
 import { entryForms, lettersFor, standingOf } from "./cases.js";
 import { tripsOfRider } from "./trips.js";
 
@@ -37,7 +37,7 @@ const help = () => (agency().telephone ? [make("p", { class: "hint" }, t("rider.
 let again = null;
 
 /** @param {number} rider */
-const trips = (rider) => [tripsOfRider(rider, { heading: t("rider.trips"), cards: true, purpose: "rider", again: (trip, back) => {
+const trips = (rider) => [offersFor(rider), tripsOfRider(rider, { heading: t("rider.trips"), cards: true, purpose: "rider", again: (trip, back) => {
     again = { trip, back };
     keepSubject("rider", rider);
     location.hash = "rider/book";

@@ -1,18 +1,19 @@
 // The ticket of a trip: what the rider gets, on the screen and on paper, in the reader's language and in the rider's own.
 
-import { agency, placeName, placeNote, vehicleName } from "../parts/agency.js";
+import { agency, placeName, vehicleName } from "../parts/agency.js";
 import { between, clock, dayInWords } from "../parts/clock.js";
 import { button, part } from "../parts/element.js";
 import { printParts } from "../parts/paper.js";
 import { riderLabel, riderOf } from "../parts/roster.js";
+import { namedBy, saidOf } from "../parts/said.js";
 import { apart } from "../parts/wishes.js";
-import { inBoth, language, LANGUAGE_NAMES, listed, loadBoth, t } from "../parts/words.js";
+import { language, LANGUAGE_NAMES, listed, loadBoth, speaking, t } from "../parts/words.js";
 
 /** @typedef {import("../types").Trip} Trip */
 /** @typedef {import("../types").Ticket} Ticket */
 /** @typedef {import("../types").Wish} Wish */
-/** @typedef {{ rider: number, ticket: Ticket, wish: Wish, asked?: number | null, mode?: string }} Booked asked is the minute that the rider named */
-/** @typedef {(key: string, values?: Record<string, any>) => string} Say */
+/** @typedef {import("../parts/said.js").Named} Named */
+/** @typedef {{ rider: number, ticket: Ticket, wish: Wish, said?: Named | null }} Booked said is what the rider said; of a trip that is there it is looked for */
 
 /** @param {number} cents */
 export const dollars = (cents) => `$${(cents / 100).toFixed(2)}`;
@@ -21,41 +22,58 @@ export const dollars = (cents) => `$${(cents / 100).toFixed(2)}`;
 export const windowOf = ({ window_from: from, window_to: to }) => between(from, to);
 
 /** Who comes: the rider, and whom the rider brings.
- * @param {{ attendant: boolean, companions: number }} wish @param {Say} [say]
+ * @param {{ attendant: boolean, companions: number }} wish
  */
-export function party({ attendant, companions }, say = t) {
-    const who = [say("booking.rider"), attendant && say("booking.attendant"), companions > 0 && say("booking.companions", { count: companions })];
+export function party({ attendant, companions }) {
+    const who = [t("booking.rider"), attendant && t("booking.attendant"), companions > 0 && t("booking.companions", { count: companions })];
     return listed(who.filter(Boolean).map(String));
 }
 
-/** How far the promised pickup is from what was wished: "55 minutes before 9:00 AM".
- * @param {Booked} booked @param {Say} say
+/** What a rider said, as it is read out: "not before 9:00 AM".
+ * @param {Named} said
  */
-function distance({ ticket, wish, asked, mode }, say) {
-    if (mode === "appointment") return say("booking.for-appointment", { by: clock(Number(wish.by)) });
-    const minute = asked ?? wish.wish, far = apart(ticket, minute);
-    if (far === 0) return say("booking.as-wished", { wish: clock(minute) });
-    return say(far < 0 ? "booking.before-wish" : "booking.after-wish", { minutes: Math.abs(far), wish: clock(minute) });
+export const saidWords = ({ mode, minute }) => t(`booking.said-${mode}`, { time: clock(minute) });
+
+/** What the rider said of a trip that is there; "" where it is not known, since the desk's own minute is the pages' and not the rider's.
+ * @param {Trip} trip
+ */
+export function requestedWords(trip) {
+    const said = saidOf(trip);
+    return said ? saidWords(said) : "";
 }
 
-/** @param {number} place */
-const placeWords = (place) => [placeName(place), placeNote(place)].filter(Boolean).join(", ");
-
-/** The lines of a ticket as pairs of a name and a text.
- * @param {Booked} booked @param {Say} say @returns {[string, string][]}
+/** How far the promised pickup is from what was said: "55 minutes before 9:00 AM".
+ * @param {Ticket} ticket @param {Named} said
  */
-function ticketLines(booked, say) {
-    const { rider, ticket, wish } = booked, telephone = agency().telephone;
-    return [[say("booking.trip"), String(ticket.trip)], [say("booking.for"), riderLabel(rider)], [say("booking.day"), dayInWords(wish.day)],
-        [say("booking.pickup"), `${windowOf(ticket)} (${distance(booked, say)})`], [say("booking.from"), placeWords(wish.from)],
-        [say("booking.to"), placeWords(wish.to)], ...(wish.by === null ? [] : [/** @type {[string, string]} */ ([say("booking.by"), clock(wish.by)])]),
-        [say("booking.who"), party(wish, say)], [say("booking.vehicle"), vehicleName(ticket.vehicle)],
-        [say("booking.to-pay"), say("booking.fare-each", { due: dollars(ticket.due), fare: dollars(ticket.fare) })],
-        [say("booking.agency"), [agency().name, telephone].filter(Boolean).join(", ")]];
+function distance(ticket, said) {
+    const far = apart(ticket, said.minute), time = clock(said.minute);
+    if (said.mode === "by" || far === 0) return saidWords(said);
+    return t(far < 0 ? "booking.before-wish" : "booking.after-wish", { minutes: Math.abs(far), wish: time });
 }
 
-/** @param {[string, string][]} lines */
-const listOf = (lines) => part("dl", {}, lines.map(([name, value]) => part("div", {}, part("dt", {}, name), part("dd", {}, value))));
+/** @param {Ticket} ticket */
+const toPay = ({ due, fare }) => (due === fare ? dollars(due) : t("booking.fare-each", { due: dollars(due), fare: dollars(fare) }));
+
+/** The lines of a ticket as pairs of a name and a text. What a driver has to know of a place is not the rider's.
+ * @param {Booked} booked @returns {[string, string][]}
+ */
+function ticketLines({ rider, ticket, wish, said = saidOf(ticket) }) {
+    const telephone = agency().telephone, by = said ? said.by ?? null : namedBy({ ...wish, ...ticket });
+    return [[t("booking.from"), placeName(wish.from)], [t("booking.to"), placeName(wish.to)],
+        ...(by === null ? [] : [/** @type {[string, string]} */ ([t("booking.by"), clock(by)])]),
+        [t("booking.for"), riderLabel(rider)], [t("booking.who"), party(wish)], [t("booking.vehicle"), vehicleName(ticket.vehicle)],
+        [t("booking.to-pay"), toPay(ticket)], [t("booking.agency"), [agency().name, telephone].filter(Boolean).join(", ")]];
+}
+
+/** The promised window first, in the largest type; then the day, how far it is from what was said, and the rest.
+ * @param {Booked} booked
+ */
+function ticketBody(booked) {
+    const { ticket, wish, said = saidOf(ticket) } = booked;
+    return [part("p", { class: "window" }, part("small", {}, t("booking.pickup")), windowOf(ticket)),
+        part("p", { class: "when" }, part("span", {}, dayInWords(wish.day)), said && [" ", part("small", { class: "far" }, distance(ticket, said))]),
+        part("dl", {}, ticketLines(booked).map(([name, value]) => part("div", {}, part("dt", {}, name), part("dd", {}, value))))];
+}
 
 /** The language that a rider reads, where the roster says so and it is another than the page's.
  * @param {number} rider
@@ -65,19 +83,16 @@ function otherLanguage(rider) {
     return own !== language() && own in LANGUAGE_NAMES ? own : null;
 }
 
-/** @param {string} own @returns {Say} */
-const inLanguage = (own) => (key, values) => String(inBoth(key, values)[own]);
-
 /** What is printed of some trips: each on its own, in the rider's language first where that is another.
  * @param {Booked[]} all @param {string} heading
  */
 export async function printTickets(all, heading) {
     await loadBoth();
-    const one = (/** @type {Booked} */ booked, /** @type {Say} */ say, /** @type {string | null} */ lang) => part("section", { class: "ticket", lang },
-        part("h2", {}, say("booking.ticket", { trip: booked.ticket.trip })), listOf(ticketLines(booked, say)));
+    const one = (/** @type {Booked} */ booked, /** @type {string | null} */ lang) => part("section", { class: "ticket", lang },
+        part("h2", {}, t("booking.ticket-pickup", { trip: booked.ticket.trip })), ticketBody(booked));
     printParts(heading, all.flatMap((booked) => {
         const own = otherLanguage(booked.rider);
-        return [one(booked, t, null), own && one(booked, inLanguage(own), own)];
+        return [own && speaking(own, () => one(booked, own)), one(booked, null)];
     }), { class: "tickets" });
 }
 
@@ -85,7 +100,7 @@ export async function printTickets(all, heading) {
  * @param {Booked} booked @param {{ heading: string, id?: string }} options
  */
 export function ticketOf(booked, { heading, id }) {
-    return part("section", { class: "ticket", tabindex: -1, "aria-label": heading, id }, part("h3", {}, heading), listOf(ticketLines(booked, t)),
+    return part("section", { class: "ticket", tabindex: -1, "aria-label": heading, id }, part("h3", {}, heading), ticketBody(booked),
         part("div", { class: "row" }, button(t("booking.print"), () => printTickets([booked], heading),
             { "aria-label": t("booking.print-of", { trip: booked.ticket.trip }) })));
 }

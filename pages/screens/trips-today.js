@@ -1,9 +1,10 @@
 // "Where is my van?": each trip of today that has no outcome yet, with its window, its van, what is known of the van, and whom to call.
 
 import { agency, placeName, vehicleName } from "../parts/agency.js";
-import { clock, minuteNow } from "../parts/clock.js";
+import { clock, minuteNow, serverNow, today } from "../parts/clock.js";
 import { part } from "../parts/element.js";
 import { fileAt, reading } from "../parts/reads.js";
+import { namedBy } from "../parts/said.js";
 import { STAFF } from "../parts/screens.js";
 import { t } from "../parts/words.js";
 import { tapsOf, whereIs } from "../parts/where.js";
@@ -13,7 +14,7 @@ import { windowOf } from "./ticket.js";
 /** @typedef {import("../types").Given} Given */
 /** @typedef {import("../parts/where.js").Where} Where */
 
-const FILE = "/staff/today.json", KNOWN = ["arrived", "aboard", "dropped", "left", "no-show-rider", "no-show-agency"];
+const FILE = "/staff/today.json", KNOWN = ["arrived", "aboard", "dropped", "skipped", "no-show", "missed"];
 
 const screenNow = () => location.hash.slice(1).split("/")[0];
 
@@ -59,12 +60,12 @@ function callWords({ vehicle }, { place }) {
 
 /** @param {Trip} trip @param {any} told @param {(trip: Trip) => Given} tools */
 function todayTrip(trip, told, tools) {
-    const where = whereIs(trip, minuteNow(), tapsOf(told, trip.vehicle));
+    const where = whereIs(trip, minuteNow(), tapsOf(told, trip.vehicle, { day: today(), at: serverNow() }));
     return part("li", { key: trip.trip, class: `today ${where.place}`, "data-trip": trip.trip },
         part("p", { class: "window" }, t("trips.today-window"), " ", part("strong", {}, windowOf(trip))),
         part("p", { class: "state" }, stateWords(trip, where)), lastWords(trip, where),
         part("p", { class: "way" }, t("booking.card-way", { from: placeName(trip.from), to: placeName(trip.to) }),
-            trip.by !== null && ` ${t("booking.card-by", { by: clock(trip.by) })}`, ` ${t("trips.today-trip", { trip: trip.trip })}`),
+            namedBy(trip) !== null && ` ${t("booking.card-by", { by: clock(Number(namedBy(trip))) })}`, ` ${t("trips.today-trip", { trip: trip.trip })}`),
         callWords(trip, where), tools(trip));
 }
 

@@ -8,11 +8,12 @@ import { denialOf } from "../parts/denials.js";
 import { button, part } from "../parts/element.js";
 import { reading } from "../parts/reads.js";
 import { riderLabel } from "../parts/roster.js";
+import { namedBy } from "../parts/said.js";
 import { makeScreen } from "../parts/screen.js";
 import { cancelTrip } from "../parts/tally.js";
 import { t } from "../parts/words.js";
 import { changeFor, statusOf } from "./booking.js";
-import { dollars, party, printTickets, windowOf } from "./ticket.js";
+import { dollars, party, printTickets, requestedWords, windowOf } from "./ticket.js";
 import { drivers, todayShown } from "./trips-today.js";
 
 /** @typedef {import("../types").Trip} Trip */
@@ -37,6 +38,14 @@ const byTime = (/** @type {Trip} */ a, /** @type {Trip} */ b) => a.day.localeCom
  */
 const wayBack = (trips, trip) => trips.filter((it) => it.day === trip.day && it.from === trip.to && it.to === trip.from && it.wish > trip.wish).sort(byTime)[0] ?? null;
 
+/** What the rider said of a trip, as far as it is known, and the minute to be there by that the rider named beside it.
+ * @param {Trip} trip
+ */
+function saidLines(trip) {
+    const by = namedBy(trip);
+    return [...new Set([requestedWords(trip), by === null ? "" : t("trips.by-time", { by: clock(by) })])].filter(Boolean).map((it) => part("small", {}, it));
+}
+
 /** What came of an action, where the action was.
  * @param {Trip} trip @param {State} state
  */
@@ -46,8 +55,8 @@ const answerOf = ({ trip }, { answers }) => answers[trip] && part("div", { id: `
 
 /** @param {Trip} trip @param {Shown} shown */
 function tripRow(trip, { tools, below, state }) {
-    const { trip: number, day, from, to, by, due, vehicle, status } = trip, more = below(trip);
-    const cells = [part("span", { class: "whole" }, dayShort(day)), [part("span", { class: "whole" }, windowOf(trip)), by !== null && part("small", {}, t("trips.by-time", { by: clock(by) }))],
+    const { trip: number, day, from, to, due, vehicle, status } = trip, more = below(trip);
+    const cells = [part("span", { class: "whole" }, dayShort(day)), [part("span", { class: "whole" }, windowOf(trip)), saidLines(trip)],
         [placeName(from), part("small", { class: "to" }, t("trips.to-place", { place: placeName(to) }))], [party(trip), part("small", {}, dollars(due))],
         [vehicleName(vehicle), status !== "booked" && part("small", {}, statusOf(status))]];
     return [part("tr", { key: number }, part("th", { scope: "row" }, String(number)), cells.map((cell) => part("td", {}, cell)),
@@ -69,8 +78,8 @@ function tripCard(trip, { tools, below, state }) {
     const status = trip.status === "booked" ? "" : ` (${statusOf(trip.status)})`;
     return part("li", { key: trip.trip }, part("h3", {}, dayInWords(trip.day)),
         part("p", {}, part("strong", {}, t("booking.card-pickup", { window: windowOf(trip) })), status),
-        part("p", {}, t("booking.card-way", { from: placeName(trip.from), to: placeName(trip.to) }), trip.by !== null && ` ${t("booking.card-by", { by: clock(trip.by) })}`),
-        part("p", { class: "hint" }, t("booking.card-more", { trip: trip.trip, due: dollars(trip.due), who: party(trip), vehicle: vehicleName(trip.vehicle) })),
+        part("p", {}, t("booking.card-way", { from: placeName(trip.from), to: placeName(trip.to) }), namedBy(trip) !== null && ` ${t("booking.card-by", { by: clock(Number(namedBy(trip))) })}`),
+        part("p", { class: "hint" }, t("booking.card-more", { trip: trip.trip, said: requestedWords(trip), due: dollars(trip.due), who: party(trip), vehicle: vehicleName(trip.vehicle) })),
         answerOf(trip, state), tools(trip), below(trip));
 }
 
@@ -108,7 +117,7 @@ const sureToCancel = (rider, trip) => asked({ question: t("booking.cancel-questi
     detail: t("booking.cancel-detail", { day: dayInWords(trip.day), window: windowOf(trip), from: placeName(trip.from), to: placeName(trip.to) }),
     yes: t("booking.cancel-yes", { trip: trip.trip }) });
 
-/** All trips of a rider. again(trip, back) books a trip on another day. known() gives the trips as the desk has them at this moment.
+/** All trips of a rider. again(trip, back) books a trip on another day.
  * @param {number} rider
  * @param {{ heading: string, cards?: boolean, purpose?: string, again?: (trip: Trip, back: Trip | null) => void }} options
  */
@@ -143,6 +152,5 @@ export function tripsOfRider(rider, { heading, cards = false, purpose = "standin
     screen.onNewDay(refresh);
     read.watch(screen.element, redraw);
     taps?.watch(screen.element, redraw);
-    const known = async () => /** @type {Trip[]} */ ((await refresh()).value?.trips ?? []);
-    return { element: screen.element, refresh, known };
+    return { element: screen.element, refresh };
 }

@@ -18,7 +18,7 @@ const FILE = "/staff/worklist.html", FILES = "rider-", SELDOM = 300_000;
  * @type {Record<string, Record<string, string>>}
  */
 const OWN = { clerk: { applications: "file", appeals: "file", grants: "file" }, examiner: { applications: "case", grants: "case" }, officer: { appeals: "appeals", missed: "suspensions" },
-    dispatcher: { suspended: "riders", outcomes: "", vehicles: "" } };
+    dispatcher: { canceled: "riders", suspended: "riders", outcomes: "", vehicles: "" } };
 
 /** @param {Element | null} it */
 const wordsOf = (it) => (it?.textContent ?? "").replace(/\s+/g, " ").trim();

@@ -12,15 +12,19 @@ import re
 import sys
 import unicodedata
 import urllib.parse
-from collections.abc import Mapping, Sequence
+from collections.abc import Iterable, Mapping, Sequence
 from dataclasses import dataclass
 from pathlib import Path
 
 HERE = Path(__file__).resolve().parent
 TOP = HERE.parent.parent
 SCRIPT, SITE = Path("pages/parts/events.js"), Path("deploy/desk.nginx")
-BEGIN = "    # (from here on by python3 -m desk_tools.events)\n"
-END = "    # (up to here by python3 -m desk_tools.events)\n"
+PAGE, MACHINES = Path("docs/API.md"), Path("docs/openapi.yaml")
+# Between these is what is made of the table; in a page they are remarks of HTML.
+BEGIN, END = (
+    "(from here on by python3 -m desk_tools.events)",
+    "(up to here by python3 -m desk_tools.events)",
+)
 PREFIX = "/tally/"
 ALPHABET, SIGNS = "0123456789abcdefghjkmnpqrstvwxyz", 26
 LONGEST_NUMBER, MOST_FIELDS = 10, 20
@@ -37,6 +41,7 @@ Value = int | str | datetime.date | datetime.datetime
 class Form:
     """The form of a field: a number from low to high, one of some words, a text of at most so many characters."""
 
+    says: str
     kind: str
     low: int = 0
     high: int = 0
@@ -49,6 +54,7 @@ class Event:
     """One kind of event: whose keys may tell it, and its fields in their order. Those of `optional` may be left out."""
 
     name: str
+    says: str
     who: str
     fields: dict[str, Form]
     optional: dict[str, Form]
@@ -59,8 +65,10 @@ class Event:
         return {**self.fields, **self.optional}
 
 
-def _form(kind: str, low: int = 0, high: int = 0, words: Sequence[str] = (), most: int = 0) -> Form:
-    return Form(kind, low, high, tuple(words), most)
+def _form(
+    says: str, kind: str, low: int = 0, high: int = 0, words: Sequence[str] = (), most: int = 0
+) -> Form:
+    return Form(says, kind, low, high, tuple(words), most)
 
 
 def _read() -> dict[str, Event]:
@@ -69,6 +77,7 @@ def _read() -> dict[str, Event]:
     return {
         name: Event(
             name,
+            given["says"],
             given["who"],
             {field: forms[form] for field, form in given["fields"].items()},
             {field: forms[form] for field, form in given["optional"].items()},
@@ -293,12 +302,99 @@ def locations() -> str:
     )
 
 
-def site_with_locations(text: str) -> str:
-    """The site's settings with the present part for events."""
-    if text.count(BEGIN) != 1 or text.count(END) != 1:
-        raise ValueError(f"{SITE} has not one part between {BEGIN.strip()} and {END.strip()}")
-    head, _, rest = text.partition(BEGIN)
-    return f"{head}{BEGIN}{locations()}{END}{rest.partition(END)[2]}"
+def with_part(path: Path, text: str, part: str) -> str:
+    """A text with another part between the lines that have BEGIN and END."""
+    lines = text.splitlines(keepends=True)
+    places = [[at for at, line in enumerate(lines) if it in line] for it in (BEGIN, END)]
+    if [len(it) for it in places] != [1, 1]:
+        raise ValueError(f"{path} has not one part between {BEGIN} and {END}")
+    (begin,), (end,) = places
+    return "".join([*lines[: begin + 1], part, *lines[end:]])
+
+
+# Who may tell an event.
+_WHO = {
+    "anybody": "everybody",
+    "staff": "clerk, examiner, officer, dispatcher",
+    "vehicle": "the driver of `vehicle`, dispatcher",
+}
+
+
+def tables() -> str:
+    """The tables of events and of the forms of their fields, for a page."""
+    rows = [
+        f"| `{PREFIX}{it.name}` | {it.says} | {_WHO[it.who]} | {_listed(it.fields)} | {_listed(it.optional)} |\n"
+        for it in EVENTS.values()
+    ]
+    fields: dict[Form, list[str]] = {}
+    for it in EVENTS.values():
+        for name, form in it.all_fields.items():
+            names = fields.setdefault(form, [])
+            names += [] if name in names else [name]
+    forms = [
+        f"| {_listed(names)} | {form.says}{_range(form)} |\n" for form, names in fields.items()
+    ]
+    return (
+        "\n| Path | Tells | Who | Fields, in this order | Then, where known |\n|---|---|---|---|---|\n"
+        + "".join(rows)
+        + "\n| Field | Holds |\n|---|---|\n"
+        + "".join(forms)
+        + "\n"
+    )
+
+
+def _listed(names: Iterable[str]) -> str:
+    return ", ".join(f"`{it}`" for it in names)
+
+
+def _range(form: Form) -> str:
+    if form.kind == "number":
+        return f", {form.low} to {form.high}"
+    if form.kind == "text":
+        return f" of at most {form.most} characters of any language"
+    return f": {_listed(form.words)}" if form.words else ""
+
+
+def paths() -> str:
+    """The paths of openapi.yaml by which events are told."""
+    return "".join(map(_path, EVENTS.values()))
+
+
+def _path(event: Event) -> str:
+    words = "".join(part.capitalize() for part in event.name.split("-"))
+    who = _WHO[event.who].replace("`", "")
+    fields = "".join(
+        f"        - {{ name: {name}, in: query, required: {json.dumps(name in event.fields)}, "
+        f"description: {json.dumps(form.says)}, schema: {_schema(form)} }}\n"
+        for name, form in event.all_fields.items()
+    )
+    return f"""  {PREFIX}{event.name}:
+    post:
+      operationId: tell{words}
+      tags: [site]
+      summary: {json.dumps("Tell the site: " + event.says)}
+      description: {json.dumps(f"Who: {who}. The fields stand in the query, in this order.")}
+      parameters:
+{fields}      responses:
+        "204": {{ description: the site has it }}
+        "400": {{ $ref: "#/components/responses/BadRequest" }}
+        "401": {{ $ref: "#/components/responses/Unauthorized" }}
+        "403": {{ $ref: "#/components/responses/Forbidden" }}
+        "429": {{ description: "too many at once: send the same again after a pause" }}
+        "502": {{ description: "the desk does not answer: send the same again after a pause" }}
+"""
+
+
+def _schema(form: Form) -> str:
+    if form.kind == "number":
+        wide = ", format: int64" if form.high >= 2**31 else ""
+        return f"{{ type: integer{wide}, minimum: {form.low}, maximum: {form.high} }}"
+    if form.kind == "word":
+        return f"{{ type: string, enum: {json.dumps(list(form.words))} }}"
+    if form.kind == "text":
+        return f"{{ type: string, minLength: 1, maxLength: {form.most} }}"
+    pattern = {"id": f"[{ALPHABET}]{{{SIGNS}}}", "day": DAY, "moment": f"{DAY}T{TIME}"}[form.kind]
+    return f'{{ type: string, pattern: "^{pattern}$" }}'
 
 
 def script() -> str:
@@ -357,8 +453,12 @@ def main(arguments: list[str]) -> int:
     reader = argparse.ArgumentParser("python3 -m desk_tools.events", description=main.__doc__)
     reader.add_argument("--check", action="store_true", help="write nothing")
     words = reader.parse_args(arguments)
-    site = (TOP / SITE).read_text(encoding="utf-8")
-    made = {SCRIPT: script(), SITE: site_with_locations(site)}
+    parts = {SITE: locations(), PAGE: tables(), MACHINES: paths()}
+    made = {
+        path: with_part(path, (TOP / path).read_text(encoding="utf-8"), part)
+        for path, part in parts.items()
+    }
+    made[SCRIPT] = script()
     old = [
         path
         for path, text in made.items()

@@ -1,11 +1,12 @@
 """Booking a trip, by a clerk: who is meant, wishes, other times, round trips, changes, cancels; and how many keys."""
+import json
 import re
 
 from selenium.webdriver.common.keys import Keys
 
 from checks import check, holds, same
 from database import until
-from people import TODAY, TOMORROW
+from people import LINES, TODAY, TOMORROW
 
 VANS = 1
 BOOK = re.compile("^Book the trip")
@@ -65,15 +66,48 @@ def begin(at, number=None, holder="second clerk"):
 def results(at, count):
     wait_for(at, f"{count} results", f"""document.querySelectorAll('.legs .ticket, .legs .refused').length === {count}
         && !document.querySelector('.legs .waiting') && document.activeElement !== document.body""")
-    return at.browser.script("return document.querySelector('.results').innerText")
+    return at.browser.script("return [...document.querySelectorAll('.results')].map((it) => it.innerText).join('\\n')")
+
+
+MATTERS = {"around": "Around this time (up to 1 hour early or late)", "not-before": "Not before this time",
+           "by": "Be there by a set time"}
+
+
+def modes_of(at, legend):
+    return at.browser.script("""return [...document.querySelectorAll('fieldset.modes')].filter((it) => !it.hidden)
+        .find((it) => it.querySelector('legend').textContent === arguments[0])""", legend)
 
 
 def wish(at, **values):
     """Fills the form of a wish: start, goal, day, wish and what else is given by its label."""
-    names = {"start": "From", "goal": "To", "day": "Day", "wish": "Wished time of the pickup", "back": "Return pickup",
-             "by": "Be there by", "matters": "What matters"}
+    names = {"start": "From", "goal": "To", "day": "Day", "wish": "Pickup time", "back": "Return pickup",
+             "by": "Be there by"}
+    legends = {"matters": "Which matters more?", "back_matters": "Which matters more on the way back?"}
     for name, value in values.items():
-        at.browser.fill(names[name], value)
+        if name in legends:
+            at.browser.fill(MATTERS[value], True, modes_of(at, legends[name]))
+        else:
+            at.browser.fill(names[name], value)
+
+
+def clock(minute):
+    return f"{minute // 60 % 12 or 12}:{minute % 60:02} {'AM' if minute < 720 else 'PM'}"
+
+
+def counted_in(at, kind, *parts):
+    """Waits until the site is told an event of a kind with these parts; all that was asked until then."""
+    asked = []
+
+    def is_there():
+        asked.extend(at.browser.requests())
+        return any(f"/tally/{kind}?" in it and all(part in it for part in parts) for it in asked)
+    until(lambda: f"no {kind} with {parts} was told: {[it for it in asked if '/tally/' in it]}", is_there)
+    return asked
+
+
+def row_of(at, trip):
+    wait_for(at, f"trip {trip} in the list", f"[...document.querySelectorAll('table.trips tbody tr th')].some((it) => it.textContent === '{trip}')")
+    return at.browser.script("return [...document.querySelectorAll('table.trips tbody tr')].find((it) => it.querySelector('th')?.textContent === arguments[0]).innerText", str(trip))
 
 
 def last_trip(at, rider):
@@ -87,7 +121,8 @@ def a_booking_for_a_known_number_takes_forty_keys_at_most(at):
     told = results(at, 1)
     holds(f"{keys.count} keys", keys.count <= MOST_KNOWN)
     trip = last_trip(at, 1002)
-    same("the trip", (3, 9, FRIDAY, 540), (trip["from"], trip["to"], trip["day"], trip["wish"]))
+    same("the trip", (3, 9, FRIDAY), (trip["from"], trip["to"], trip["day"]))
+    holds(f"the van comes at most a quarter of an hour before 9:00: {trip}", 525 <= trip["window_from"] <= 600)
     holds(f"the ticket names the rider: {told}", f"Trip {trip['trip']} is booked for Dorothy O'Neill (1002)" in told)
 
 
@@ -101,12 +136,13 @@ def a_booking_for_a_known_number_takes_eight_clicks_at_most(at):
     mouse.click("field", "From", "library")
     mouse.click("field", "To", "school")
     mouse.choose("Day", FRIDAY)
-    mouse.click("field", "Wished time of the pickup", "1p")
+    mouse.click("field", "Pickup time", "1p")
     mouse.click("button", BOOK)
     told = results(at, 1)
     holds(f"{mouse.clicks} clicks, {mouse.typed} signs", mouse.clicks <= MOST_CLICKS and mouse.typed <= MOST_TYPED)
     trip = last_trip(at, 1002)
-    same("the trip", (7, 3, FRIDAY, 780), (trip["from"], trip["to"], trip["day"], trip["wish"]))
+    same("the trip", (7, 3, FRIDAY), (trip["from"], trip["to"], trip["day"]))
+    holds(f"the van comes at most a quarter of an hour before 1:00: {trip}", 765 <= trip["window_from"] <= 840)
     holds(f"the ticket: {told}", f"Trip {trip['trip']} is booked for Dorothy O'Neill (1002)" in told)
 
 
@@ -119,14 +155,14 @@ def a_call_from_a_name_to_a_round_trip_takes_sixty_keys_at_most(at):
     wait_for(at, "the form", "document.activeElement.id === 'book'")
     keys.press(Keys.TAB, "oak", Keys.TAB, "dial", Keys.TAB, "w", Keys.TAB, Keys.TAB, "9", Keys.TAB, "12")
     keys.press(Keys.ENTER)
-    at.browser.sees("Which 9 is meant?")
-    keys.press("a")
     told = results(at, 2)
     holds(f"{keys.count} keys", keys.count <= MOST_ROUND_TRIP)
     holds(f"one list: {told}", "2 of 2 trips are booked for Rosa Álvarez (1001)" in told)
     there, back = sorted(at.town.trips_of(1001), key=lambda trip: trip["trip"])[-2:]
-    same("the way there", (11, 6, WEDNESDAY, 540), (there["from"], there["to"], there["day"], there["wish"]))
-    same("the way back", (6, 11, WEDNESDAY, 720), (back["from"], back["to"], back["day"], back["wish"]))
+    same("the way there", (11, 6, WEDNESDAY), (there["from"], there["to"], there["day"]))
+    same("the way back", (6, 11, WEDNESDAY), (back["from"], back["to"], back["day"]))
+    holds(f"the van comes around 9:00: {there}", 525 <= there["window_from"] <= 600)
+    holds(f"the van comes back no sooner than the rider is ready: {back}", 720 <= back["window_from"] <= 780)
 
 
 @check
@@ -136,7 +172,7 @@ def a_round_trip_on_five_days_takes_sixty_keys_at_most(at):
     for day in ["Tue, Mar 11", "Thu, Mar 13", "Fri, Mar 14", "Sat, Mar 15", "Sun, Mar 16"]:
         same("the next day", day, at.browser.focused())
         keys.press(*([] if day.startswith("Tue") else [" "]), Keys.TAB)
-    while at.browser.focused() != "Wished time of the pickup":
+    while at.browser.focused() != "Pickup time":
         keys.press(Keys.TAB)
     keys.press("10a", Keys.TAB, "2p", Keys.ENTER)
     told = results(at, 10)
@@ -151,9 +187,9 @@ def a_denied_wish_gets_another_time_in_three_keys(at):
     at.browser.requests()
     at.browser.press(BOOK)
     told = results(at, 1)
-    for words in ["pickups between 8:00 AM and 10:00 AM", "7:30–9:30 AM; 7:00–9:00 AM"]:
+    for words in ["We looked for pickups between 8:00 AM and 10:00 AM", "7:30–9:30 AM; 7:00–9:00 AM"]:
         holds(f"it says what was searched: {told}", words in told)
-    until("the denial is counted", lambda: any("/tally/denials?" in it for it in at.browser.requests()))
+    counted_in(at, "denials", "rule=no", "minute=540", "mode=around")
     keys = Keystrokes(at.browser)
     keys.press(Keys.TAB, Keys.ENTER)
     wait_for(at, "a ticket", "document.querySelectorAll('.legs .ticket').length === 1")
@@ -162,7 +198,8 @@ def a_denied_wish_gets_another_time_in_three_keys(at):
     minutes = 540 - trip["window_from"]
     at.browser.sees(f"{minutes} minutes before 9:00 AM")
     same("the wish that was taken", 510, trip["wish"])
-    holds("another time is no second denial", not any("/tally/" in it for it in at.browser.requests()))
+    asked = counted_in(at, "bookings", f"trip={trip['trip']}", "mode=around", "minute=540", f"from={trip['window_from']}")
+    holds("another time is no second denial", not any("/tally/denials" in it for it in asked))
 
 
 @check
@@ -177,7 +214,7 @@ def a_number_that_is_not_shown_can_be_done_nothing_with(at):
     at.browser.sees_no("Dorothy")
     at.browser.fill("Rider number", "1002")
     at.browser.find("button", BOOK)
-    same("what was typed is still there", "3 pm", at.browser.value("Wished time of the pickup"))
+    same("what was typed is still there", "3 pm", at.browser.value("Pickup time"))
     at.browser.fill("Rider number", "1006")
     at.browser.press("Show")
     at.browser.sees("Book a trip for Ana María Núñez (1006)")
@@ -236,7 +273,7 @@ def the_old_ticket_is_gone_when_the_next_try_fails_at_a_field(at):
     wish(at, start="library", goal="riverside", day=FRIDAY, wish="2 pm")
     at.browser.press(BOOK)
     holds("a ticket", "is booked for" in results(at, 1))
-    at.browser.fill("Wished time of the pickup", "9 o'clock")
+    at.browser.fill("Pickup time", "9 o'clock")
     at.browser.press(BOOK)
     at.browser.sees("Write a time, as 9:15 AM.")
     left = at.browser.script("return document.querySelector('.results').innerText.trim()")
@@ -265,25 +302,30 @@ def no_pickup_comes_before_a_wish_that_says_so(at):
     begin(at, "1007")
     wish(at, start="senior", goal="library", day=FRIDAY, wish="10", matters="not-before")
     at.browser.press(BOOK)
-    at.browser.sees("Which 10 is meant?")
+    at.browser.sees("Pickup time: 10:00 AM or 10:00 PM?")
     at.browser.keys("a")
     results(at, 1)
     trip = last_trip(at, 1007)
     same("what is sent is an hour later", 660, trip["wish"])
-    holds("the pickup", 600 <= trip["window_from"])
-    at.browser.sees("10:00 AM")
+    holds("the promise begins within the hour", 600 <= trip["window_from"] <= 660)
+    counted_in(at, "bookings", f"trip={trip['trip']}", "mode=not-before", "minute=600")
+    row = row_of(at, trip["trip"])
+    holds(f"the list says what was said, and no minute to be there by: {row}", "not before 10:00 AM" in row and "11:" not in row)
+    paper = at.browser.print_by(f"Print the ticket of trip {trip['trip']}")
+    holds(f"so does a ticket that is printed again: {paper.text}", "10:00 AM" in paper.text and "11:" not in paper.text)
 
 
 @check
 def where_only_the_appointment_matters_the_latest_pickup_is_asked_for_first(at):
     begin(at, "1004")
-    wish(at, start="88 Pine", goal="senior", day=THURSDAY, by="11 am", matters="appointment")
+    wish(at, start="88 Pine", goal="senior", day=THURSDAY, by="11 am", matters="by")
+    holds("no pickup time is asked for", not at.browser.is_there("field", "Pickup time"))
     at.browser.press(BOOK)
     told = results(at, 1)
     trip = last_trip(at, 1004)
     same("the time to be there", 660, trip["by"])
     holds(f"the pickup is within the hour before: {trip}", 600 <= trip["window_from"] < 660)
-    holds(f"the ticket says so: {told}", "to be there by 11:00 AM" in told)
+    holds(f"the ticket says so: {told}", "be there by 11:00 AM" in told)
     at.browser.fill("Be there by", "")
     at.browser.press(BOOK)
     at.browser.sees("Write the time by which to be there.")
@@ -322,8 +364,9 @@ def a_trip_is_copied_with_its_way_back(at):
     begin(at, "1005")
     at.browser.press(f"Book trip {there} again on another day")
     same("the focus", "Day", at.browser.focused())
+    out, back = [clock(it["window_from"]) for it in at.town.trips_of(1005) if it["trip"] >= there]
     for name, value in [("From", "Riverside Market (8)"), ("To", "Public Library (7)"),
-                        ("Wished time of the pickup", "8:00 AM"), ("Return pickup", "12:00 PM")]:
+                        ("Pickup time", out), ("Return pickup", back)]:
         same(name, value, at.browser.value(name))
 
 
@@ -336,12 +379,13 @@ def a_trip_is_changed_where_it_is(at):
     wait_for(at, "the form of the change", f"document.activeElement.id === 'change-{trip}'")
     whole = at.browser.script("""return [...document.querySelectorAll('form')]
         .find((it) => it.getAttribute('aria-label').startsWith('Change trip'))""")
-    filled = at.browser.find("field", "Wished time of the pickup", whole).get_property("value")
-    same("the wish is filled in", "10:00 AM", filled)
-    at.browser.fill("Wished time of the pickup", "1330", whole)
+    filled = at.browser.find("field", "Pickup time", whole).get_property("value")
+    same("the promised time is filled in where nobody knows what was said", clock(last_trip(at, 1007)["window_from"]), filled)
+    at.browser.fill("Pickup time", "1330", whole)
     at.browser.keys(Keys.ENTER)
-    at.browser.sees(f"Trip {trip} is booked for Walter Hughes (1007)")
-    same("the trip's wish", 810, next(it for it in at.town.trips_of(1007) if it["trip"] == trip)["wish"])
+    at.browser.sees(f"Trip {trip} is changed for Walter Hughes (1007)")
+    changed = next(it for it in at.town.trips_of(1007) if it["trip"] == trip)
+    holds(f"the trip is around 1:30: {changed}", 795 <= changed["window_from"] <= 870)
 
 
 @check
@@ -349,10 +393,10 @@ def times_are_taken_as_people_write_them(at):
     begin(at, "1006")
     for typed, read in [("9am", "9:00 AM"), ("9:30a", "9:30 AM"), ("noon", "12:00 PM"), ("1330", "1:30 PM"),
                         ("1:30", "1:30 PM"), ("9 p.m.", "9:00 PM"), ("0915", "9:15 AM")]:
-        at.browser.fill("Wished time of the pickup", typed)
+        at.browser.fill("Pickup time", typed)
         at.browser.sees(f"Read as {read}")
-    at.browser.fill("Wished time of the pickup", "9")
-    at.browser.sees("9:00 AM or 9:00 PM? You are asked when you send it.")
+    at.browser.fill("Pickup time", "9")
+    at.browser.sees("9:00 AM or 9:00 PM? You are asked if both are possible.")
 
 
 @check
@@ -374,8 +418,13 @@ def a_ticket_is_printed_in_the_riders_language_too(at):
     trip = last_trip(at, 1001)["trip"]
     begin(at, "1001")
     paper = at.browser.print_by(f"Print the ticket of trip {trip}")
-    for text in ["Rosa Álvarez (1001)", "Pickup", "Recogida", "Example Town Transit", "555-0100"]:
+    for text in ["Rosa Álvarez (1001)", "Pickup", "Recogida", "Example Town Transit", "555-0100",
+                 "jueves 13 de marzo de 2025", "Thursday, March 13, 2025"]:
         holds(f"the paper has no {text}: {paper.text}", text in paper.text)
+    holds("the rider's language comes first", paper.text.index("Recogida") < paper.text.index("Pickup"))
+    spanish = paper.text[:paper.text.index("Pickup")]
+    holds(f"its times are those of the language: {spanish}", re.search(r"\d p\. m\.", spanish) and "p. m.." not in paper.text and "PM" not in spanish)
+    holds("a rider reads nothing that a driver has to know", "main door" not in paper.text)
     same("pages", 1, paper.pages)
 
 
@@ -389,3 +438,202 @@ def trips_are_cards_as_soon_as_the_page_is_zoomed(at):
         # (half a minute later they would be drawn anew in any case)
         until("there are no cards", lambda: at.browser.script(count) == [0, 1], 10)
         same("what can be moved sideways", 0, at.browser.sideways()[0])
+
+
+# What a page says is what the desk said.
+
+
+LATER, LATE_VAN = "2025-03-22", 650
+
+
+def lines_until(at, last):
+    """All lines end at this minute; None puts them back."""
+    for number, _, points, first, end in LINES:
+        at.town.post("admin", "/routes", {"id": number, "width": 3960, "points": points, "accessible": True,
+                                          "days": [1, 2, 3, 4, 5, 6, 7], "first": first, "last": last or end})
+
+
+def asked_of_desk(at):
+    return [it for it in at.browser.requests() if it.endswith("/trips") or "/change" in it]
+
+
+@check
+def the_last_hour_of_the_lines_is_booked_and_no_rule_is_told(at):
+    lines_until(at, 1260)
+    try:
+        begin(at, "1002")
+        wish(at, start="library", goal="senior", day=FRIDAY, by="8:45 pm", matters="by")
+        at.browser.press(BOOK)
+        told = results(at, 1)
+        trip = last_trip(at, 1002)
+        holds(f"it is booked: {told}", f"Trip {trip['trip']} is booked" in told and trip["by"] == 1245)
+    finally:
+        lines_until(at, None)
+
+
+@check
+def before_the_lines_end_no_pickup_before_a_minute_asks_nearer_minutes(at):
+    lines_until(at, 1260)
+    try:
+        begin(at, "1002")
+        wish(at, start="senior", goal="library", day=FRIDAY, wish="8:30 pm", matters="not-before")
+        at.browser.press(BOOK)
+        wait_for(at, "an answer", "!!document.querySelector('.legs .ticket, .legs .offer, .legs .refused')")
+        told = at.browser.script("return document.querySelector('.results').innerText")
+        holds(f"a rule of the lines is told of a minute at which they run: {told}", "37.131(e)" not in told)
+        holds(f"the earlier pickup is an offer: {told}", re.search(r"The desk offers 8:\d\d PM, \d+ minutes before 8:30 PM", told))
+        at.browser.press(re.compile("^No, cancel trip"))
+        at.browser.sees("The offer was not taken, and is given up.")
+    finally:
+        lines_until(at, None)
+
+
+@check
+def at_the_end_of_the_day_the_desk_is_asked(at):
+    begin(at, "1002")
+    wish(at, start="school", goal="riverside", day=FRIDAY, wish="11:00 pm", matters="not-before")
+    at.browser.requests()
+    at.browser.press(BOOK)
+    told = results(at, 1)
+    holds("the desk was asked", len(asked_of_desk(at)) > 0)
+    holds(f"each minute is one: {told}", "NaN" not in told and "undefined" not in told)
+    at.browser.sees("We looked for pickups between 11:00 PM and 11:59 PM.")
+
+
+@check
+def a_later_offer_is_kept_on_a_yes_alone(at):
+    at.town.post("dispatcher", "/vehicles", {"id": 1, "from_day": LATER, "days": [1, 2, 3, 4, 5, 6, 7], "depot": 5,
+                                             "capacity": 6, "opens": LATE_VAN, "closes": 1320, "duration": 960, "chairs": 1})
+    for answer, status in [("^No, cancel trip", "cancelled"), ("^Yes, keep trip", "booked")]:
+        begin(at, "1006")
+        wish(at, start="library", goal="senior", day=LATER, wish="9 am", matters="not-before")
+        at.browser.requests()
+        at.browser.press(BOOK)
+        at.browser.sees("The desk offers 10:", "minutes after 9:00 AM", "It is kept only if the rider says yes.")
+        trip = last_trip(at, 1006)
+        far = trip["window_from"] - 540
+        at.browser.sees(f"The desk offers {clock(trip['window_from'])}, {far} minutes after 9:00 AM")
+        asked = counted_in(at, "denials", "rule=no", "minute=540", "mode=not-before")
+        holds("nothing is told as booked", not any("/tally/bookings" in it for it in asked))
+        # (a window that is closed, or a line that breaks, leaves the offer as it is)
+        at.browser.reload()
+        at.browser.sees("An offer waits for an answer of Ana María Núñez (1006)",
+                        f"The desk offers {clock(trip['window_from'])}, {far} minutes after 9:00 AM")
+        at.browser.press(re.compile(answer))
+        if status == "booked":
+            at.browser.sees(f"Trip {trip['trip']} is kept.")
+            asked = counted_in(at, "bookings", f"trip={trip['trip']}", "mode=not-before", "minute=540")
+        else:
+            at.browser.sees("The offer was not taken, and is given up.")
+            asked = counted_in(at, "cancellations", f"trip={trip['trip']}", "by=agency")
+        holds("it is counted as a denial once", not any("/tally/denials" in it for it in asked))
+        same("the trip", status, next(it for it in at.town.trips_of(1006) if it["trip"] == trip["trip"])["status"])
+
+
+@check
+def a_change_that_is_denied_says_how_the_trip_stands(at):
+    at.town.book(1007, WEDNESDAY, 780, 8, 1)
+    trip = last_trip(at, 1007)
+    begin(at, "1007")
+    at.browser.press(f"Change trip {trip['trip']} of Walter Hughes (1007)")
+    wait_for(at, "the form of the change", f"document.activeElement.id === 'change-{trip['trip']}'")
+    whole = at.browser.script("return [...document.querySelectorAll('form')].at(-1)")
+    at.browser.fill("Pickup time", "4:00 am", whole)
+    at.browser.requests()
+    for _ in range(2):
+        at.browser.press(f"Change trip {trip['trip']} of Walter Hughes (1007)", within=whole)
+        told = results(at, 1)
+    window = f"{clock(trip['window_from']).rsplit(' ', 1)[0]}–{clock(trip['window_to'])}"
+    holds(f"how it stands: {told}", f"Not changed. Trip {trip['trip']} stays as it was: Wed, Mar 12, pickup {window}." in told)
+    holds(f"nothing is said of a booking: {told}", "Not booked" not in told)
+    stands = next(it for it in at.town.trips_of(1007) if it["trip"] == trip["trip"])
+    same("the trip", trip, stands)
+    asked = counted_in(at, "denials", "minute=240")
+    same("its denial is counted once", 1, len({it for it in asked if "/tally/denials" in it}))
+
+
+@check
+def a_change_opens_with_what_was_said(at):
+    begin(at, "1005")
+    wish(at, start="senior", goal="library", day=THURSDAY, by="3 pm", matters="by")
+    at.browser.press(BOOK)
+    results(at, 1)
+    trip = last_trip(at, 1005)
+    holds("the list says it", "be there by 3:00 PM" in row_of(at, trip["trip"]))
+    other = at.town.book(1005, WEDNESDAY, 900, 9, 7, by=960)
+    begin(at, "1005")
+    for number, by in [(other, "4:00 PM")]:
+        at.browser.press(f"Change trip {number} of Samuel Grant (1005)")
+        wait_for(at, "the form of the change", f"document.activeElement.id === 'change-{number}'")
+        whole = at.browser.script("return [...document.querySelectorAll('form')].at(-1)")
+        same("the time to be there", by, at.browser.find("field", "Be there by", whole).get_property("value"))
+        same("what matters", True, at.browser.find("field", MATTERS["by"], whole).get_property("checked"))
+
+
+@check
+def what_the_sites_log_knows_of_a_trip_is_shown(at):
+    trip = at.town.book(1003, WEDNESDAY, 660, 13, 7)
+    at.town.write_file("staff/today.json", json.dumps({"bookings": {str(trip): {"mode": "not-before", "minute": 600}}}))
+    try:
+        begin(at, "1003")
+        wait_for(at, "what was said", "document.querySelector('table.trips')?.innerText.includes('not before 10:00 AM')")
+    finally:
+        at.town.write_file("staff/today.json", None)
+
+
+@check
+def what_is_sure_to_be_a_slip_is_asked_about_first(at):
+    trip = at.town.book(1003, THURSDAY, 600, 13, 7)
+    before = len(at.town.trips_of(1003))
+    begin(at, "1003")
+    wish(at, start="library", goal="library", day=FRIDAY, wish="3 pm")
+    at.browser.press(BOOK)
+    at.browser.sees("From and To are the same place, Public Library. Book all the same?")
+    at.browser.press("No, go back")
+    at.town.book(1003, FRIDAY, 840, 13, 7)
+    other = last_trip(at, 1003)
+    # (the trips that the page has read do not have this one yet)
+    wish(at, start="7 Elm", goal="senior", day=FRIDAY, wish=clock(other["window_from"]))
+    at.browser.press(BOOK)
+    at.browser.sees("Henry Park (1003) has a trip at that time. Book all the same?", f"Trip {other['trip']}: Friday, March 14, 2025")
+    at.browser.press("No, go back")
+    same("trips", before + 1, len(at.town.trips_of(1003)))
+    holds("the trip before is untouched", trip < other["trip"])
+
+
+@check
+def morning_or_evening_is_asked_only_where_both_are_possible(at):
+    begin(at, "1004")
+    wish(at, start="88 Pine", goal="senior", day=WEDNESDAY, wish="9", by="10", back="5")
+    at.browser.press(BOOK)
+    results(at, 2)
+    same("no question was asked", ["9:00 AM", "10:00 AM", "5:00 PM"],
+         [at.browser.value(name) for name in ["Pickup time", "Be there by", "Return pickup"]])
+
+
+@check
+def the_way_there_stands_where_the_way_back_is_denied(at):
+    begin(at, "1005")
+    wish(at, start="library", goal="senior", day=FRIDAY, wish="3 pm", back="11:15 pm", back_matters="around")
+    at.browser.press(BOOK)
+    told = results(at, 2)
+    trip = last_trip(at, 1005)
+    holds(f"what stands: {told}", f"The way there stands: trip {trip['trip']}, Fri, Mar 14" in told and "There is no way back yet." in told)
+    holds(f"the reason is that of the way back: {told}", "Not booked: Fri, Mar 14, around 11:15 PM, from Senior Center to Public Library" in told)
+
+
+@check
+def a_closed_day_is_said_at_the_field_before_anything_is_sent(at):
+    right = at.town.answer("/agency.json")[2]
+    closed = {**json.loads(right), "closed": [{"day": FRIDAY, "name": "Founders Day"}]}
+    at.town.write_file("agency.json", json.dumps(closed).encode())
+    try:
+        before = len(at.town.trips_of(1005))
+        begin(at, "1005")
+        wish(at, start="library", goal="senior", day=FRIDAY, wish="3 pm")
+        at.browser.sees("There is no service on Fri, Mar 14 (Founders Day). Choose another day.")
+        at.browser.press(BOOK)
+        at.browser.sees("There is no service on Fri, Mar 14 (Founders Day). Choose another day.")
+        same("trips", before, len(at.town.trips_of(1005)))
+    finally:
+        at.town.write_file("agency.json", right if isinstance(right, bytes) else right.encode())

@@ -249,7 +249,7 @@ return [...(it?.querySelectorAll('li') ?? [])].map((it) => it.innerText.split("\
 
 def asks_for_two_days(at, day="2025-03-19", further="Thu, Mar 20"):
     """A clerk asks for a round trip on two days."""
-    at.browser.fill_all({"From": "town", "To": "hosp", "Day": day, "Wished time of the pickup": "9 am",
+    at.browser.fill_all({"From": "town", "To": "hosp", "Day": day, "Pickup time": "9 am",
                          "Return pickup": "2 pm"})
     at.browser.press("The same on further days")
     at.browser.fill(further, True)

@@ -60,7 +60,7 @@ def a_refusal_names_the_rider_and_is_asked_once(at):
     at.browser.press("Yes: refuse rider 1009's application")
     at.browser.sees("is refused. The letter is above.")
     same("the focus", "entered", focused_id(at).split("-")[0])
-    at.browser.sees("REASONS walks to the \"bus\" stop - alone", "An appeal against this decision is taken until")
+    at.browser.sees("Reasons: walks to the \"bus\" stop - alone", "An appeal against this decision is taken until")
 
 
 @check
@@ -70,14 +70,14 @@ def a_letter_on_paper_has_head_text_and_the_right_of_appeal(at):
     paper = at.browser.print_by("Print letter 1 of rider 1009")
     plain = " ".join(paper.text.split())
     for words in ["1 Market Street", "555-0100", "Monday, March 10, 2025", "DECISION refused", "The Appeals Officer",
-                  "You may appeal until Friday, May 9, 2025", "555-0199", "You will be heard", "no part in this decision"]:
+                  "You may appeal until Friday, May 9, 2025", "555-0199", "You have the right to a hearing", "no part in this decision"]:
         holds(f"{words!r} is not on the paper: {plain}", words in plain)
     holds(f"small print: {paper.smallest()}", paper.smallest()[0] >= 11.9)
     at.browser.fill("Print in", "Español")
     at.browser.fill("Size", "large print, 18 points")
     paper = at.browser.print_by("Print letter 1 of rider 1009")
     plain = " ".join(paper.text.split())
-    for words in ["Usted puede apelar hasta el viernes, 9 de mayo de 2025", "DECISION refused", "Usted será oído"]:
+    for words in ["Usted puede apelar hasta el viernes 9 de mayo de 2025", "DECISION refused", "Tiene derecho a una audiencia"]:
         holds(f"{words!r} is not on the paper: {plain}", words in plain)
     holds(f"small print: {paper.smallest()}", paper.smallest()[0] >= 17.9)
     same("words beyond the edge", [], paper.outside())
@@ -102,7 +102,7 @@ def an_appeal_is_a_button_below_its_letter(at):
     at.browser.press("Show")
     at.browser.press("Enter rider 1009's appeal against letter 1")
     at.browser.press("Yes, enter the appeal of rider 1009")
-    at.browser.sees("is on record. An officer has to hear the rider.")
+    at.browser.sees("is on record. An officer has to hold a hearing.")
     same("the focus", "answer-letter-1", focused_id(at))
 
 
@@ -119,22 +119,24 @@ def an_officer_denies_an_appeal_and_is_asked(at):
         at.browser.press(do)
         at.browser.press(f"Yes: {do[0].lower()}{do[1:]}")
         at.browser.sees("on record" if at_kind == "heard" else "is denied. The letter is above.")
-    at.browser.sees("DECISION appeal denied")
+    at.browser.sees("has denied the appeal. It was decided by a person who had no part")
 
 
 @check
 def a_suspension_is_of_thirty_days_at_most(at):
     show(at, "officer", "officer", 1001, "suspensions")
     at.browser.sees("The case of")
+    at.browser.sees("Suspend Rosa Álvarez (1001)")
     at.browser.script("document.querySelector('[data-entry=suspend]').open = true")
+    same("the first day, so that an appeal can come first", "2025-03-25", at.browser.find("field", "First day of the suspension").get_attribute("value"))
     at.browser.fill("Reasons, as they stand in the letter", "missed trips")
-    at.browser.fill("First day", "2025-03-11")
+    at.browser.fill("First day of the suspension", "2025-03-11")
     at.browser.fill("Last day", "2025-04-10")
     at.browser.press("Suspend rider 1001")
     at.browser.sees("Choose a last day from Tuesday, March 11, 2025 to Wednesday, April 9, 2025: 30 days at most.")
     at.browser.fill("Last day", "2025-04-09")
     at.browser.press("Suspend rider 1001")
-    at.browser.sees("From Tuesday, March 11, 2025 to Wednesday, April 9, 2025.")
+    at.browser.sees("From Tuesday, March 11, 2025 through Wednesday, April 9, 2025.", "These reasons are very short.")
     at.browser.press("Yes: suspend rider 1001")
     at.browser.sees("This step of a suspension has no ground yet.")
 
@@ -161,12 +163,12 @@ def an_officer_reads_of_the_missed_trips_on_which_to_decide(at):
     try:
         make_worklist(at, AFTER)
         show(at, "officer", "officer", 1001, "suspensions")
-        at.browser.sees("Missed trips of rider 1001", "The desk shows trips to clerks and dispatchers alone.", AFTER,
+        at.browser.sees("No-shows of rider 1001", "The desk shows trips to clerks and dispatchers alone.", AFTER,
                         "Patterns of missed trips: 1", "100 %",
                         "Case file of rider 1001, Rosa Álvarez", "complete", "grant")
         at.browser.fill("Rider number", "1006")
         at.browser.press("Show the case")
-        at.browser.sees("The work list has no pattern of missed trips of this rider")
+        at.browser.sees("The work list has no pattern of no-shows of this rider")
     finally:
         at.town.set_clock(TODAY)
 
@@ -179,10 +181,10 @@ def what_waits_leads_to_the_case(at):
     at.browser.press("Lists for others")
     at.browser.sees("Applications to decide", "Vehicles with trips ahead")
     paper = at.browser.print_by("Print these lists")
-    for words in ["What waits", "Patterns of missed trips: 1", "Rosa Álvarez", "Vehicles with trips ahead"]:
+    for words in ["Waiting for action", "Patterns of missed trips: 1", "Rosa Álvarez", "Vehicles with trips ahead"]:
         holds(f"{words} is not on the paper", words in paper.text)
     at.browser.press("Show rider 1001")
-    at.browser.sees("The case of Rosa Álvarez (1001)", "Missed trips of rider 1001")
+    at.browser.sees("The case of Rosa Álvarez (1001)", "No-shows of rider 1001")
     for screen, title in [("examiner", "Applications to decide"), ("dispatcher", "Trips without an outcome")]:
         at.browser.sign_in(at.keys[screen], screen, "waits")
         at.browser.sees(title)
@@ -204,3 +206,64 @@ def a_work_list_that_is_missing_wrong_or_not_for_this_key_is_told(at):
     make_worklist(at, AFTER)
     at.browser.press("Read it again")
     at.browser.sees("Patterns of missed trips: 1")
+
+
+def first_letter_text(at, rider, entry):
+    return at.town.answer(f"/riders/{rider}/letters/{entry}", {"Desk-Key": at.keys["officer"]})
+
+
+def opened_entry(at, kind):
+    at.browser.script("document.querySelector(`[data-entry=${arguments[0]}]`).open = true", kind)
+
+
+@check
+def a_notice_names_each_missed_trip_and_the_days_that_are_proposed(at):
+    at.town.set_clock(AFTER)
+    try:
+        at.browser.sign_in(at.keys["clerk"], "clerk", "file")
+        at.browser.fill("Rider number", "1006")
+        at.browser.press("Show")
+        at.browser.sees("no no-show on record")
+        at.browser.fill("Rider number", "1001")
+        at.browser.press("Show")
+        at.browser.sees("Notice of proposed suspension to Rosa Álvarez (1001)")
+        opened_entry(at, "notice")
+        same("the first day that is proposed", "2025-04-11", at.browser.find("field", "Proposed first day of the suspension").get_attribute("value"))
+        at.browser.fill("Proposed last day", "2025-04-17")
+        at.browser.fill("Anything else for the letter (optional)", "x" * 450)
+        at.browser.press("Give rider 1001 notice")
+        at.browser.sees("The notice takes 500 characters, and this has ")
+        at.browser.fill("Anything else for the letter (optional)", "Called twice.")
+        at.browser.press("Give rider 1001 notice")
+        at.browser.sees("Missed trips (no-shows): 2025-03-11, pickup window ",
+                        "Proposed suspension: 2025-04-11 through 2025-04-17. Called twice.")
+        at.browser.press("Yes: give rider 1001 notice")
+        at.browser.sees("proposes to suspend Rosa Álvarez (1001)'s paratransit service from Friday, April 11, 2025 through "
+                        "Thursday, April 17, 2025, because of missed trips (no-shows).")
+    finally:
+        at.town.set_clock(TODAY)
+
+
+@check
+def the_notice_on_paper_says_what_is_proposed_why_and_how_to_be_heard(at):
+    at.town.set_clock(AFTER)
+    try:
+        show(at, "officer", "officer", 1001, "suspensions")
+        at.browser.sees("The notice proposed Friday, April 11, 2025 through Thursday, April 17, 2025.")
+        last = max(it for it in range(12) if first_letter_text(at, 1001, it)[0] == 200)
+        at.browser.fill("Print in", "English")
+        plain = " ".join(at.browser.print_by(f"Print letter {last} of rider 1001").text.split())
+        for words in ["Notice of proposed suspension", "from Friday, April 11, 2025 through Thursday, April 17, 2025", "2025-03-11, pickup window",
+                      "reasons beyond your control", "right to a hearing", "Ask for a hearing by Thursday, March 27, 2025",
+                      "bring someone with you", "No suspension begins before we decide"]:
+            holds(f"{words!r} is not on the paper: {plain}", words in plain)
+        holds("the desk's own words come first", plain.index("On record, word for word") > plain.index("Ask for a hearing"))
+        at.browser.fill("Print in", "Español")
+        plain = " ".join(at.browser.print_by(f"Print letter {last} of rider 1001").text.split())
+        for words in ["Aviso de propuesta de suspensión", "propone suspender su servicio", "escritas en inglés", "Pida una audiencia"]:
+            holds(f"{words!r} is not on the paper: {plain}", words in plain)
+        opened_entry(at, "suspend")
+        same("the days of the suspension", ["2025-04-11", "2025-04-17"],
+             [at.browser.find("field", it).get_attribute("value") for it in ("First day of the suspension", "Last day")])
+    finally:
+        at.town.set_clock(TODAY)

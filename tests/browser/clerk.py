@@ -1,6 +1,7 @@
 """The clerk's counter: riders found by name, what is known of them and how old it is, their records."""
 import contextlib
 import csv
+import datetime
 import json
 import os
 import re
@@ -12,7 +13,7 @@ from selenium.webdriver.common.keys import Keys
 from booking import BOOK, THURSDAY, begin, wait_for, wish
 from checks import check, holds, same
 from database import until
-from people import TODAY, TOMORROW
+from people import TODAY, TOMORROW, ZONE
 
 VANS = 1
 MANY = 20_000
@@ -183,7 +184,7 @@ def a_note_of_one_kind_is_there_once(at):
         at.town.number += 100_000
         at.town.post("clerk", "/riders", {"id": 1600, "kind": "resident", "attendant": False, "wheelchair": False})
         at.browser.fill_all({"From": "library", "To": "senior", "Day": "2025-03-20",
-                             "Wished time of the pickup": "2 pm"})
+                             "Pickup time": "2 pm"})
         at.browser.press(BOOK)
         until("the booking is answered or asked about", lambda: at.browser.script(
             "return !!document.querySelector('.legs .ticket, .legs .refused, dialog')"))
@@ -341,6 +342,12 @@ def the_same_trip_of_another_clerk_is_asked_about(at):
 # Where the van of today is.
 
 
+def made_at(minute):
+    """A minute of the day after, by the agency's clocks, as the file of the day has it."""
+    there = datetime.datetime.fromisoformat(TOMORROW).replace(hour=minute // 60, minute=minute % 60, tzinfo=ZONE)
+    return there.astimezone(datetime.timezone.utc).strftime("%Y-%m-%dT%H:%M:%SZ")
+
+
 @contextlib.contextmanager
 def late(at, rider, minutes=2):
     """So many minutes after the window of a rider's first trip of the day after."""
@@ -359,7 +366,8 @@ def late(at, rider, minutes=2):
 def where_a_late_van_is_is_answered_without_scrolling(at):
     with late(at, 1001) as (trip, minute):
         taps = [{"trip": trip["trip"] + 1, "kind": "aboard", "minute": minute - 5}, {"trip": "x"}, None]
-        at.town.write_file("staff/today.json", json.dumps({"vehicles": {str(trip["vehicle"]): {"taps": taps}}}))
+        at.town.write_file("staff/today.json", json.dumps({"day": TOMORROW, "made": made_at(minute), "vehicles": {
+            str(trip["vehicle"]): {"taps": taps}}}))
         with at.browser.screen(1366, 625):
             begin(at, "1001")
             at.browser.sees("Today", "Window over, no update from Van 1, blue", "Ask dispatch where Van 1, blue is.",

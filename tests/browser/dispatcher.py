@@ -306,136 +306,25 @@ def the_export_is_the_desks_own_or_one_for_a_spreadsheet(at):
     holds(f"no dollars: {row['Due ($)']}", re.fullmatch(r"\d+\.\d\d", row["Due ($)"]))
 
 
-# Out of service.
-
-# The plan that this browser keeps: its first item is made one that is under way, as it is where a tab is closed in the
-# middle of a booking.
-BROKEN_OFF = """
-const done = arguments[arguments.length - 1], opened = indexedDB.open("desk-out", 1);
-opened.onsuccess = () => {
-    const store = opened.result.transaction("plans", "readwrite").objectStore("plans"), asked = store.openCursor();
-    asked.onsuccess = () => {
-        const plan = asked.result.value;
-        plan.done = false;
-        Object.assign(plan.items[0], { step: "booking", ticket: null });
-        asked.result.update(plan).onsuccess = () => { opened.result.close(); done(plan.items[0].rider); };
-    };
-};
-"""
-
-
-def book_for_later(at):
-    """Trips of the next day in one van, for different riders."""
-    for rider, wish in [(1005, 540), (1006, 600), (1007, 660), (1001, 720)]:
-        at.town.book(rider, LATER, wish, 5, 6)
-    vans = [row["vehicle"] for row in rows_of(at, LATER) if row["status"] == "booked"]
-    return max(set(vans), key=vans.count)
-
-
-def booked_on(at, day, vehicle=None):
-    return [row for row in rows_of(at, day) if row["status"] == "booked" and vehicle in (None, row["vehicle"])]
-
-
-def show_out(at, vehicle, day):
-    at.browser.fill("Vehicle number", vehicle)
-    at.browser.fill("Out of service from", day)
-    at.browser.press("Show its trips")
-
-
-@check
-def todays_trips_cannot_be_moved_and_the_page_says_what_can_be_done(at):
-    sign_in(at, DAY, "10:30", "out")
-    show_out(at, 1, DAY)
-    at.browser.sees("Nothing of today can be moved", "Print the call list", "555-0105")
-    paper = at.browser.print_by("Print the manifest for another driver")
-    is_right(paper)
-    lines = at.town.get("dispatcher", f"/vehicles/1/manifest/{DAY}").splitlines()
-    same("lines that are not printed", [], lacking(lines, paper))
-    over(at)
-    paper = at.browser.print_by("Print the call list")
-    is_right(paper)
-    holds("no telephone is printed", "555-0105" in paper.text and "Whom to call: Van 1, blue" in paper.text)
-    over(at)
-
-
-@check
-def a_vans_trips_are_booked_again_in_others_and_each_change_is_told(at):
-    van = book_for_later(at)
-    before = booked_on(at, LATER, van)
-    show_out(at, van, LATER)
-    at.browser.sees("What will be tried", "off duty on every weekday from Wednesday, March 12, 2025 on")
-    many = f"{len(before)} trips" if len(before) > 1 else "1 trip"
-    at.browser.press(f"Take it off duty and book {many} again")
-    at.browser.press("No, go back")
-    same("nothing is done before the yes", before, booked_on(at, LATER, van))
-    at.browser.press(f"Take it off duty and book {many} again")
-    at.browser.press(f"Yes, book {many} again")
-    at.browser.sees("is off duty from Wednesday, March 12, 2025", "booked again")
-    same("trips that are left in it", [], booked_on(at, LATER, van))
-    after = {row["rider"]: row for row in booked_on(at, LATER)}
-    for row in before:
-        new = after[row["rider"]]
-        same("an old wish", [row["wish"], row["from"], row["to"]], [new["wish"], new["from"], new["to"]])
-        moved = int(new["window_from"]) - int(row["window_from"])
-        at.browser.sees(f"{abs(moved)} minutes {'later' if moved > 0 else 'earlier'}" if moved else "Same time, in")
-    holds("the focus is lost", "off duty" in at.browser.focused())
-
-
-@check
-def a_booking_that_broke_off_is_found_again_and_not_done_twice(at):
-    count = len(booked_on(at, LATER))
-    rider = at.browser.driver.execute_async_script(BROKEN_OFF)
-    sign_in(at, DAY, "10:30", "out")
-    at.browser.sees("It is not finished", "Going on reads the desk first")
-    at.browser.press("Go on")
-    at.browser.sees("is off duty from")
-    same("booked trips", count, len(booked_on(at, LATER)))
-    same("trips of the rider", 1, len([row for row in booked_on(at, LATER) if row["rider"] == str(rider)]))
-    at.browser.press("Put this list away")
-    at.browser.sees_no("is off duty from")
-
-
-@check
-def a_closed_tab_in_the_middle_of_cancelling_forgets_nobody(at):
-    vans = [row["vehicle"] for row in booked_on(at, LATER)]
-    van = max(set(vans), key=vans.count)
-    before = booked_on(at, LATER, van)
-    many = f"{len(before)} trips" if len(before) > 1 else "1 trip"
-    show_out(at, van, LATER)
-    at.browser.press(f"Take it off duty and cancel {many}")
-    at.town.middle.writes()
-    with at.town.middle.hold():
-        at.browser.press(f"Yes, cancel {many}")
-        until("nothing is sent", lambda: any(path.endswith("/cancel") for path in at.town.middle.writes()))
-        at.browser.script("sessionStorage.clear()")
-        at.browser.driver.get(f"{at.browser.origin}/icon.svg")
-    sign_in(at, DAY, "10:30", "out")
-    at.browser.sees("It is not finished")
-    at.browser.press("Go on")
-    at.browser.sees("is off duty from", f"{many} cancelled.")
-    same("trips that are left in it", [], booked_on(at, LATER, van))
-    at.browser.press("Put this list away")
-
-
 # Vehicles.
 
 
 @check
 def a_vehicle_with_trips_is_denied_with_what_works(at):
     sign_in(at, DAY, "10:30", "vehicles")
-    at.browser.fill_all({"Vehicle number": 1, **VEHICLE})
-    at.browser.press("Put the vehicle")
+    at.browser.fill_all({"Vehicle": 1, **VEHICLE})
+    at.browser.press("Save vehicle")
     at.browser.sees("A trip stands in this vehicle on that day or later.")
     at.browser.press("Take Van 1, blue out of service")
     at.browser.sees("A vehicle out of service")
-    same("the vehicle's number", "1", at.browser.value("Vehicle number"))
+    same("the vehicle", "Van 1, blue (1)", at.browser.value("Vehicle"))
 
 
 @check
 def a_vehicle_without_a_name_keeps_none_in_this_browser(at):
     sign_in(at, DAY, "10:30", "vehicles")
-    at.browser.fill_all({"Vehicle number": 40, **VEHICLE})
-    at.browser.press("Put the vehicle")
+    at.browser.fill_all({"Vehicle": 40, **VEHICLE})
+    at.browser.press("Save vehicle")
     at.browser.sees("is on record from", "Number 40 has no name yet")
     same("what this browser keeps", None, at.browser.script("return localStorage.getItem('desk.agency')"))
 

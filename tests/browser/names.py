@@ -26,7 +26,7 @@ WRONG_AGENCY = [
     (setting(zone=5), "zone"), (setting(first_weekday=9), "first_weekday"),
     (setting(clock=13), "clock"), (setting(languages="en"), "languages"), (setting(languages=[]), "languages"),
     (setting(place_word=5), "place_word"), (setting(appeal="court"), "appeal"),
-    (setting(wait_minutes=-1), "wait_minutes"), (setting(idle_minutes="soon"), "idle_minutes"),
+    (setting(wait_minutes=-1), "wait_minutes"), (setting(lead=61), "lead"), (setting(idle_minutes="soon"), "idle_minutes"),
     (setting(name=["a"]), "name"), (setting(telephone=5550100), "telephone"),
 ]
 WRONG_PLACES = [

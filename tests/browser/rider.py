@@ -58,8 +58,8 @@ def a_trip_is_booked_again_from_its_card(at):
     show(at, 1006)
     at.browser.press(f"Book trip {trip} again on another day")
     at.browser.find("button", re.compile("^Book the trip"))
-    at.browser.sees("Wished time of the pickup")
-    same("the wish", "3:00 PM", at.browser.value("Wished time of the pickup"))
+    at.browser.sees("Pickup time")
+    same("the wish", "3:00 PM", at.browser.value("Pickup time"))
 
 
 @check
@@ -69,11 +69,11 @@ def the_pages_are_spanish_for_who_reads_spanish(at):
     at.browser.sees("Mis viajes", "Reservar un viaje", "Salir")
     same("the language of the page", "es", at.browser.script("return document.documentElement.lang"))
     show(at, 1001, "Su número de pasajero", "Mostrar mis páginas")
-    at.browser.sees("martes, 11 de marzo de 2025", "Recogida entre")
+    at.browser.sees("martes 11 de marzo de 2025", "Recogida entre")
     at.browser.press("Reservar un viaje", "link")
     at.browser.sees("Reservar un viaje para el pasajero 1001", "Hora deseada de la recogida", "Recogida de regreso")
     at.browser.fill("Idioma", "en")
-    at.browser.sees("Wished time of the pickup")
+    at.browser.sees("Pickup time")
 
 
 @check

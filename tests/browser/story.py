@@ -9,7 +9,7 @@ from database import until
 VANS = 1
 BOOK = re.compile("^Book the trip")
 WISH = {"From": "Town Hall", "To": "General Hospital", "Day": "Tuesday, March 11, 2025",
-        "Wished time of the pickup": "10:00 am"}
+        "Pickup time": "10:00 am"}
 DAYS = "return [...document.querySelector('select[name=day]').options].map((it) => it.value).filter(Boolean)"
 
 
@@ -23,7 +23,7 @@ def show(at, rider, part="trips"):
 def book(at, **values):
     given = {**WISH, **{name.replace("_", " "): value for name, value in values.items()}}
     at.browser.find("button", BOOK)
-    for name in ["From", "To", "Wished time of the pickup"]:
+    for name in ["From", "To", "Pickup time"]:
         at.browser.fill(name, given[name])
     at.browser.fill("Day", given["Day"])
     for name in set(given) - set(WISH):
@@ -49,10 +49,10 @@ def what_a_field_can_know_is_told_at_the_field_and_nothing_is_sent(at):
     at.browser.press(BOOK)
     at.browser.sees("Choose a place")
     same("the focus", True, at.browser.focused().startswith("From"))
-    book(at, Wished_time_of_the_pickup="25:00")
+    book(at, Pickup_time="25:00")
     at.browser.sees("Write a time")
     book(at, Be_there_by="8:00 am")
-    at.browser.sees("This is before any pickup that could come.")
+    at.browser.sees("You can't get there that early with this pickup time.")
     same("the trips", before, trips(at, 1005))
 
 
@@ -62,7 +62,8 @@ def a_booked_trip_says_whose_it_is_when_it_comes_and_what_it_costs(at):
     book(at, Day="Thursday, March 13, 2025", **{"A companion comes along, and pays the same": True})
     number = booked(at)
     trip = [it for it in at.town.trips_of(1005) if it["trip"] == number][0]
-    same("what was booked", (600, 1, 2, 1), (trip["wish"], trip["from"], trip["to"], trip["companions"]))
+    same("what was booked", (1, 2, 1), (trip["from"], trip["to"], trip["companions"]))
+    holds(f"the van comes around 10:00: {trip}", 585 <= trip["window_from"] <= 660)
     at.browser.sees("Samuel Grant", "$3.50 each", "$7.00", "Van 1, blue", "Town Hall", "General Hospital")
 
 
@@ -87,8 +88,8 @@ def each_denial_of_a_booking_is_a_sentence_and_a_section(at):
             (1010, ["No condition of the rider's grant holds of this trip.", "49 CFR 37.123(b)"], {}),
             (1005, ["This party is too large", "49 CFR 37.123(f)"], {attendant: True}),
             (1005, ["too far from every bus line", "49 CFR 37.131(a)"], {"To": "Old Farm"}),
-            (1005, ["No bus line serves both ends", "49 CFR 37.131(e)"], {"Wished time of the pickup": "11:45 pm"}),
-            (1005, ["No vehicle can take this trip", "49 CFR 37.131"], {"Wished time of the pickup": "11:00 pm"})]:
+            (1005, ["No bus line serves both ends", "49 CFR 37.131(e)"], {"Pickup time": "11:45 pm"}),
+            (1005, ["No vehicle can take this trip", "49 CFR 37.131"], {"Pickup time": "11:00 pm"})]:
         show(at, rider)
         book(at, Day="Wednesday, March 12, 2025", **values)
         at.browser.sees(*says)
@@ -150,7 +151,7 @@ def a_form_keeps_what_is_typed_where_the_desk_denies(at):
     show(at, 1010)
     book(at, Day="Wednesday, March 12, 2025")
     at.browser.sees("49 CFR 37.123(b)")
-    same("what was typed", True, at.browser.value("Wished time of the pickup").startswith("10"))
+    same("what was typed", True, at.browser.value("Pickup time").startswith("10"))
     holds("the place is gone", "General Hospital" in at.browser.value("To"))
 
 
@@ -181,7 +182,7 @@ def a_ticket_goes_where_the_next_try_fails_at_a_field(at):
     show(at, 1003)
     book(at, Day="Tuesday, March 18, 2025")
     at.browser.sees("is booked for")
-    at.browser.fill("Wished time of the pickup", "25:00")
+    at.browser.fill("Pickup time", "25:00")
     at.browser.press(BOOK)
     at.browser.sees("Write a time")
     at.browser.sees_no("is booked for")
@@ -284,12 +285,13 @@ def a_booking_for_a_known_number_takes_forty_keys(at):
     keys += typed("1005") + typed(Keys.ENTER)
     at.browser.find("button", BOOK)
     at.browser.settled()
-    for name, text in [("From", "town"), ("To", "hosp"), ("Day", "Sat"), ("Wished time of the pickup", "9:15a")]:
+    for name, text in [("From", "town"), ("To", "hosp"), ("Day", "Sat"), ("Pickup time", "9:15a")]:
         keys += at.browser.tab_to(re.compile(f"^{name}")) + typed(text)
     keys += typed(Keys.ENTER)
     number = booked(at)
     trip = [it for it in at.town.trips_of(1005) if it["trip"] == number][0]
-    same("what was booked", ("2025-03-15", 555, 1, 2), (trip["day"], trip["wish"], trip["from"], trip["to"]))
+    same("what was booked", ("2025-03-15", 1, 2), (trip["day"], trip["from"], trip["to"]))
+    holds(f"the van comes around 9:15: {trip}", 540 <= trip["window_from"] <= 615)
     holds(f"it took {keys} keys", keys <= 40)
 
 

@@ -113,7 +113,7 @@ def on_the_telephone_a_trip_is_booked_for_thursday_with_a_ticket(at):
     begin(at, "clerk", "clerk", "trips", hour="11:00")
     show(at, NEWCOMER)
     at.browser.find("button", re.compile("^Book the trip"))
-    for name, value in {"From": "Town Hall", "To": "General Hospital", "Wished time of the pickup": "10:00 am",
+    for name, value in {"From": "Town Hall", "To": "General Hospital", "Pickup time": "10:00 am",
                         "Day": "Thursday, March 13, 2025"}.items():
         at.browser.fill(name, value)
     at.browser.press(re.compile("^Book the trip"))
@@ -133,7 +133,7 @@ def on_tuesday_the_trip_is_changed_and_keeps_its_number(at):
     at.browser.press(re.compile(f"^Change trip {number} of"))
     form = until("no form of the change", lambda: at.browser.script("""return [...document.querySelectorAll('form')]
         .find((it) => (it.getAttribute('aria-label') ?? '').startsWith('Change trip'))"""))
-    at.browser.fill("Wished time of the pickup", "1:30 pm", form)
+    at.browser.fill("Pickup time", "1:30 pm", form)
     at.browser.keys(Keys.ENTER)
     at.browser.sees(f"Trip {number} is booked for")
     trip = trip_of(at, NEWCOMER)

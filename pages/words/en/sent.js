@@ -7,7 +7,10 @@ export const words = {
     "sent.note": "These trips were asked for earlier. This is what came of them:",
     "sent.booked": ({ trip, rider, day, window, from, to }) => `Trip ${trip} is booked for ${rider}: ${day}, pickup ${window}, from ${from} to ${to}.`,
     "sent.changed": ({ trip, rider, day, window, from, to }) => `Trip ${trip} of ${rider} is changed: ${day}, pickup ${window}, from ${from} to ${to}.`,
-    "sent.denied": ({ rider, day, time, from, to }) => `Not booked for ${rider}: ${day}, ${time}, from ${from} to ${to}.`,
-    "sent.unsent": ({ rider, day, time, from, to }) => `Not sent for ${rider}: ${day}, ${time}, from ${from} to ${to}. The page was loaded again before its turn. Book it again.`,
-    "sent.sending": ({ rider, day, time, from, to }) => `Being sent for ${rider}: ${day}, ${time}, from ${from} to ${to}.`,
+    "sent.denied": ({ rider, day, said, from, to }) => `Not booked for ${rider}: ${day}, ${said ? `${said}, ` : ""}from ${from} to ${to}.`,
+    "sent.unsent": ({ rider, day, said, from, to }) => `Not sent for ${rider}: ${day}, ${said ? `${said}, ` : ""}from ${from} to ${to}. The page was loaded again before its turn. Book it again.`,
+    "sent.sending": ({ rider, day, said, from, to }) => `Being sent for ${rider}: ${day}, ${said ? `${said}, ` : ""}from ${from} to ${to}.`,
+    "sent.said-around": ({ time }) => `around ${time}`,
+    "sent.said-not-before": ({ time }) => `not before ${time}`,
+    "sent.said-by": ({ time }) => `be there by ${time}`,
 };

@@ -11,10 +11,11 @@ const KINDS = { places: "lugar", routes: "línea", vehicles: "vehículo" };
 /** @type {Record<string, string>} */
 const WITH_ARTICLE = { de: "del", a: "al", para: "para el" };
 
-/** Artículos que dependen de lo que sigue: «del pasajero 7», pero «de Rosa Álvarez (7)»; «a la 1:15», pero «a las 2:15».
+/** Artículos que dependen de lo que sigue: «del pasajero 7», pero «de Rosa Álvarez (7)»; «a la 1:15», pero «a las 2:15». Detrás de «a. m.» no hay otro punto.
  * @param {string} text
  */
-export const smooth = (text) => text.replace(/(?<!\S)(de|a|para) (?=pasajero \d)/g, (_, word) => `${WITH_ARTICLE[word]} `).replace(/(?<!\S)las (?=0?1:)/g, "la ");
+export const smooth = (text) => text.replace(/(?<!\S)(de|a|para) (?=pasajero \d)/g, (_, word) => `${WITH_ARTICLE[word]} `).replace(/(?<!\S)las (?=0?1:)/g, "la ")
+    .replace(/([ap]\. m\.)\./g, "$1");
 
 /** @type {Record<string, import("../../parts/words.js").Text>} */
 export const words = {

@@ -1,0 +1,203 @@
+"""The night's backup in another place, which nobody on this machine can take away again.
+
+/etc/desk/offsite.conf says where: OFFSITE=, a mounted folder, a host by ssh (MACHINE:/FOLDER) or `none yet`; SSH=, how to
+reach it; RECIPIENT=, a public key to which the copies are encrypted.
+"""
+import contextlib
+import datetime
+import json
+import os
+import pathlib
+import shlex
+import shutil
+import subprocess
+import sys
+import tempfile
+import time
+
+from . import typed  # noqa: F401  (it leads to the package `desk_tools`)
+from .copying import check_copy, copied, folder_within, give_name, size_of, synced
+from .ending import WRONG_WORDS, Failure
+from .places import SETTINGS
+from desk_tools import elsewhere as rules
+
+SCRIPT = "/usr/local/lib/desk/standby"
+PATIENCE, PIECE = 15, 1 << 20
+# How long a look at the place counts, in seconds, and where it is kept.
+LOOK, LOOKED = 3_600, "/run/desk-elsewhere.json"
+
+
+class Settings:
+    """What offsite.conf says. The environment may give OFFSITE, SSH, RECIPIENT and SCRIPT."""
+
+    def __init__(self, settings=None):
+        self.path = f"{settings or os.environ.get('SETTINGS') or SETTINGS}/offsite.conf"
+        given = {}
+        if os.path.exists(self.path):
+            with open(self.path, encoding="utf-8") as file:
+                lines = [it.strip() for it in file if it.strip() and not it.startswith("#")]
+            given = dict(it.split("=", 1) for it in lines if "=" in it)
+        self.is_there = bool(given) or "OFFSITE" in os.environ
+        text, recipient = (os.environ.get(it) or given.get(it, "") for it in ("OFFSITE", "RECIPIENT"))
+        self.ssh = os.environ.get("SSH") or given.get("SSH", "ssh")
+        self.script = os.environ.get("SCRIPT") or given.get("SCRIPT", SCRIPT)
+        try:
+            self.place, self.seal = rules.place_of(text), rules.seal_of(recipient)
+        except rules.Wrong as wrong:
+            raise Failure(f"{self.path}: {wrong}", WRONG_WORDS) from None
+
+    def told(self, place, *words, source=None):
+        """What the script of the other machine answers."""
+        command = " ".join(shlex.quote(it) for it in (self.script, *words))
+        shell = [*shlex.split(self.ssh), "-o", "BatchMode=yes", "-o", f"ConnectTimeout={PATIENCE}", "-o",
+                 "ServerAliveInterval=5", "-o", "ServerAliveCountMax=3"]
+        said = subprocess.run([*shell, place.machine, command], stdin=source or subprocess.DEVNULL, capture_output=True,
+                              check=False)
+        if said.returncode:
+            why = (said.stderr or said.stdout).decode(errors="replace").strip()
+            raise Failure(f"{place.machine}: {why or f'ended with status {said.returncode}'}")
+        return said.stdout.decode(errors="replace").strip()
+
+
+# In the place itself.
+
+
+def names_in(folder):
+    """The copies of a folder, by their names."""
+    return sorted(it for it in os.listdir(folder) if rules.moment_of(it)) if os.path.isdir(folder) else []
+
+
+def add_from_input(folder, name, digest):
+    """A copy that comes by standard input gets its name once it is whole. None is ever replaced."""
+    from .standby import digest_of
+    check_name(folder, name)
+    os.makedirs(folder, 0o700, exist_ok=True)
+    with folder_within(folder, ".adding-") as place:
+        part = f"{place}/copy"
+        with open(os.open(part, os.O_WRONLY | os.O_CREAT | os.O_EXCL, 0o600), "wb") as file:
+            shutil.copyfileobj(sys.stdin.buffer, file, PIECE)
+        synced(part)
+        if digest_of(part) != digest:
+            raise Failure(f"{name} is not what was sent")
+        give_name(part, f"{folder}/{name}")
+    return f"{name} is there"
+
+
+def check_name(folder, name):
+    if not rules.moment_of(name):
+        raise Failure(f"{name[:80]!r} is no name of a copy", WRONG_WORDS)
+    if os.path.lexists(f"{folder}/{name}"):
+        raise Failure(f"{name} is there already, and no copy is replaced", WRONG_WORDS)
+
+
+def check_is_elsewhere(folder, backups):
+    """A folder whose disk is not mounted is one of this machine's own disk, which is no other place."""
+    if not os.path.isdir(folder):
+        raise Failure(f"there is no folder {folder}: is its disk mounted?")
+    if os.stat(folder).st_dev == os.stat(backups).st_dev:
+        raise Failure(f"{folder} is on the disk of {backups}: the disk of the other place is not mounted")
+
+
+# On the machine that has the backups.
+
+
+def names_there(settings, place, backups):
+    if place.machine:
+        return settings.told(place, "names", place.folder).split()
+    check_is_elsewhere(os.path.dirname(place.folder) if not os.path.isdir(place.folder) else place.folder, backups)
+    return names_in(place.folder)
+
+
+def put(settings, place, path, name):
+    """One copy is there, whole, under a name that nothing had."""
+    from .standby import digest_of
+    if place.machine:
+        with open(path, "rb") as file:
+            settings.told(place, "add", place.folder, name, digest_of(path), source=file)
+        return
+    os.makedirs(place.folder, 0o700, exist_ok=True)
+    check_name(place.folder, name)
+    with folder_within(place.folder, ".adding-") as folder:
+        check_copy(f"{folder}/copy", copied(path, f"{folder}/copy"))
+        give_name(f"{folder}/copy", f"{place.folder}/{name}")
+
+
+def sealed(seal, path, folder):
+    """The path of the copy that goes away: encrypted, where there is a key."""
+    if not seal:
+        return path, os.path.basename(path)
+    if not shutil.which(seal.words[0]):
+        raise Failure(f"{seal.words[0]} is not installed: apt install {'gnupg' if seal.end == '.gpg' else 'age'}")
+    name = os.path.basename(path) + seal.end
+    target = pathlib.Path(folder, name)
+    ran = subprocess.run(seal.sealing(pathlib.Path(path), target), stdin=subprocess.DEVNULL, capture_output=True, text=True,
+                         check=False)
+    if ran.returncode or not size_of(target):
+        raise Failure(f"{path} could not be encrypted: {' '.join((ran.stderr or ran.stdout).split())}")
+    return str(target), name
+
+
+def send(desk, settings, backups):
+    """The newest backup, and what a new machine needs, go to the place; what to say, line by line."""
+    if os.path.exists(desk.fence):
+        return ["this machine is fenced, so its copies are not the newest, and none is sent"]
+    if settings.place is None:
+        return [f"OFFSITE is {rules.NONE_YET}: the backups are on the disk of the desk alone, and are lost with it"]
+    place = settings.place.of_agency(desk.agency)
+    there = names_there(settings, place, backups)
+    wanted = rules.to_send(os.listdir(backups) if os.path.isdir(backups) else [], there)
+    told = []
+    with tempfile.TemporaryDirectory(prefix="desk-elsewhere-", dir="/var/tmp") as folder:
+        for it in wanted:
+            path, name = sealed(settings.seal, f"{backups}/{it}", folder)
+            put(settings, place, path, name)
+            told.append(f"{name} is at {place.told()}{'' if settings.seal else ', not encrypted'}")
+    return told or [f"{place.told()} has the newest copies already"]
+
+
+# For the watch.
+
+
+def facts(settings, units, now):
+    """What is at the place, of each unit: (agency, backups) by unit. A look counts for an hour, unless it found nothing."""
+    try:
+        given = Settings(settings)
+    except Failure as failure:
+        return {"wrong": str(failure)}
+    if not given.is_there:
+        return {}
+    if given.place is None:
+        return {"none": True}
+    path = os.environ.get("LOOKED") or LOOKED
+    with contextlib.suppress(OSError, ValueError), open(path, encoding="utf-8") as file:
+        looked = json.load(file)
+        if 0 <= now - looked["at"] < LOOK and looked["place"] == given.place.told() and not looked["faults"]:
+            return looked
+    looked = {"at": now, "place": given.place.told(), "newest": {}, "faults": {}}
+    for unit, (agency, backups) in units.items():
+        try:
+            looked["newest"][unit] = rules.newest(names_there(given, given.place.of_agency(agency), backups), "desk")
+        except (Failure, OSError) as error:
+            looked["faults"][unit] = str(error)
+    with contextlib.suppress(OSError), open(path, "w", encoding="utf-8") as file:
+        json.dump(looked, file)
+    return looked
+
+
+def troubles(unit, looked, now, oldest):
+    """(what, sentence) of each trouble with a desk's copies elsewhere."""
+    if looked.get("wrong"):
+        yield "elsewhere", looked["wrong"]
+    if looked.get("none"):
+        # (told anew each day)
+        day = datetime.datetime.fromtimestamp(now).date()
+        yield f"elsewhere {day}", (f"has no copies elsewhere (OFFSITE is {rules.NONE_YET}): a lost disk takes the desk and all "
+                                   "its backups. BACKUPS.md, \"Copies elsewhere\", has what to do")
+    if unit in looked.get("faults", {}):
+        yield "elsewhere", f"its copies at {looked['place']} cannot be seen: {looked['faults'][unit]}"
+    elif unit in looked.get("newest", {}):
+        name = looked["newest"][unit]
+        if name is None:
+            yield "elsewhere", f"there is no copy at {looked['place']}"
+        elif now - time.mktime(rules.moment_of(name).timetuple()) > oldest:
+            yield "elsewhere", f"the newest copy at {looked['place']} is {name}, more than a day old"

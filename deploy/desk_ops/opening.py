@@ -1,0 +1,224 @@
+"""The second machine opens the desk: the first is fenced and sends what it has at rest, and this one serves that.
+
+Whatever fails leaves somebody serving: the first machine goes on where this one could not begin.
+"""
+import contextlib
+import datetime
+import json
+import os
+import sys
+
+from . import standby
+from .content import counted, summary_of
+from .copying import check_room, size_of, synced
+from .ending import WRONG_WORDS, Failure, pass_over_signals, sentence_of
+from .places import program_to_start
+from .restoring import COPIES, Restore
+from .retention import copies_in, moment_of
+from .zones import check_zone
+
+FLAG, WORD = "--without-last-copy", "open"
+
+
+def missing_rows(newer, older):
+    """Which writes of the first summary the second has not: rows by table, and callers whose last write differs."""
+    words = [counted(newer["counts"][it] - older["counts"].get(it, 0), f"row") + f" of {it}"
+             for it in newer["counts"] if newer["counts"][it] != older["counts"].get(it, 0)]
+    callers = [it for it, number in newer["kept"].items() if older["kept"].get(it) != number]
+    words += [f"writes of caller{'' if len(callers) == 1 else 's'} {', '.join(callers)}"] if callers else []
+    return words
+
+
+def told_minutes(since, until):
+    minutes = max(0, (until - since).total_seconds()) / 60
+    return f"{minutes:.0f} minutes" if minutes >= 1.5 else f"{minutes * 60:.0f} seconds"
+
+
+class Opening:
+    """The desk of this machine serves the newest copy of a folder. `agreed` is whether it may be one that lacks writes."""
+
+    def __init__(self, desk, folder, settings, first=None, first_is_off=False, agreed=False):
+        self.desk, self.folder, self.settings = desk, folder, settings
+        self.first, self.first_is_off, self.agreed = first, first_is_off, agreed
+        self.answer = self.fence_before = None
+        self.is_fenced_by_us = self.is_marked = False
+        self.told = []
+
+    def make(self):
+        if not os.path.isdir(f"{self.folder}/copies"):
+            raise Failure(f"{self.folder}/copies has no copy")
+        with standby.alone(f"{self.folder}/copies", 2, "somebody else opens the desk on this machine at this moment"):
+            self.check_beforehand()
+            try:
+                self.stop_first()
+                self.serve()
+            except BaseException as error:
+                pass_over_signals()
+                raise Failure(f"{sentence_of(error)}; {self.given_back()}", getattr(error, "status", 1)) from None
+        return self.told
+
+    # Beforehand: nothing is changed.
+
+    def check_beforehand(self):
+        copies = self.copies()
+        if not copies:
+            raise Failure(f"{self.folder}/copies has no copy")
+        if standby.is_opened(self.folder):
+            raise Failure(f"this machine has opened the desk already: {self.folder}/{standby.OPENED} says when. To put a "
+                          "copy in place of what it has written since, run deploy/restore")
+        if not self.first and not self.first_is_off:
+            raise Failure("name the first machine by --first, or say --first-is-off once its power or its network is "
+                          "gone", WRONG_WORDS)
+        program_to_start()
+        check_zone(self.desk)
+        check_room(self.desk.folder, COPIES * size_of(f"{self.folder}/copies/{copies[0]}"), "opening the newest copy")
+
+    def copies(self):
+        return copies_in(os.listdir(f"{self.folder}/copies"))
+
+    # The first machine.
+
+    def words(self, *words):
+        return [*words, *([self.desk.agency] if self.desk.agency else [])]
+
+    def stop_first(self):
+        """The first machine serves no longer. Its answer says whether its last copy was sent."""
+        if not self.first:
+            self.told.append("the first machine is off, as was said; it fences itself when it is back")
+            return
+        try:
+            said = self.settings.told(self.first, *self.words("fence", "--answer"))
+        except standby.NotTold as failure:
+            # (it may be fenced, where the line broke before it answered)
+            self.is_fenced_by_us = failure.is_reached
+            if self.first_is_off:
+                self.told.append(f"{failure}; the first machine is off, as was said; it fences itself when it is back")
+                return
+            raise Failure(f"{self.first} could not be fenced ({failure}): take its power or its network away, and say "
+                          "--first-is-off") from None
+        self.is_fenced_by_us = True
+        self.answer = answer_in(said)
+        self.told.append(f"{self.first} is fenced and serves no longer")
+
+    # The copy.
+
+    def serve(self):
+        """The newest copy that opens is served. One that lacks writes is agreed to first."""
+        complete, refused = self.complete_copy(), []
+        for name in self.copies():
+            if name != complete:
+                self.agree_to_lose(name, refused)
+            try:
+                restored = self.restored(f"{self.folder}/copies/{name}")
+            except Failure as failure:
+                refused.append(f"{name} could not be opened: {failure}")
+                continue
+            self.told += [*refused, *restored.told().splitlines(), *self.enabled()]
+            return
+        raise Failure("; ".join(refused))
+
+    def complete_copy(self):
+        """The copy that has all that the first machine answered, or None. What is known of it is told."""
+        if not self.answer:
+            return None
+        for name in self.copies()[:standby.TURN]:
+            if standby.digest_of(f"{self.folder}/copies/{name}") == self.answer["sent"]:
+                self.told.append(f"its last copy, of after it had stopped, came as {name}: no write is missing")
+                return name
+        newest = self.copies()[0]
+        if self.answer["content"] and self.answer["content"] == summary_of(f"{self.folder}/copies/{newest}"):
+            self.told.append(f"its last copy did not come ({self.answer['why']}), but {newest} has all of its writes")
+            return newest
+        return None
+
+    def what_is_missing(self, name):
+        """How long and which writes a copy lacks, in words."""
+        since = moment_of(name)
+        until = moment_in(self.answer) if self.answer else datetime.datetime.utcnow()
+        told = [f"{name} lacks what was answered from {since:%Y-%m-%d %H:%M:%S} to {until:%H:%M:%S} UTC, "
+                f"{told_minutes(since, until)}"]
+        if self.answer and self.answer["why"]:
+            told.append(f"the last copy did not come ({self.answer['why']})")
+        if self.answer and self.answer["content"]:
+            rows = missing_rows(self.answer["content"], summary_of(f"{self.folder}/copies/{name}"))
+            told.append(f"missing are {', '.join(rows)}" if rows else "no row is missing by count")
+        else:
+            told.append("which writes these are is known on the first machine alone")
+        return "; ".join(told)
+
+    def agree_to_lose(self, name, refused):
+        """A person agrees to a copy that lacks writes, by a word or by the flag."""
+        missing = "; ".join([*refused, self.what_is_missing(name)])
+        if self.agreed:
+            self.told.append(missing)
+            return
+        if sys.stdin.isatty():
+            print(f"deploy/standby: {missing}", flush=True)
+            if input(f'Type "{WORD}" to open it all the same: ').strip() == WORD:
+                self.told.append(missing)
+                return
+        raise Failure(f"{missing}. To open it all the same, say {FLAG}")
+
+    def restored(self, copy):
+        """From the mark on the first machine is told so, whenever it asks. An old file of this machine never serves."""
+        self.mark_opened()
+        with contextlib.suppress(FileNotFoundError):
+            with open(self.desk.fence, encoding="utf-8") as file:
+                self.fence_before = file.read()
+            os.remove(self.desk.fence)
+        return Restore(self.desk, copy, migrate=True, another=True, starts_old=False).make()
+
+    def mark_opened(self):
+        path = f"{self.folder}/{standby.OPENED}"
+        said = {"at": f"{datetime.datetime.utcnow():%Y-%m-%dT%H:%M:%SZ}", "how": self.told[0], "fence": self.desk.fence}
+        with open(path, "w", encoding="utf-8") as file:
+            json.dump(said, file)
+        # (the user who takes the copies reads it)
+        os.chmod(path, 0o644)
+        self.is_marked = True
+        synced(path)
+        synced(self.folder)
+
+    def enabled(self):
+        """The desk and what looks after it begin at each start of this machine."""
+        try:
+            self.desk.enable()
+            return []
+        except Exception as error:  # (the desk serves; this is told, and undoes nothing)
+            return [f"the units are not enabled: {sentence_of(error)}"]
+
+    # Back.
+
+    def given_back(self):
+        """This machine does not serve, and the first one does again; who serves, in words."""
+        if self.is_marked:
+            with contextlib.suppress(FileNotFoundError):
+                os.remove(f"{self.folder}/{standby.OPENED}")
+        if self.fence_before is not None:
+            with open(self.desk.fence, "w", encoding="utf-8") as file:
+                file.write(self.fence_before)
+        if not self.is_fenced_by_us:
+            return "this machine does not serve, and nothing was done to the first machine" + (
+                ", which is off, as was said" if self.first_is_off else "")
+        try:
+            self.settings.told(self.first, *self.words("fence", "--undo"))
+            return f"{self.first} serves again"
+        except Failure as failure:
+            return (f"NOBODY SERVES, unless {self.first} comes back by itself ({failure}). Say there, as root: "
+                    f"{self.settings.script} {' '.join(self.words('fence', '--undo'))}")
+
+
+def answer_in(said):
+    """The first machine's answer. One of an earlier version says less."""
+    try:
+        found = json.loads(said.splitlines()[-1])
+        return {it: found[it] for it in ("at", "sent", "why", "content")}
+    except (ValueError, KeyError, TypeError, IndexError):
+        now = f"{datetime.datetime.utcnow():%Y-%m-%dT%H:%M:%SZ}"
+        return {"at": now, "sent": None, "why": "the first machine's scripts are of an earlier version", "content": None}
+
+
+def moment_in(answer):
+    return datetime.datetime.strptime(answer["at"], "%Y-%m-%dT%H:%M:%SZ")
+
+

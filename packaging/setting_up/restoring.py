@@ -1,0 +1,238 @@
+"""A lost machine comes back on a new one: the files of a machine's copy, and its backup in the place of a new database.
+
+All is looked at before anything is written: whether both are whole, of one agency and of one zone. What was put in place
+is taken away again where a later step of the setup fails.
+"""
+import contextlib
+import glob
+import json
+import os
+import re
+import subprocess
+import sys
+import tarfile
+import tempfile
+
+from setting_up import settings as told
+from setting_up import steps
+from setting_up.changes import Changes
+from setting_up.settings import Failure
+
+sys.path[:0] = [f"{steps.TOP}/deploy", f"{steps.TOP}/python"]
+from desk_ops import content, ending, keys, places, standby  # noqa: E402
+from desk_ops import restoring as copies  # noqa: E402
+from desk_tools import elsewhere, zones  # noqa: E402
+
+# What a machine's copy may have; all else in one is refused. A fence is that of the machine that was lost.
+KNOWN = re.compile(
+    r"(etc/(desk|ssl/desk|systemd/system/desk[^/]*\.d|nginx/conf\.d/desk\.conf)|var/log/desk"
+    r"|var/lib/(private/)?desk-(standing-orders|journal))(/.*)?"
+)
+LEFT_OUT = re.compile(r"etc/desk/(fenced|.*\.fenced|README)")
+NEEDED = "etc/desk/agency.json", "etc/desk/setup.json"
+OF_FIRST = "etc/desk/standby.conf"
+NO_MACHINE, FENCE = "none", "/etc/desk/fenced"
+
+
+def decrypted(path, folder, identity):
+    """The path of the copy in plain."""
+    name = os.path.basename(path)
+    try:
+        plain = f"{folder}/{name.removesuffix('.age').removesuffix('.gpg')}"
+        words = elsewhere.opening_words(name, identity, path, plain)
+    except elsewhere.Wrong as wrong:
+        raise Failure(str(wrong)) from None
+    if not words:
+        return path
+    ran = subprocess.run(words, capture_output=True, text=True, stdin=subprocess.DEVNULL, check=False)
+    if ran.returncode:
+        raise Failure(f"{path} could not be decrypted by this key: {' '.join(ran.stderr.split())[:200]}")
+    return plain
+
+
+class Machine:
+    """The files of a machine's copy, in a folder in which nothing but these is."""
+
+    def __init__(self, path, folder):
+        self.path, self.folder, self.names = path, f"{folder}/machine", []
+        if not os.path.isfile(path):
+            raise Failure(f"there is no {path}")
+        try:
+            with tarfile.open(path) as archive:
+                for member in archive:
+                    self.take(archive, member)
+        except (tarfile.TarError, EOFError, OSError) as error:
+            raise Failure(f"{path} is cut, or no copy of a machine: {str(error).splitlines()[0]}") from None
+        for name in NEEDED:
+            if name not in self.names:
+                raise Failure(f"{path} has no {name}: it is no copy of a machine, or of an earlier version; put its files "
+                              "back by hand, as BACKUPS.md says")
+
+    def take(self, archive, member):
+        name = os.path.normpath(member.name)
+        if member.isdir() or LEFT_OUT.fullmatch(name):
+            return
+        if not member.isfile() or not KNOWN.fullmatch(name):
+            raise Failure(f"{self.path} has {member.name}, which is no file of the desk's")
+        target = f"{self.folder}/{name}"
+        os.makedirs(os.path.dirname(target), mode=0o700, exist_ok=True)
+        with open(os.open(target, os.O_WRONLY | os.O_CREAT | os.O_TRUNC, member.mode & 0o755), "wb") as file:
+            file.write(archive.extractfile(member).read())
+        self.names.append(name)
+
+    def read(self, name):
+        """A JSON object of the copy; an empty one where it is not there."""
+        try:
+            with open(f"{self.folder}/{name}", encoding="utf-8") as file:
+                found = json.load(file)
+            return found if isinstance(found, dict) else {}
+        except FileNotFoundError:
+            return {}
+        except (OSError, ValueError):
+            raise Failure(f"{name} in {self.path} is no JSON object") from None
+
+    def rule(self):
+        """ZONE of the desk's unit there, or None."""
+        for path in sorted(glob.glob(f"{self.folder}/etc/systemd/system/desk.service.d/*.conf")):
+            with open(path, encoding="utf-8") as file:
+                found = re.findall(r"(?m)^Environment=ZONE=(\S*)$", file.read())
+            if found:
+                return found[-1]
+        return None
+
+    def put(self, changes):
+        """Each file in its place, with the owner root and the mode that it had."""
+        for name in self.names:
+            path = f"/{name}"
+            changes.note(path)
+            folder = os.path.dirname(path)
+            if not os.path.isdir(folder):
+                os.makedirs(folder, mode=0o700 if "/desk" in folder and "systemd" not in folder else 0o755)
+            with open(f"{self.folder}/{name}", "rb") as file:
+                text = file.read()
+            mode = os.stat(f"{self.folder}/{name}").st_mode & 0o777
+            with open(os.open(f"{path}.new", os.O_WRONLY | os.O_CREAT | os.O_TRUNC, mode), "wb") as file:
+                file.write(text)
+            os.replace(f"{path}.new", path)
+
+
+class Restoring:
+    """A backup, and the copy of a machine where one is named, for this machine. `given` are the words of desk-setup."""
+
+    def __init__(self, given):
+        if len(given.restore) > 2:
+            raise Failure("--restore takes a backup, and the copy of a machine: COPY [MACHINE.tar.gz]")
+        self.given, self.changes, self.folder = given, Changes(), tempfile.mkdtemp(prefix="desk-restore-", dir="/var/tmp")
+        self.machine = self.restored = self.content = None
+        self.lines = []
+
+    # Beforehand: nothing is changed.
+
+    def check(self):
+        """The backup and the machine's copy, looked at. The desk of this machine, if there is one, goes on."""
+        copy, *others = self.given.restore
+        self.need_machine(copy, others)
+        if self.given.second and (not others or others[0] == NO_MACHINE):
+            raise Failure("a second machine takes the copy of the first one: COPY MACHINE.tar.gz --second")
+        if self.given.second and os.path.exists(steps.FILE):
+            raise Failure(f"{steps.FILE} is there: this machine has a desk, and is no new second one")
+        self.copy = decrypted(copy, self.folder, self.given.identity)
+        try:
+            copies.check_backup(self.copy)
+            self.content = content.content_of(self.copy)
+            content.check_whole(self.copy)
+            if others and others[0] != NO_MACHINE:
+                self.machine = Machine(decrypted(others[0], self.folder, self.given.identity), self.folder)
+                if self.given.second:
+                    self.machine.names = [it for it in self.machine.names if it != OF_FIRST]
+                self.check_zones()
+                self.check_agency()
+        except ending.Failure as failure:
+            raise Failure(str(failure)) from None
+
+    def need_machine(self, copy, others):
+        """A machine's copy that is beside the backup is not forgotten."""
+        beside = re.sub(r"^desk-(.*?)\.db(\.age|\.gpg)?$", r"machine-\1.tar.gz\2", os.path.basename(copy))
+        path = os.path.join(os.path.dirname(copy), beside)
+        if not others and beside != os.path.basename(copy) and os.path.exists(path):
+            raise Failure(f"{path} is beside the backup: name it after the backup, or say {NO_MACHINE} there")
+
+    def check_zones(self):
+        named = {f"{it} of {self.machine.path}": zone for it in NEEDED if (zone := self.machine.read(it).get("zone"))}
+        if self.given.zone:
+            named["--zone"] = self.given.zone
+        rule = self.machine.rule()
+        said = zones.difference(named, {} if rule is None else {f"the unit in {self.machine.path}": rule})
+        if said:
+            raise Failure(f"{said}. By a wrong zone the desk counts wrong days: say which is right in a copy of these files")
+
+    def check_agency(self):
+        """What the machine's files name is in the backup: keys of the night's work, places, riders."""
+        with content.opened(self.copy) as tables:
+            there = {it: {number for number, in tables.execute(f"SELECT id FROM {it}")} for it in ("places", "riders")}
+        named = {"places": {it.get("id") for it in self.machine.read(NEEDED[0]).get("places", []) if isinstance(it, dict)}}
+        digests = {keys.digest_of(it) for it in self.keys_of_nights()}
+        strange = [it for it in named if named[it] and there[it] and not named[it] & there[it]]
+        if digests and not digests & self.content.callers:
+            strange.append("keys")
+        if strange and not self.given.another:
+            raise Failure(f"{self.machine.path} is of another agency than {self.copy}: none of its {' and '.join(strange)} is "
+                          "in the backup; if that is meant, say --another")
+
+    def keys_of_nights(self):
+        for path in sorted(glob.glob(f"{self.machine.folder}/etc/desk/keys/*")):
+            with contextlib.suppress(OSError, UnicodeDecodeError), open(path, encoding="ascii") as file:
+                yield keys.moving_keys.normalized(file.read().rstrip("\n"))
+
+    # What is put in place.
+
+    def put_files(self):
+        """The machine's files, and with them the answers of then, so that nothing is asked again."""
+        if self.machine:
+            self.machine.put(self.changes)
+            earlier = told.before()
+            for name in told.QUESTIONS:
+                if getattr(self.given, name, None) is None and name in earlier:
+                    setattr(self.given, name, earlier[name])
+            if not self.given.second:
+                self.check_second()
+
+    def check_second(self):
+        """The second machine may serve already: two desks would lose writes."""
+        if not os.path.exists("/etc/desk/standby.conf"):
+            return
+        try:
+            settings = standby.Settings()
+            machine, folder = settings.place(None)
+            is_opened = settings.told(machine, "state", folder) == standby.OPENED
+        except ending.Failure as failure:
+            self.lines.append(f"The second machine was not asked ({failure}). See that it does not serve.")
+            return
+        if is_opened:
+            raise Failure(f"{machine} serves this desk since it was opened there. Go back to this machine from there, as "
+                          "BACKUPS.md says, or fence it first")
+        self.lines.append("The second machine gets copies again once you enable desk-standby.timer and "
+                          "desk-standby-check.service.")
+
+    def put_copy(self, settings):
+        """The backup in the database's place. The desk is started later, with the rest."""
+        os.environ.update({"DESK": steps.PROGRAM, "START": "true", "ZONE_OF_UNIT": f"echo ZONE={told.rule_of(settings['zone'])}"})
+        if not os.path.isdir("/run/systemd/system"):
+            os.environ.update({"STOP": "true", "PROCESS": "echo 0"})
+        try:
+            self.restored = copies.Restore(places.Desk(), self.copy, migrate=True, another=self.given.another,
+                                           starts_old=False).make()
+        except ending.Failure as failure:
+            raise Failure(str(failure)) from None
+        kept = f"; what was there is in {self.restored.kept}" if self.restored.kept else ""
+        self.lines.append(f"The desk has {self.restored.content.told()}{kept}. The keys are those of then.")
+
+    def undo(self):
+        """This machine is as it was."""
+        if self.restored:
+            self.restored.put_back()
+        self.changes.undo()
+
+    def close(self):
+        self.changes.close()
+        subprocess.run(["rm", "-rf", self.folder], check=False)

@@ -1,0 +1,74 @@
+// How late the vans are, by what drivers told: their taps of the day, and the outcomes that the desk has. Nothing here is the desk's own, and a van
+// whose driver tells nothing is not late: it has no update.
+
+/** @typedef {import("./texts.js").Manifest} Manifest */
+/** @typedef {import("./texts.js").Stop} Stop */
+/** @typedef {import("./texts.js").Doing} Doing */
+/** @typedef {{ trip: number, kind: string, minute: number }} Tap */
+/** @typedef {{ trip: number, rider: number, vehicle: number, window: [number, number], due: number, past: number }} Risk due is when the van comes by its delay, past how long after
+ *   the window */
+/** @typedef {{ vehicle: number, last: Tap | null, delay: number, silent: number, risks: Risk[] }} Late minutes; silent is for how long there should have been an update */
+/** @typedef {{ trip: number, vehicle: number, from: number, to: number, arrived: number | null, wait: number, minute: number }} NoShow */
+/** @typedef {{ trip: number, vehicle: number, record: string, told: string, minute: number }} Disagreement */
+/** @typedef {{ vehicle: number, trip: number, text: string, minute: number }} Note */
+/** @typedef {{ vehicles: Map<number, Tap[]>, notes: Note[], noShows: NoShow[], disagreements: Disagreement[], calls: Record<string, Record<string, string>> }} Told */
+
+/** A van is called late from so many minutes on, and is without update where none came for so long. */
+export const LEAST_LATE = 5, SILENT = 20;
+const OLDEST = 180_000, ENDED = ["ridden", "missed-rider", "missed-operator"], AT_PICKUP = ["arrived", "aboard", "no-show", "missed"];
+
+const isNumber = (/** @type {any} */ it) => typeof it === "number" && Number.isFinite(it);
+const listIn = (/** @type {any} */ it) => (Array.isArray(it) ? it.filter((one) => typeof one === "object" && one !== null) : []);
+
+/** What people told of a day, out of the text of the file; null where there is none, or an old one, or one of another day.
+ * @param {string | null} text @param {string} day @param {number} now milliseconds @returns {Told | null}
+ */
+export function toldIn(text, day, now) {
+    try {
+        const it = JSON.parse(text ?? "");
+        if (it?.day !== day || !(now - Date.parse(it.made) < OLDEST)) return null;
+        const vehicles = Object.entries(it.vehicles ?? {}).map(([id, van]) => /** @type {[number, Tap[]]} */ ([Number(id), listIn(van?.taps).filter((tap) => isNumber(tap.trip)
+            && isNumber(tap.minute))]));
+        return { vehicles: new Map(vehicles), notes: listIn(it.notes), noShows: listIn(it.no_shows), disagreements: listIn(it.disagreements), calls: it.calls ?? {} };
+    } catch {
+        return null;
+    }
+}
+
+/** The stop at which a tap was made.
+ * @param {Stop[]} stops @param {Tap} tap
+ */
+const stopOf = (stops, { trip, kind }) => stops.findIndex((stop) => stop.trip === trip && (kind === "skipped" || stop.what === (AT_PICKUP.includes(kind) ? "PICK" : "DROP")));
+
+/** Whether a stop is done by what the desk has.
+ * @param {Stop} stop @param {Map<number, Doing>} doings
+ */
+const isEnded = ({ trip }, doings) => ENDED.includes(doings.get(Number(trip))?.state ?? "");
+
+/** How late one van is.
+ * @param {Manifest} manifest @param {Tap[]} taps @param {Map<number, Doing>} doings @param {number} now the minute of the day @returns {Late}
+ */
+export function lateOf({ vehicle, stops }, taps, doings, now) {
+    const trips = stops.filter(({ what }) => what !== "DEPOT"), known = [...taps].sort((a, b) => a.minute - b.minute).filter((tap) => stopOf(trips, tap) >= 0);
+    const last = known.at(-1) ?? null, reached = last ? stopOf(trips, last) : -1, isThere = last?.kind === "arrived";
+    const ended = trips.reduce((most, stop, at) => (isEnded(stop, doings) ? at : most), -1);
+    const next = trips.find((stop, at) => at > Math.max(reached, ended) || (at === reached && isThere && !isEnded(stop, doings)));
+    const overdue = next && !(isThere && trips[reached] === next) ? Math.max(0, now - next.at) : 0, told = last && reached >= ended ? Math.max(0, last.minute - trips[reached].at) : 0;
+    const isSilent = overdue > SILENT && (!last || now - last.minute > SILENT), delay = isSilent ? 0 : Math.max(overdue, next ? told : 0);
+    const risks = delay ? trips.slice(Math.max(reached, ended) + 1).flatMap((stop) => {
+        const { window, trip, rider, at, what } = stop, due = Math.max(now, at + delay);
+        return what === "PICK" && window && due > window[1] && !isEnded(stop, doings) ? [{ trip: Number(trip), rider: Number(rider), vehicle, window, due, past: due - window[1] }] : [];
+    }) : [];
+    return { vehicle, last, delay, silent: isSilent ? overdue : 0, risks };
+}
+
+/** What needs a person, the worst first.
+ * @param {Late[]} lates @param {Told | null} told @param {Map<number, Doing>} doings @param {Manifest[]} manifests
+ */
+export function attentionOf(lates, told, doings, manifests) {
+    const open = new Map(manifests.map(({ vehicle, stops }) => [vehicle, stops.filter(({ what, trip }) => what === "PICK" && doings.get(Number(trip))?.state === "no-word").length]));
+    const state = (/** @type {number} */ trip) => doings.get(trip)?.state ?? "";
+    return { late: lates.filter(({ delay }) => delay >= LEAST_LATE).sort((a, b) => b.delay - a.delay), risk: lates.flatMap(({ risks }) => risks).sort((a, b) => a.due - b.due),
+        silent: lates.filter(({ silent }) => silent > 0).sort((a, b) => b.silent - a.silent), noShows: (told?.noShows ?? []).filter(({ trip }) => !ENDED.includes(state(trip))),
+        disagreements: told?.disagreements ?? [], open: [...open].flatMap(([vehicle, count]) => (count ? [{ vehicle, count }] : [])) };
+}

@@ -1,0 +1,105 @@
+"""The lines of the record in order: the chained files, and behind them what is not chained yet."""
+
+from collections.abc import Callable, Iterator
+from pathlib import Path
+from typing import Any
+
+from desk_tools.journal import chain, lines, people
+from desk_tools.journal.lines import Line
+from desk_tools.journal.people import People
+from desk_tools.journal.places import Places
+
+CALLERS = b"/callers"
+Wanted = Callable[[bytes], bool]
+
+
+def first_place(file: chain.File) -> int:
+    """The place of a file's first entry; 0 where it has none."""
+    return next((it.place for it in chain.entries_of(file)), 0)
+
+
+def files_after(places: Places, after: int) -> list[chain.File]:
+    """The files that have entries behind that place."""
+    files = chain.files_in(places.record)
+    kept: list[chain.File] = []
+    for file in reversed(files):
+        kept.insert(0, file)
+        if after and first_place(file) <= after:
+            break
+    return kept
+
+
+class Reader:
+    """Reads a record behind a place. `unreadable` says how many lines could not be read so far."""
+
+    def __init__(self, places: Places, after: int = 0) -> None:
+        self.places, self.after = places, after
+        self.unreadable = 0
+        self.part, self.taken = 0, 0
+
+    def raw(self) -> Iterator[tuple[int, bytes]]:
+        """Each request's line with its place in the record; 0 where it is not chained yet."""
+        for file in files_after(self.places, self.after):
+            for entry in chain.entries_of(file):
+                note = entry.note
+                if note == "opened":
+                    self.part, self.taken = int(entry.fields.get("part", 0)), 0
+                elif note == "taken":
+                    self.part, self.taken = int(entry.fields.get("part", 0)), 0
+                elif not note:
+                    self.taken += 1
+                    if entry.place > self.after:
+                        yield entry.place, entry.line
+        for number, path in self.places.parts():
+            if number >= self.part:
+                yield from waiting(path, self.taken if number == self.part else 0)
+        yield from waiting(self.places.requests, 0)
+
+    def lines(self, wanted: Wanted = lambda raw: True) -> Iterator[Line]:
+        """Each line that is wanted and can be read."""
+        for place, raw in self.raw():
+            if wanted(raw):
+                line = lines.read(place, raw)
+                if line is not None:
+                    yield line
+                else:
+                    self.unreadable += 1
+
+
+def notes_of(places: Places, kind: str) -> Iterator[dict[str, Any]]:
+    """The notes of this tool of one kind."""
+    for file in chain.files_in(places.record):
+        for entry in chain.entries_of(file):
+            if entry.note == kind:
+                yield entry.fields
+
+
+def waiting(path: Path, taken: int) -> Iterator[tuple[int, bytes]]:
+    """The whole lines of a file that nginx wrote, behind the first few."""
+    if not path.exists():
+        return
+    with path.open("rb") as file:
+        for at, line in enumerate(file):
+            if at >= taken and line.endswith(b"\n"):
+                yield 0, line.rstrip(b"\n")
+
+
+def people_of(places: Places) -> People:
+    """The callers by the file, and by what the record has behind it."""
+    known = people.read(places.callers)
+    for line in Reader(places, known.upto).lines(lambda raw: CALLERS in raw):
+        known.put(line)
+        known.upto = max(known.upto, line.place)
+    return known
+
+
+def keep_people(places: Places) -> None:
+    """Brings callers.csv up to the last entry of the record."""
+    known = people.read(places.callers)
+    reader = Reader(places, known.upto)
+    for place, raw in reader.raw():
+        line = lines.read(place, raw) if place and CALLERS in raw else None
+        if line is not None:
+            known.put(line)
+        known.upto = max(known.upto, place)
+    people.keep(places.callers, known)

@@ -1,0 +1,133 @@
+"""How long each kind of record is kept, and what is removed when its time is over."""
+
+import logging
+from dataclasses import dataclass
+from datetime import date, timedelta
+from pathlib import Path
+
+from desk_tools.journal import chain, lines, taking
+from desk_tools.journal.lengths import DEFAULTS, days_of
+from desk_tools.journal.places import Places, Wrong
+
+LOG = logging.getLogger("journal")
+# However wrong a clock is, one night removes no more days of the record than this.
+MOST_DAYS, MOST_BEHIND = 31, 2
+
+
+@dataclass(frozen=True)
+class Rule:
+    """For how many days a kind is kept."""
+
+    kind: str
+    days: int
+    why: str
+
+
+def rules_of(agency: dict[str, object]) -> list[Rule]:
+    """The agency's rules, with the defaults where it has none."""
+    given = agency.get("retention", {})
+    if not isinstance(given, dict):
+        raise Wrong("retention: not an object")
+    for name in given:
+        if name not in DEFAULTS:
+            raise Wrong(f"retention.{name}: there is no such kind; there are {', '.join(DEFAULTS)}")
+    try:
+        return [
+            Rule(kind, days_of(kind, given[kind]) if kind in given else days, why)
+            for kind, (days, why) in DEFAULTS.items()
+        ]
+    except ValueError as error:
+        raise Wrong(f"retention: {error}") from None
+
+
+def age(path: Path, today: date) -> int:
+    """How many days ago the file was last changed, by its own moment."""
+    return (today - date.fromtimestamp(path.stat().st_mtime)).days
+
+
+def last_day(places: Places) -> date:
+    """The day of the record's last entry that has a moment."""
+    files = chain.files_in(places.record)
+    found = date.min
+    for entry in chain.entries_of(files[-1]) if files else []:
+        at = entry.fields.get("at")
+        if isinstance(at, str) and lines.MOMENT.fullmatch(at):
+            found = lines.moment_of(at).astimezone(places.zone).date()
+    return found
+
+
+def old_files(places: Places, rule: Rule, today: date) -> list[chain.File]:
+    """The closed files of the record whose time is over: the oldest ones only, so that the chain stays one piece."""
+    old: list[chain.File] = []
+    for file in chain.files_in(places.record)[:-1]:
+        if (
+            date.fromisoformat(file.day) >= today - timedelta(days=rule.days)
+            or len(old) == MOST_DAYS
+        ):
+            break
+        old.append(file)
+    return old
+
+
+def keep_journal(places: Places, rule: Rule, today: date, is_plan: bool) -> list[str]:
+    """Removes the oldest files of the record. The note of it comes first, and so the record says why they are gone."""
+    behind = (today - last_day(places)).days
+    if behind > MOST_BEHIND or behind < 0:
+        raise Wrong(
+            f"the clock says {today}, and the record's last entry is of {last_day(places)}: nothing is removed"
+        )
+    old = old_files(places, rule, today)
+    if not old or is_plan:
+        return [it.path.name for it in old]
+    *_, last = chain.entries_of(old[-1])
+    taking.note(
+        places,
+        "removed",
+        last_file=old[-1].number,
+        digest=last.chain,
+        files=[it.name for it in old],
+    )
+    for file in old:
+        file.path.unlink()
+    chain.synced(places.record)
+    return [it.path.name for it in old]
+
+
+def keep_files(
+    folder: Path, patterns: list[str], rule: Rule, today: date, is_plan: bool
+) -> list[str]:
+    """Removes the files of a folder whose time is over. The newest of each pattern stays in any case."""
+    gone = []
+    for pattern in patterns:
+        found = sorted(
+            (it for it in folder.glob(pattern) if it.is_file()), key=lambda it: it.stat().st_mtime
+        )
+        for path in found[:-1]:
+            if age(path, today) > rule.days:
+                gone.append(path.name)
+                if not is_plan:
+                    path.unlink()
+    return gone
+
+
+def keep(
+    places: Places, folders: dict[str, Path], rules: list[Rule], today: date, is_plan: bool
+) -> list[str]:
+    """Keeps to the rules; returns a sentence for each kind."""
+    patterns = {
+        "tally": ["tally*.log-*"],
+        "exports": ["*"],
+        "backups": ["desk-*.db", "machine-*.tar.gz", "before-*.db"],
+    }
+    said = []
+    for rule in rules:
+        if rule.kind == "journal":
+            gone = keep_journal(places, rule, today, is_plan)
+        elif rule.kind in folders and folders[rule.kind].is_dir():
+            gone = keep_files(folders[rule.kind], patterns[rule.kind], rule, today, is_plan)
+        else:
+            continue
+        verb = "would be removed" if is_plan else "removed"
+        named = f": {', '.join(gone)}" if gone else ""
+        said.append(f"{rule.kind}, kept {rule.days} days: {len(gone)} files {verb}{named}")
+    return said

@@ -1,0 +1,174 @@
+"""Whether the record holds: the first thing that does not, in words."""
+
+from dataclasses import dataclass, field
+from datetime import date, timedelta
+from pathlib import Path
+
+from desk_tools.journal import chain, lines, signing
+from desk_tools.journal.places import Places
+
+HOLDS, BROKEN, ENDS_EARLY = 0, 1, 3
+
+
+@dataclass
+class Seen:
+    """How far the record was read: the last entry, its digest, and what notes said of files that were removed."""
+
+    place: int = 0
+    chain: str = chain.FIRST
+    site: str = ""
+    day: str = ""
+    files: int = 0
+    requests: int = 0
+    unreadable: int = 0
+    last: str = ""
+    begins: str = ""
+    removed: dict[int, str] = field(default_factory=dict)
+    marks: dict[int, str] = field(default_factory=dict)
+
+
+def read_file(seen: Seen, file: chain.File, is_last: bool) -> None:
+    """Reads a file on; raises what does not hold."""
+    opened = closed = False
+    for at, raw in enumerate(chain.raw_lines(file), 1):
+        entry = chain.entry_of(raw)
+        if not raw.endswith(b"\n"):
+            raise chain.Broken(
+                f"{file.name}, line {at}: it has no end: torn by a fall of the power, or cut by hand"
+            )
+        if entry is None:
+            raise chain.Broken(f"{file.name}, line {at}: it is no entry")
+        note = entry.note
+        if at == 1:
+            begin(seen, file, entry)
+            opened = True
+        elif note == "opened":
+            raise chain.Broken(f"{file.name}, line {at}: the file is opened twice")
+        if closed:
+            raise chain.Broken(f"{file.name}, line {at}: an entry stands after the end of the file")
+        if entry.place != seen.place + 1:
+            raise chain.Broken(
+                f"{file.name}, line {at}: entry {entry.place} comes after entry {seen.place}"
+            )
+        if chain.digest(seen.chain, entry.place, entry.line) != entry.chain:
+            raise chain.Broken(
+                f"{file.name}, line {at}: entry {entry.place} was changed, or the one before it"
+            )
+        count(seen, entry, note)
+        closed = note == "closed"
+    if not opened:
+        raise chain.Broken(f"{file.name} is empty")
+    if not closed and not is_last:
+        raise chain.Broken(f"{file.name} has no end, and another file follows")
+    seen.files += 1
+
+
+def begin(seen: Seen, file: chain.File, entry: chain.Entry) -> None:
+    """The first entry of a file says what it goes on from."""
+    fields = entry.fields
+    if entry.note != "opened" or fields.get("file") != file.number or fields.get("day") != file.day:
+        raise chain.Broken(f"{file.name}, line 1: it is not the beginning of this file")
+    site, before = str(fields.get("site")), str(fields.get("before"))
+    if seen.files and site != seen.site:
+        raise chain.Broken(f"{file.name} is of {site}, and the files before it are of {seen.site}")
+    if not seen.files and file.number > 1:
+        seen.place, seen.chain, seen.begins = entry.place - 1, before, file.name
+    if before != seen.chain:
+        raise chain.Broken(f"{file.name} goes on from another file than the one before it")
+    seen.site, seen.day = site, file.day
+
+
+def count(seen: Seen, entry: chain.Entry, note: str) -> None:
+    """Counts an entry that holds."""
+    seen.place, seen.chain = entry.place, entry.chain
+    fields = entry.fields if note else {}
+    if note == "removed":
+        seen.removed[int(fields.get("last_file", 0))] = str(fields.get("digest"))
+    elif not note:
+        seen.requests += 1
+        seen.unreadable += entry.line.startswith(b'{"unreadable":')
+    if isinstance(fields.get("at"), str):
+        seen.last = str(fields["at"])
+    if entry.place in seen.marks and seen.marks[entry.place] != entry.chain:
+        raise chain.Broken(
+            f"entry {entry.place}: its digest is another one elsewhere: one of the two was changed"
+        )
+
+
+def marks_in(folder: Path) -> dict[int, str]:
+    """The digests that heads of a folder name, by the places of their entries."""
+    found = {}
+    for path in folder.glob("*"):
+        if path.suffix in (".head", ".now"):
+            words = path.read_text(encoding="utf-8", errors="replace").split()
+            if len(words) > 4 and words[-2] == "digest" and words[-3].isdecimal():
+                found[int(words[-3])] = words[-1]
+    return found
+
+
+def check_heads(places: Places, files: list[chain.File], public: Path | None) -> str:
+    """Each closed file has the head that was signed. Returns a sentence on what has no signature."""
+    unsigned = 0
+    for file in files:
+        path = places.record / f"{file.name}.head"
+        if not path.exists():
+            raise chain.Broken(f"{file.name} is closed and has no head")
+        text, signature = path.read_bytes(), path.with_name(f"{path.name}.sig")
+        if text != signing.head_of(file).text().encode():
+            raise chain.Broken(f"{file.name} has a head of other entries")
+        if not signature.exists() or public is None:
+            unsigned += 1
+        elif not signing.is_signed(text, signature, public):
+            raise chain.Broken(f"{file.name} has a signature that is not by {public.name}")
+    return f"; {unsigned} closed files have no signature that was looked at" if unsigned else ""
+
+
+def check_begin(seen: Seen, files: list[chain.File]) -> str:
+    """Whether files that are not there were removed by the rule."""
+    if files[0].number == 1:
+        return ""
+    first = next(iter(chain.entries_of(files[0])))
+    if seen.removed.get(files[0].number - 1) != first.fields.get("before"):
+        raise chain.Broken(
+            f"the record begins with {files[0].name}, and no entry says why the files before are gone"
+        )
+    return f"; files before {files[0].name} were removed by the rule of retention"
+
+
+def verify(
+    places: Places, public: Path | None, elsewhere: Path | None, today: date
+) -> tuple[int, str]:
+    """A status and one sentence."""
+    seen = Seen()
+    try:
+        marks = [marks_in(it) for it in (places.folder / "heads", elsewhere) if it and it.is_dir()]
+        for found in marks:
+            for place, digest in found.items():
+                if seen.marks.setdefault(place, digest) != digest:
+                    raise chain.Broken(
+                        f"entry {place} has two digests: the copy elsewhere names another one"
+                    )
+        files = chain.files_in(places.record)
+        for file, after in zip(files, files[1:]):
+            if after.number != file.number + 1:
+                raise chain.Broken(
+                    f"{after.name} comes after {file.name}: a file between them is missing"
+                )
+        if not files:
+            return ENDS_EARLY, f"there is no record in {places.record}"
+        for file in files:
+            read_file(seen, file, file is files[-1])
+        notes = check_begin(seen, files) + check_heads(places, files[:-1], public)
+    except chain.Broken as broken:
+        return BROKEN, f"the record does NOT hold: {broken}"
+    unreadable = f"; {seen.unreadable} lines could not be read" if seen.unreadable else ""
+    told = f"{seen.requests} requests in {seen.files} files, up to entry {seen.place}, {seen.day}{unreadable}{notes}"
+    far = max([*seen.marks, 0])
+    if far > seen.place:
+        return ENDS_EARLY, f"the record ends too early: {told}; a head names entry {far}"
+    if lines.moment_of(seen.last).astimezone(places.zone).date() < today - timedelta(days=1):
+        return (
+            ENDS_EARLY,
+            f"the record ends too early: {told}; the days from then to {today} are not there",
+        )
+    return HOLDS, f"the record holds: {told}"

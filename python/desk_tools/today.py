@@ -1,0 +1,350 @@
+"""Makes the file of the day for staff: what drivers and clerks told the site today, out of the site's log.
+
+It follows the log and writes the file anew every ten seconds, whole each time. The log may be rotated, cut short or
+missing; what is in it twice counts once. docs/SITE-FILES.md has the form of the file.
+"""
+
+import argparse
+import datetime
+import json
+import logging
+import os
+import shutil
+import sys
+import time
+import zoneinfo
+from collections import defaultdict
+from collections.abc import Iterable, Iterator
+from dataclasses import dataclass, field
+from pathlib import Path
+from typing import BinaryIO
+
+from desk_tools import event_log
+from desk_tools.event_log import LONGEST, Told, UnreadableLog
+
+log = logging.getLogger("today")
+EVERY = 10.0
+# How long a trip may be told before its day: what came before that is passed over.
+DAYS_KEPT = 16
+# How long a log that was rotated is still looked at, since the site may still write into it.
+SECONDS_AFTER = 300.0
+MARK = 64
+KINDS = {
+    "arrived": "arrived",
+    "aboard": "aboard",
+    "dropped": "dropped",
+    "left": "skipped",
+    "no-show-rider": "no-show",
+    "no-show-agency": "missed",
+}
+
+
+# Following a log.
+
+
+@dataclass
+class Followed:
+    """A log that is open, as far as it was read: what is left of a line without its end, and the bytes before it."""
+
+    file: BinaryIO
+    key: tuple[int, int]
+    rest: bytes = b""
+    mark: bytes = b""
+    replaced: float | None = None
+
+    def lines(self) -> Iterator[bytes]:
+        """The whole lines that came since the last look. A log that was cut short is read from its beginning."""
+        if self._is_another():
+            self.file.seek(0)
+            self.rest = self.mark = b""
+        while piece := self.file.read(1 << 20):
+            self.mark = (self.mark + piece)[-MARK:]
+            *whole, self.rest = (self.rest + piece).split(b"\n")
+            self.rest = self.rest[: LONGEST + 1]
+            yield from whole
+
+    def last_line(self) -> Iterator[bytes]:
+        """A line without its end, of a log that nobody writes any more."""
+        if self.rest:
+            yield self.rest
+        self.file.close()
+
+    def _is_another(self) -> bool:
+        """Whether the bytes before the place of reading are no longer those that were read."""
+        at = self.file.tell()
+        self.file.seek(max(0, at - len(self.mark)))
+        is_same = self.file.read(len(self.mark)) == self.mark
+        self.file.seek(at)
+        return not is_same
+
+
+@dataclass
+class Follower:
+    """Follows the log of this path over rotations."""
+
+    path: Path
+    files: list[Followed] = field(default_factory=list)
+    seen: set[tuple[int, int]] = field(default_factory=set)
+
+    def pass_over_rotated(self) -> None:
+        """Has logs that were rotated by now count as read."""
+        self.seen |= {key_of(os.stat(it)) for it in rotated(self.path, 0)}
+
+    def lines(self, now: float) -> Iterator[bytes]:
+        """The lines that came since the last look, at the moment `now` of a clock in seconds."""
+        self._look(now)
+        for it in [*self.files]:
+            yield from it.lines()
+            if it.replaced is not None and now - it.replaced >= SECONDS_AFTER:
+                yield from it.last_line()
+                self.files.remove(it)
+
+    def _look(self, now: float) -> None:
+        try:
+            file = open(self.path, "rb", buffering=0)
+        except FileNotFoundError:
+            return
+        key = key_of(os.fstat(file.fileno()))
+        if any(it.key == key for it in self.files):
+            file.close()
+            return
+        for it in self.files:
+            it.replaced = now if it.replaced is None else it.replaced
+        # (a log that was begun and rotated between two looks)
+        for path in rotated(self.path, 0):
+            between = key_of(os.stat(path))
+            if between not in self.seen and path.suffix != ".gz":
+                self.files.append(Followed(open(path, "rb", buffering=0), between, replaced=now))
+                self.seen.add(between)
+        self.files.append(Followed(file, key))
+        self.seen.add(key)
+
+
+def key_of(status: os.stat_result) -> tuple[int, int]:
+    """What makes a file the same file under another name."""
+    return status.st_dev, status.st_ino
+
+
+def rotated(path: Path, since: float) -> list[Path]:
+    """The logs that were this one before and have changed since a moment, the oldest first."""
+    names = [*path.parent.glob(f"{path.name}-*"), *path.parent.glob(f"{path.name}.*")]
+    found = [(it.stat().st_mtime, it) for it in names if it.is_file()]
+    return [it for changed, it in sorted(found) if changed >= since]
+
+
+# What is known.
+
+
+@dataclass
+class Known:
+    """The events of the last days, each once, and how many lines could not be read."""
+
+    events: dict[str, Told] = field(default_factory=dict)
+    broken: int = 0
+    first: datetime.date = datetime.date.min
+
+    def take(self, lines: Iterable[bytes]) -> bool:
+        """Takes the events of some lines; whether there was a new one."""
+        oldest, count = self.first.isoformat().encode(), len(self.events)
+        for line in lines:
+            if line[:10] < oldest and line[:2] == b"20":
+                continue
+            try:
+                told = event_log.told_of(line.rstrip(b"\r"))
+            except ValueError as error:
+                self.broken += 1
+                if self.broken <= 10:
+                    log.warning("a line of the log can't be read: %s", error)
+                continue
+            self.events.setdefault(told.id, told)
+        return len(self.events) > count
+
+    def drop_before(self, first: datetime.date) -> None:
+        """Forgets what was told before a day."""
+        self.first = first
+        self.events = {key: it for key, it in self.events.items() if it.received.date() >= first}
+
+
+# The file.
+
+
+def minute_of(told: Told, zone: datetime.tzinfo) -> int:
+    """The minute at which something was, by the agency's clock: as it was told, and never after the site had it."""
+    return 60 * moment_of(told, zone).hour + moment_of(told, zone).minute
+
+
+def moment_of(told: Told, zone: datetime.tzinfo) -> datetime.datetime:
+    """When something was, by the agency's clock; a phone whose clock is ahead tells of no future."""
+    return min(told.moment("at"), told.received.astimezone(zone).replace(tzinfo=None))
+
+
+def day_of(known: Known, today: datetime.date, zone: datetime.tzinfo) -> dict[str, object]:
+    """What was told of a day, as the file has it but for `made`."""
+    events = sorted(known.events.values(), key=lambda it: _at(it, zone))
+    of: dict[str, list[Told]] = defaultdict(list)
+    for it in events:
+        if _is_of(it, today, zone):
+            of[it.kind].append(it)
+    return {
+        "day": today.isoformat(),
+        "vehicles": _taps(of["stops"], zone),
+        "notes": [_row(it, zone, "vehicle", "trip", "text") for it in of["notes"]],
+        "bookings": {
+            str(it.fields["trip"]): {
+                name: it.fields[name] for name in ("mode", "minute", "from", "to")
+            }
+            for it in of["bookings"]
+        },
+        "no_shows": [
+            _row(it, zone, "trip", "vehicle", "from", "to", "arrived", "wait")
+            for it in of["no-shows"]
+        ],
+        "disagreements": [
+            _row(it, zone, "trip", "vehicle", "record", "told") for it in of["disagreements"]
+        ],
+        "calls": _calls(of["calls"]),
+    }
+
+
+def _taps(
+    events: list[Told], zone: datetime.tzinfo
+) -> dict[str, dict[str, list[dict[str, object]]]]:
+    """The taps of each van, in the order in which they were."""
+    found: dict[str, dict[str, list[dict[str, object]]]] = defaultdict(lambda: {"taps": []})
+    for it in events:
+        kind = KINDS[str(it.fields["event"])]
+        found[str(it.fields["vehicle"])]["taps"].append(
+            {"trip": it.fields["trip"], "kind": kind, "minute": minute_of(it, zone)}
+        )
+    return found
+
+
+def _calls(events: list[Told]) -> dict[str, dict[str, object]]:
+    """What was ticked last for each trip of each list."""
+    found: dict[str, dict[str, object]] = defaultdict(dict)
+    for it in events:
+        found[str(it.fields["list"])][str(it.fields["trip"])] = it.fields["result"]
+    return found
+
+
+def _at(told: Told, zone: datetime.tzinfo) -> tuple[datetime.datetime, datetime.datetime]:
+    at = told.fields.get("at")
+    received = told.received.astimezone(zone).replace(tzinfo=None)
+    return (moment_of(told, zone) if at else received), received
+
+
+def _is_of(told: Told, today: datetime.date, zone: datetime.tzinfo) -> bool:
+    """Whether the file of a day has an event: bookings of that day and later ones, all calls, and what was that day."""
+    if told.kind == "calls":
+        return True
+    day = told.fields.get("day")
+    if isinstance(day, datetime.date):
+        return day >= today if told.kind == "bookings" else day == today
+    return told.fields.get("at") is not None and moment_of(told, zone).date() == today
+
+
+def _row(told: Told, zone: datetime.tzinfo, *names: str) -> dict[str, object]:
+    return {**{name: told.fields[name] for name in names}, "minute": minute_of(told, zone)}
+
+
+# The work.
+
+
+def zone_in(path: Path | None) -> datetime.tzinfo:
+    """The zone of the agency's file, or this machine's where it names none."""
+    try:
+        name = json.loads(path.read_text(encoding="utf-8")).get("zone") if path else None
+        return zoneinfo.ZoneInfo(name) if name else _of_machine()
+    except (OSError, ValueError, AttributeError, TypeError, zoneinfo.ZoneInfoNotFoundError) as why:
+        log.warning("%s names no zone (%s): days are those of this machine", path, why)
+        return _of_machine()
+
+
+def _of_machine() -> datetime.tzinfo:
+    return datetime.datetime.now().astimezone().tzinfo or datetime.timezone.utc
+
+
+def write_whole(path: Path, text: str, group: str | None) -> None:
+    """Writes a file so that whoever reads it has the one before or this one. Its group may read it."""
+    new = path.with_name(f".{path.name}.new")
+    with open(
+        os.open(new, os.O_WRONLY | os.O_CREAT | os.O_TRUNC, 0o640), "w", encoding="utf-8"
+    ) as file:
+        file.write(text)
+    if group:
+        shutil.chown(new, group=group)
+    os.replace(new, path)
+
+
+@dataclass
+class Work:
+    """One agency's log and file."""
+
+    follower: Follower
+    output: Path
+    agency: Path | None = None
+    group: str | None = None
+    known: Known = field(default_factory=Known)
+    made_for: tuple[datetime.date, str] | None = None
+    told: dict[str, object] = field(default_factory=dict)
+
+    def begin(self, now: datetime.datetime) -> None:
+        """Reads what was told in the last days, also out of logs that were rotated since."""
+        self.known.drop_before(now.date() - datetime.timedelta(days=DAYS_KEPT))
+        since = now.timestamp() - DAYS_KEPT * 86_400
+        for path in rotated(self.follower.path, since):
+            try:
+                self.known.take(event_log.lines_in(path))
+            except UnreadableLog as error:
+                log.warning("%s", error)
+        self.follower.pass_over_rotated()
+
+    def step(self, now: datetime.datetime) -> None:
+        """Reads what is new, and writes the file."""
+        zone = zone_in(self.agency)
+        today = now.astimezone(zone).date()
+        is_new = self.known.take(self.follower.lines(now.timestamp()))
+        if is_new or self.made_for != (today, str(zone)):
+            self.known.drop_before(today - datetime.timedelta(days=DAYS_KEPT))
+            self.told = day_of(self.known, today, zone)
+            self.made_for = today, str(zone)
+        made = now.astimezone(datetime.timezone.utc).strftime("%Y-%m-%dT%H:%M:%SZ")
+        text = json.dumps({"day": today.isoformat(), "made": made, **self.told}, ensure_ascii=False)
+        write_whole(self.output, text + "\n", self.group)
+
+
+def _now() -> datetime.datetime:
+    return datetime.datetime.now(datetime.timezone.utc)
+
+
+def main(arguments: list[str]) -> int:
+    """Follows the log until it is ended. Its status is 1 where the log or the file can't be had with --once."""
+    reader = argparse.ArgumentParser("deploy/today", description=__doc__)
+    reader.add_argument("log", type=Path, metavar="LOG", help="the site's log of what it was told")
+    reader.add_argument("output", type=Path, metavar="FILE", help="the file for staff")
+    reader.add_argument("--agency", type=Path, metavar="FILE", help="agency.json, for its zone")
+    reader.add_argument("--group", help="the group that may read the file, such as www-data")
+    reader.add_argument("--once", action="store_true", help="write the file once")
+    words = reader.parse_args(arguments)
+    logging.basicConfig(format="deploy/today: %(message)s")
+    work = Work(Follower(words.log), words.output, words.agency, words.group)
+    is_begun, said = False, ""
+    while True:
+        try:
+            if not is_begun:
+                work.begin(_now())
+                is_begun = True
+            work.step(_now())
+            said = ""
+        except (OSError, LookupError) as error:
+            why = f"{getattr(error, 'filename', None) or words.output}: {getattr(error, 'strerror', None) or error}"
+            if why != said:
+                log.error("%s", why)
+            said = why
+        if words.once:
+            return 1 if said else 0
+        time.sleep(EVERY)
+
+
+if __name__ == "__main__":
+    sys.exit(main(sys.argv[1:]))

@@ -1,0 +1,103 @@
+"""The sentences of a refusal, in English and in Spanish."""
+
+from collections.abc import Mapping
+from dataclasses import dataclass
+
+from desk_tools.why.reasons import Reason, Refusal
+
+LANGUAGES = ("en", "es")
+
+
+@dataclass(frozen=True)
+class Facts:
+    """What a copy and the agency's file tell of vehicles: their names, and when each has to be back, in minutes."""
+
+    names: Mapping[int, str]
+    closes: Mapping[int, int]
+
+
+NO_FACTS = Facts({}, {})
+
+TEXTS: dict[str, dict[str, str]] = {
+    "en": {
+        "title": "Why there was no vehicle for this trip",
+        "no-way": "The driving times have no way at all between the two places.",
+        "none": "No vehicle was on duty on that day.",
+        "vehicle": "Van {number}",
+        "named": "{name} (van {number})",
+        "back-by": " It has to be back by {closes}.",
+        "one": "{who}: 1 way to put the trip into its day was tried. {because}",
+        "many": "{who}: {places} ways to put the trip into its day were tried. {because}",
+        "in": "In {places} of them {what}.",
+        "alone": "In that one {what}.",
+        "all": "In all of them {what}.",
+        "pickup": "it would reach the pickup at {minute} at the earliest, after the hour in which the rider can be picked up",
+        "drop": "it would reach the drop-off at {minute} at the earliest, after the minute by which the rider has to be there",
+        "others": "it would reach another rider's stop at {minute} at the earliest, after the time promised to that rider",
+        "hours": "it would be back at {minute} at the earliest, after its day has ended",
+        "load": "it would have too few seats or wheelchair places at some stop",
+        "no-road": "the driving times have no way on from some stop",
+        "length": "its day would have too many stops",
+        "not-said": "What this does not say",
+        "not-said-1": "It keeps every stop that is planned in its van and in its order. It does not say "
+        "whether another plan of the day would have had room.",
+        "not-said-2": "It does not look at another time, or at a van that was not on duty.",
+        "not-said-3": "It is still a denial, for which the agency answers (49 CFR 37.131(f)).",
+        "log": "The log, line by line",
+    },
+    "es": {
+        "title": "Por qué no hubo vehículo para este viaje",
+        "no-way": "En la tabla de recorridos no hay ningún camino entre los dos lugares.",
+        "none": "Ningún vehículo estaba en servicio ese día.",
+        "vehicle": "La van {number}",
+        "named": "{name} (van {number})",
+        "back-by": " Tiene que regresar a más tardar a las {closes}.",
+        "one": "{who}: se probó 1 manera de poner el viaje en su día. {because}",
+        "many": "{who}: se probaron {places} maneras de poner el viaje en su día. {because}",
+        "in": "En {places} de ellas {what}.",
+        "alone": "En esa {what}.",
+        "all": "En todas {what}.",
+        "pickup": "llegaría a recoger al pasajero a las {minute} como muy temprano, después de la hora en que se le puede recoger",
+        "drop": "llegaría al destino a las {minute} como muy temprano, después del minuto en que el pasajero tiene que estar allí",
+        "others": "llegaría a la parada de otro pasajero a las {minute} como muy temprano, después de la hora prometida a ese pasajero",
+        "hours": "regresaría a las {minute} como muy temprano, cuando su día ya terminó",
+        "load": "le faltarían asientos o espacios para silla de ruedas en alguna parada",
+        "no-road": "la tabla de recorridos no tiene camino desde alguna parada",
+        "length": "su día tendría demasiadas paradas",
+        "not-said": "Lo que esto no dice",
+        "not-said-1": "Deja cada parada planeada en su van y en su orden. No dice si otro plan del día habría tenido lugar.",
+        "not-said-2": "No mira otra hora, ni una van que no estaba en servicio.",
+        "not-said-3": "Sigue siendo una negativa, de la que la agencia responde (49 CFR 37.131(f)).",
+        "log": "El registro, línea por línea",
+    },
+}
+
+
+def clock(minute: int, language: str) -> str:
+    """A minute of the day on a clock of twelve hours; one after midnight says so."""
+    half = ("AM", "PM") if language == "en" else ("a. m.", "p. m.")
+    later = (
+        {"en": " of the next day", "es": " del día siguiente"}[language] if minute >= 1440 else ""
+    )
+    return f"{minute // 60 % 12 or 12}:{minute % 60:02} {half[minute % 1440 >= 720]}{later}"
+
+
+def sentences(refusal: Refusal, facts: Facts, language: str) -> str:
+    """What kept a vehicle from taking the trip."""
+    texts = TEXTS[language]
+    name = facts.names.get(refusal.vehicle)
+    who = texts["named" if name else "vehicle"].format(name=name, number=refusal.vehicle)
+    because = " ".join(_because(it, refusal.places, texts, language) for it in refusal.reasons)
+    closes = facts.closes.get(refusal.vehicle)
+    if closes is not None and any(it.kind == "hours" for it in refusal.reasons):
+        because += texts["back-by"].format(closes=clock(closes, language))
+    return texts["one" if refusal.places == 1 else "many"].format(
+        who=who, places=refusal.places, because=because
+    )
+
+
+def _because(reason: Reason, places: int, texts: Mapping[str, str], language: str) -> str:
+    minute = "" if reason.minute is None else clock(reason.minute, language)
+    what = texts[reason.kind].format(minute=minute)
+    frame = "alone" if places == 1 else "all" if reason.places == places else "in"
+    return texts[frame].format(places=reason.places, what=what)

@@ -1,0 +1,183 @@
+"""What is counted is counted: from a click to bin/tally's row, over a site that is away, reloads, windows and no room."""
+import csv
+import io
+import subprocess
+
+from booking import BOOK, begin, results, wish
+from browser import pause
+from checks import check, holds, same
+from database import ROOT, Trouble, until
+from people import EVERY_DAY
+
+VANS = 1
+FULL, BEFORE, ASKING = "2025-03-19", "2025-03-13", 1002
+COUNT = """
+const [kind, fields] = arguments;
+import("/parts/tally.js").then((tally) => tally.count(kind, fields));
+"""
+QUEUE = """
+const done = arguments[0], opened = indexedDB.open("desk-counts", 1);
+opened.onsuccess = () => {
+    const database = opened.result;
+    if (!database.objectStoreNames.length) return done([]);
+    const all = database.transaction("events").objectStore("events").getAll();
+    all.onsuccess = () => { database.close(); done(all.result); };
+};
+opened.onupgradeneeded = () => opened.transaction.abort();
+opened.onerror = () => done([]);
+"""
+NO_DATABASE = "Object.defineProperty(window, 'indexedDB', { value: undefined });"
+
+
+def rows(at, kind):
+    """What bin/tally says of the site's log, and what it names as broken."""
+    ran = subprocess.run([f"{ROOT}/bin/tally", kind, f"{at.folder}/tally.log"], capture_output=True, text=True)
+    if ran.returncode or ran.stderr:
+        raise Trouble(f"bin/tally: {ran.stderr}")
+    return list(csv.DictReader(io.StringIO(ran.stdout)))
+
+
+def lines(at, part):
+    """The lines of the site's log that have this in them."""
+    with open(f"{at.folder}/tally.log", encoding="utf-8") as log:
+        return [line for line in log.read().splitlines() if part in line]
+
+
+def waiting(at):
+    return at.browser.driver.execute_async_script(QUEUE)
+
+
+def count(at, kind, **fields):
+    at.browser.script(COUNT, kind, fields)
+
+
+def denial(at, minute):
+    count(at, "denials", day=FULL, minute=minute, rule="no vehicle")
+
+
+def fill_the_van(at):
+    """The one van is small and on the road for an hour that day, and others book until it takes no trip."""
+    small = {"id": 1, "from_day": FULL, "days": EVERY_DAY, "depot": 5, "capacity": 1, "opens": 520, "closes": 580,
+             "duration": 60, "chairs": 0}
+    same("a small van", {"done": True}, at.town.post("dispatcher", "/vehicles", small))
+    for rider in (1003, 1005, 1006, 1001, 1003, 1005, 1006, 1001):
+        fields = {"rider": rider, "day": FULL, "wish": 540, "from": 3, "to": 9, "attendant": False, "companions": 0}
+        if at.town.post("third clerk", "/trips", fields) == {"denied": "no vehicle"}:
+            return
+    raise Trouble("the van is not full")
+
+
+@check
+def a_capacity_denial_goes_from_the_click_to_the_row_of_bin_tally(at):
+    fill_the_van(at)
+    begin(at, str(ASKING))
+    wish(at, start="school", goal="senior", day=FULL, wish="9 am")
+    at.browser.press(BOOK)
+    told = results(at, 1)
+    holds(f"it is denied: {told}", "No vehicle" in told)
+    until(lambda: f"the log has no denial; the browser keeps {waiting(at)}",
+          lambda: lines(at, f"day={FULL}&minute=540&rule=no"))
+    row = next(it for it in rows(at, "denials") if it["month"] == FULL[:7] and it["channel"] == "page")
+    same("the row", ("1", "1"), (row["no vehicle"], row["all"]))
+    same("whose key told it", ["office"], [it.split("\t")[3] for it in lines(at, "/tally/denials")])
+    until("the event has left the browser", lambda: not waiting(at))
+
+
+@check
+def a_count_outlives_a_site_that_is_away_and_a_page_that_is_loaded_anew(at):
+    begin(at)
+    with at.town.middle.gone():
+        denial(at, 601)
+        until("it is kept", lambda: [it for it in waiting(at) if "minute=601" in it["path"]])
+        pause(0.5)
+        same("nothing in the log", [], lines(at, "minute=601"))
+        same("the site's answer is no fault of the count", [None], [it["refused"] for it in waiting(at)])
+    at.browser.reload()
+    until("it is in the log", lambda: lines(at, "minute=601"))
+    until("it has left the browser", lambda: not waiting(at))
+    same("it stands there once", 1, len(lines(at, "minute=601")))
+
+
+@check
+def a_count_that_is_sent_too_often_waits_for_its_turn(at):
+    begin(at)
+    at.browser.script("""
+        const fetched = window.fetch;
+        window.tries = [];
+        window.fetch = (path, options) => {
+            if (!String(path).startsWith("/tally/")) return fetched(path, options);
+            window.tries.push(performance.now());
+            return window.tries.length < 2 ? Promise.resolve(new Response("", { status: 429 })) : fetched(path, options);
+        };""")
+    denial(at, 602)
+    until("it is in the log", lambda: lines(at, "minute=602"))
+    tries = at.browser.script("return window.tries")
+    holds(f"there is a pause: {tries}", len(tries) == 2 and tries[1] - tries[0] >= 1_900)
+
+
+@check
+def what_the_site_refuses_stays_and_staff_read_it(at):
+    begin(at)
+    count(at, "denials", day=FULL, minute=603, rule="no van")
+    at.browser.sees("1 count could not be kept: a denial (rule)")
+    at.browser.script("""import("/parts/tally.js").then((tally) => tally.countPath(`/tally/stops?id=${"b".repeat(26)}&more=1`));""")
+    at.browser.sees("2 counts could not be kept", "a stop (400)")
+    at.browser.reload()
+    at.browser.sees("2 counts could not be kept")
+    same("they wait", {"400", "rule"}, {it["refused"] for it in waiting(at)})
+    denial(at, 604)
+    until("others go on", lambda: lines(at, "minute=604"))
+    same("nothing of it in the log", [], lines(at, "minute=603"))
+    at.browser.sign_in(at.keys["rider 1001"], "rider")
+    at.browser.settled()
+    at.browser.sees_no("could not be kept")
+    at.browser.fresh()
+
+
+@check
+def two_windows_send_a_count_once(at):
+    begin(at)
+    with at.browser.second_window() as (first, second):
+        second()
+        begin(at, holder="second clerk")
+        with at.town.middle.gone():
+            denial(at, 605)
+            until("it is kept", lambda: waiting(at))
+            first()
+            denial(at, 606)
+            until("both are kept", lambda: len(waiting(at)) == 2)
+        for window in (first, second):
+            window()
+            at.browser.script("window.dispatchEvent(new Event('online'))")
+        until("both have left the browser", lambda: not waiting(at))
+        same("each stands in the log once", [1, 1], [len(lines(at, f"minute={it}")) for it in (605, 606)])
+        first()
+
+
+@check
+def a_browser_without_a_database_counts_and_says_what_waits(at):
+    made = at.browser.devtools("Page.addScriptToEvaluateOnNewDocument", source=NO_DATABASE)
+    try:
+        begin(at)
+        denial(at, 607)
+        until("it is in the log", lambda: lines(at, "minute=607"))
+        with at.town.middle.gone():
+            denial(at, 608)
+            at.browser.sees("Leave this window open: 1 count waits in it.")
+        at.browser.script("window.dispatchEvent(new Event('online'))")
+        until("it is in the log", lambda: lines(at, "minute=608"))
+        at.browser.sees_no("Leave this window open")
+    finally:
+        at.browser.devtools("Page.removeScriptToEvaluateOnNewDocument", identifier=made["identifier"])
+
+
+@check
+def a_cancel_is_told_once_and_a_denied_one_is_not(at):
+    trip = at.town.book(1006, BEFORE, 600, 3, 7)
+    begin(at)
+    at.browser.script("""
+        const [trip] = arguments;
+        import("/parts/tally.js").then((tally) => tally.cancelTrip(trip, "rider").then(() => tally.cancelTrip(trip, "rider")));
+        """, trip)
+    until("it is in the log", lambda: lines(at, f"/tally/cancellations\tid=") and not waiting(at))
+    same("once", 1, len([it for it in lines(at, "/tally/cancellations") if f"trip={trip}&by=rider" in it]))

@@ -1,0 +1,65 @@
+// How late a van is by what was told, and what needs a person.
+import assert from "node:assert/strict";
+import test from "node:test";
+import { attentionOf, lateOf, toldIn } from "../../pages/parts/lateness.js";
+
+const pick = (trip, at, from = at - 5) => ({ line: "", what: "PICK", trip, rider: 1000 + trip, place: 1, at, window: [from, from + 30], load: 1, people: 1, wheelchairs: 0 });
+const drop = (trip, at) => ({ line: "", what: "DROP", trip, rider: 1000 + trip, place: 2, at, window: null, load: 0, people: 1, wheelchairs: 0 });
+const depot = (at) => ({ line: "", what: "DEPOT", place: 5, at, load: 0, people: 0, wheelchairs: 0 });
+const VAN = { vehicle: 9, day: "2026-03-10", lines: [], text: "", stops: [depot(500), pick(1, 540), drop(1, 560), pick(2, 580), drop(2, 600), pick(3, 660), drop(3, 680), depot(700)] };
+const late = (taps, now, doings = new Map()) => lateOf(VAN, taps, doings, now);
+const tap = (trip, kind, minute) => ({ trip, kind, minute });
+
+test("before the first stop nothing is late", () => {
+    assert.deepEqual([late([], 530).delay, late([], 530).silent], [0, 0]);
+});
+
+test("a stop that is overdue makes the van late, and after a while without update", () => {
+    assert.deepEqual([late([], 552).delay, late([], 552).silent], [12, 0]);
+    assert.deepEqual([late([], 570).delay, late([], 570).silent], [0, 30]);
+});
+
+test("a tap tells the delay, which is carried on to the coming windows", () => {
+    const it = late([tap(1, "arrived", 560), tap(1, "aboard", 564)], 566);
+    assert.equal(it.delay, 24);
+    assert.deepEqual(it.risks.map(({ trip, due, past }) => [trip, due, past]), []);
+    const worse = late([tap(1, "aboard", 575)], 576);
+    assert.deepEqual([worse.delay, worse.risks.map(({ trip, due, past }) => [trip, due, past])], [35, [[2, 615, 10], [3, 695, 10]]]);
+});
+
+test("a van that caught up is not late", () => {
+    assert.equal(late([tap(1, "aboard", 575), tap(1, "dropped", 580), tap(2, "arrived", 578), tap(2, "aboard", 579), tap(2, "dropped", 600)], 601).delay, 0);
+});
+
+test("who waits at a stop is not overdue there", () => {
+    assert.equal(late([tap(1, "arrived", 538)], 545).delay, 0);
+});
+
+test("an outcome of the desk tells as a tap does, and ended trips are at no risk", () => {
+    const doings = new Map([[1, { state: "ridden", minutes: 0 }], [2, { state: "missed-rider", minutes: 0 }]]);
+    assert.deepEqual([late([], 650, doings).delay, late([], 650, doings).silent], [0, 0]);
+    assert.deepEqual(late([tap(1, "aboard", 620)], 621, new Map([[3, { state: "cancelled", minutes: 0 }], [2, { state: "ridden", minutes: 0 }]])).risks, []);
+});
+
+test("taps of other trips, and taps out of order, change nothing", () => {
+    assert.equal(late([tap(99, "aboard", 800)], 545).last, null);
+    assert.equal(late([tap(1, "dropped", 562), tap(1, "aboard", 541)], 563).delay, 2);
+});
+
+test("a file that is old, of another day, or broken is none", () => {
+    const text = JSON.stringify({ day: "2026-03-10", made: "2026-03-10T15:00:00Z", vehicles: { 9: { taps: [tap(1, "aboard", 541), { trip: "x" }] }, 10: {} }, notes: null });
+    const now = Date.parse("2026-03-10T15:00:20Z");
+    assert.deepEqual(toldIn(text, "2026-03-10", now).vehicles.get(9), [tap(1, "aboard", 541)]);
+    assert.equal(toldIn(text, "2026-03-11", now), null);
+    assert.equal(toldIn(text, "2026-03-10", now + 200_000), null);
+    for (const broken of [null, "", "{", "[]", "null"]) assert.equal(toldIn(broken, "2026-03-10", now), null);
+});
+
+test("what needs a person has the worst first", () => {
+    const lates = [{ vehicle: 1, delay: 8, silent: 0, risks: [], last: null }, { vehicle: 2, delay: 24, silent: 0, risks: [], last: null }, { vehicle: 3, delay: 0, silent: 46, risks: [], last: null },
+        { vehicle: 4, delay: 4, silent: 0, risks: [], last: null }];
+    const doings = new Map([[1, { state: "no-word", minutes: 20 }], [2, { state: "missed-rider", minutes: 0 }]]);
+    const told = { vehicles: new Map(), notes: [], noShows: [{ trip: 1 }, { trip: 2 }], disagreements: [{ trip: 3 }], calls: {} };
+    const it = attentionOf(lates, told, doings, [VAN]);
+    assert.deepEqual([it.late.map(({ vehicle }) => vehicle), it.silent.length, it.noShows.length, it.disagreements.length, it.open], [[2, 1], 1, 1, 1, [{ vehicle: 9, count: 1 }]]);
+});

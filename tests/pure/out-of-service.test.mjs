@@ -1,0 +1,258 @@
+// The plan of a vehicle that is out of service, over a small desk of its own that can fail at each request.
+import assert from "node:assert/strict";
+import test from "node:test";
+import * as plans from "../../pages/parts/out-of-service.js";
+
+const DAY = "2026-03-10", NEXT = "2026-03-17", VAN = 9;
+const SETTINGS = { days: [1, 2, 3, 4, 5], depot: 5, capacity: 6, chairs: 2, opens: 300, closes: 1200, duration: 700 };
+
+/** A trip of a rider with a window of half an hour. */
+const trip = (number, rider, begins, more = {}) => ({ trip: number, day: DAY, vehicle: VAN, wish: begins - 5, from: 1, to: 2, by: null, attendant: false, companions: 0,
+    window_from: begins, window_to: begins + 30, fare: 350, due: 350, status: "booked", ...more });
+
+/** A desk of some riders' trips. fails(count, done) may break a request: it throws nothing, and gives a denial. */
+function makeDesk(lists, { fails = () => null, booked = () => undefined } = {}) {
+    const riders = new Map(Object.entries(lists).map(([rider, trips]) => [Number(rider), trips.map((it) => ({ ...it }))]));
+    const all = () => [...riders.values()].flat();
+    let next = Math.max(...all().map((it) => it.trip)) + 1, count = 0;
+    const versions = [], counted = [], keptPlans = [], first = {};
+    const write = (act) => {
+        const broken = fails(count += 1);
+        if (broken === "before") return { denied: "left" };
+        const reply = act();
+        return broken === "after" ? { denied: "left" } : reply;
+    };
+    const inVan = () => all().filter((it) => it.vehicle === VAN && it.status === "booked");
+    const ports = {
+        tripsOf: async (rider) => ({ value: { trips: (riders.get(rider) ?? []).map((it) => ({ ...it })) } }),
+        cancel: async (number) => write(() => {
+            const it = all().find((one) => one.trip === number);
+            if (it.status !== "booked") return { denied: "desk.over" };
+            it.status = "cancelled";
+            return { value: {} };
+        }),
+        book: async (fields) => write(() => {
+            const denied = booked(fields);
+            if (denied) return { denied };
+            const made = trip(next, fields.rider, Math.max(fields.wish - 60, 0), { ...fields, vehicle: 7, trip: next });
+            next += 1;
+            riders.get(fields.rider).push(made);
+            return { value: { ...made } };
+        }),
+        putVehicle: async (fields) => write(() => {
+            if (inVan().some((it) => it.day >= fields.from_day)) return { denied: "desk.booked" };
+            versions.push(fields);
+            return { value: {} };
+        }),
+        dutyOn: async (days) => ({ value: versions.some((it) => !it.days.length) ? [] : days }),
+        itemsNow: async () => inVan().map((it) => itemOf(riders, it)),
+        keep: async (plan) => { keptPlans.push(structuredClone(plan)); },
+        count: (denial) => counted.push(denial),
+        booked: (item, ticket) => { first[ticket.trip] = plans.saidOf(item); },
+        isMine: () => true,
+    };
+    return { riders, ports, versions, counted, keptPlans, all, first };
+}
+
+const riderOf = (riders, number) => [...riders].find(([, trips]) => trips.some((it) => it.trip === number))[0];
+
+function itemOf(riders, old) {
+    const rider = riderOf(riders, old.trip);
+    return { rider, old: { ...old }, drop: old.window_from + 40, highest: Math.max(...riders.get(rider).map((it) => it.trip)), step: "booked", ticket: null, other: null,
+        denied: null };
+}
+
+function planOf({ riders }, more = {}) {
+    const items = [...riders.values()].flat().filter((it) => it.vehicle === VAN && it.status === "booked").map((it) => itemOf(riders, it));
+    return { vehicle: VAN, from: DAY, back: null, mode: "move", depot: 5, settings: null, isOut: false, isBack: false, backDenied: null, stopped: null, done: false, counted: [],
+        items: items.sort((a, b) => plans.byPickup(a.old, b.old)), ...more };
+}
+
+const THREE = { 1: [trip(10, 1, 600)], 2: [trip(11, 2, 480, { from: 3, to: 4 })], 3: [trip(12, 3, 540, { by: 700 })] };
+
+/** How many booked trips each rider has on the day, outside of the vehicle. */
+const bookedOn = ({ riders }) => Object.fromEntries([...riders].map(([rider, trips]) => [rider, trips.filter((it) => it.status === "booked").length]));
+
+test("each rider is booked again, whose pickup is nearest first, in the old window", async () => {
+    const desk = makeDesk(THREE), plan = await plans.carryOut(planOf(desk), desk.ports);
+    assert.equal(plan.done, true);
+    assert.deepEqual(plan.items.map((it) => it.old.trip), [11, 12, 10]);
+    assert.deepEqual(plan.items.map((it) => it.step), ["again", "again", "again"]);
+    assert.deepEqual(plan.items.map(plans.movedBy), [0, 0, 0]);
+    assert.deepEqual(desk.all().filter((it) => it.trip > 12).sort((a, b) => a.trip - b.trip).map((it) => it.rider), [2, 3, 1]);
+});
+
+test("the wishes pin the old window, and the last one is what the rider said", () => {
+    const tries = plans.triesOf({ old: trip(1, 1, 600, { by: null }), drop: 650 });
+    assert.deepEqual(tries, [{ wish: 660, by: 660 }, { wish: 660, by: 675 }, { wish: 660, by: 695 }, { wish: 595, by: null }]);
+});
+
+test("a rider's own appointment is never passed by a wish", () => {
+    const tries = plans.triesOf({ old: trip(1, 1, 600, { by: 665 }), drop: 650 });
+    assert.deepEqual(tries, [{ wish: 660, by: 660 }, { wish: 660, by: 665 }, { wish: 595, by: 665 }]);
+    assert.deepEqual(plans.triesOf({ old: trip(1, 1, 1420), drop: 1435 })[0], { wish: 1439, by: 1439 });
+    assert.deepEqual(plans.triesOf({ old: trip(1, 1, 600), drop: null }), [{ wish: 595, by: null }]);
+});
+
+test("minutes are added where no vehicle takes it, and any other denial goes to what the rider said", async () => {
+    const asked = [], deny = (rule, from) => (fields) => { asked.push(fields.by); return asked.length < from ? rule : undefined; };
+    let desk = makeDesk({ 1: [trip(10, 1, 600)] }, { booked: deny("no vehicle", 3) });
+    await plans.carryOut(planOf(desk), desk.ports);
+    assert.deepEqual(asked, [650, 665, 685]);
+    asked.length = 0;
+    desk = makeDesk({ 1: [trip(10, 1, 600)] }, { booked: deny("37.131(e)", 2) });
+    await plans.carryOut(planOf(desk), desk.ports);
+    assert.deepEqual(asked, [650, null]);
+});
+
+test("a trip that moved to another day, van, time or place is passed over, and stays as it is", async () => {
+    for (const patch of [{ day: NEXT }, { vehicle: 7 }, { wish: 700 }, { from: 8 }, { to: 8 }, { by: 900 }, { companions: 1 }]) {
+        const desk = makeDesk(THREE), plan = planOf(desk);
+        Object.assign(desk.riders.get(1)[0], patch, { vehicle: patch.vehicle ?? 7 });
+        const done = await plans.carryOut(plan, desk.ports);
+        assert.equal(done.items.find((it) => it.old.trip === 10).step, "changed");
+        assert.equal(desk.riders.get(1).length, 1);
+        assert.equal(desk.riders.get(1)[0].status, "booked");
+    }
+});
+
+test("a trip that changed and stays in the van comes into the list, and is asked for", async () => {
+    const desk = makeDesk(THREE), plan = planOf(desk);
+    desk.riders.get(1)[0].wish = 700;
+    const stopped = await plans.carryOut(plan, desk.ports);
+    assert.equal(stopped.stopped, "desk.booked");
+    assert.equal(stopped.items.find((it) => it.old.trip === 10).step, "booked");
+    const done = await plans.carryOut(stopped, desk.ports);
+    assert.equal(done.done, true);
+    assert.equal(desk.riders.get(1).at(-1).wish, 660);
+});
+
+test("a trip that came into the van meanwhile is in the list before it is touched", async () => {
+    const desk = makeDesk(THREE), plan = planOf(desk);
+    desk.riders.set(4, [trip(13, 4, 630)]);
+    const stopped = await plans.carryOut(plan, desk.ports);
+    assert.deepEqual([stopped.stopped, desk.riders.get(4)[0].status], ["desk.booked", "booked"]);
+    assert.deepEqual(stopped.items.map((it) => it.old.trip), [11, 12, 10, 13]);
+});
+
+test("who was booked anew by the clerk is not booked twice: before, at Go on and at Try again", async () => {
+    const anew = trip(40, 1, 660, { vehicle: 3 });
+    const desk = makeDesk(THREE), plan = planOf(desk);
+    desk.riders.get(1).push(anew);
+    const done = await plans.carryOut(plan, desk.ports);
+    const item = done.items.find((it) => it.old.trip === 10);
+    assert.deepEqual([item.step, item.other.trip, bookedOn(desk)[1]], ["elsewhere", 40, 1]);
+    // (at Go on)
+    const second = makeDesk(THREE), broken = planOf(second);
+    second.riders.get(1)[0].status = "cancelled";
+    broken.items = broken.items.map((it) => ({ ...it, step: "cancelled" }));
+    for (const it of second.all()) it.status = "cancelled";
+    second.riders.get(1).push(anew);
+    const again = await plans.carryOut(await plans.readAgain(broken, second.ports), second.ports);
+    assert.deepEqual([again.items.find((it) => it.old.trip === 10).step, bookedOn(second)[1]], ["elsewhere", 1]);
+    // (at Try again)
+    const third = makeDesk(THREE, { booked: ({ rider }) => (rider === 1 ? "no vehicle" : undefined) });
+    const nowhere = await plans.carryOut(planOf(third), third.ports);
+    assert.equal(nowhere.items.find((it) => it.old.trip === 10).step, "nowhere");
+    third.riders.get(1).push(anew);
+    const retried = await plans.carryOut(plans.toTryAgain(nowhere), third.ports);
+    assert.deepEqual([retried.items.find((it) => it.old.trip === 10).step, bookedOn(third)[1]], ["elsewhere", 1]);
+});
+
+test("a trip of that day which is another ride is none in its place", async () => {
+    const desk = makeDesk(THREE), plan = planOf(desk);
+    desk.riders.get(1).push(trip(40, 1, 900, { vehicle: 3, from: 2, to: 1 }));
+    await plans.carryOut(plan, desk.ports);
+    assert.equal(bookedOn(desk)[1], 2);
+});
+
+test("what somebody else cancelled is said so, with the trip that stands in its place", async () => {
+    const desk = makeDesk(THREE), plan = planOf(desk);
+    desk.riders.get(1)[0].status = "cancelled";
+    desk.riders.get(1).push(trip(41, 1, 600, { vehicle: 132 }));
+    const item = (await plans.carryOut(plan, desk.ports)).items.find((it) => it.old.trip === 10);
+    assert.deepEqual([item.step, item.other.trip, item.other.vehicle], ["gone", 41, 132]);
+});
+
+test("two dispatchers at once: nobody is lost or doubled, and each list is true", async () => {
+    const desk = makeDesk(THREE), one = planOf(desk), two = planOf(desk);
+    const [first, second] = await Promise.all([plans.carryOut(one, desk.ports), plans.carryOut(two, desk.ports)]);
+    assert.deepEqual(bookedOn(desk), { 1: 1, 2: 1, 3: 1 });
+    const now = [await plans.readAgain(first, desk.ports), await plans.readAgain(second, desk.ports)];
+    for (const plan of now) {
+        for (const it of plan.items) {
+            assert.ok(["again", "gone", "elsewhere"].includes(it.step), it.step);
+            const told = it.ticket ?? it.other;
+            assert.equal(desk.riders.get(it.rider).find(({ trip: number }) => number === told.trip).status, "booked");
+        }
+    }
+});
+
+test("another dispatcher's return of the van does not tear up its trips", async () => {
+    const desk = makeDesk(THREE), plan = planOf(desk, { back: NEXT, settings: SETTINGS });
+    for (const it of desk.all()) it.status = "cancelled";
+    desk.versions.push({ id: VAN, from_day: DAY, days: [] });
+    desk.riders.set(4, [trip(50, 4, 600, { day: NEXT })]);
+    const done = await plans.carryOut(plan, desk.ports);
+    assert.deepEqual([done.done, done.stopped, desk.riders.get(4)[0].status], [true, null, "booked"]);
+});
+
+test("the return is put before anything is booked, with what the van had", async () => {
+    let had = null;
+    const desk = makeDesk(THREE, { booked: () => { had ??= desk.versions.length; } });
+    const plan = await plans.carryOut(planOf(desk, { back: NEXT, settings: SETTINGS }), desk.ports);
+    assert.equal(had, 2);
+    assert.deepEqual(desk.versions[1], { ...SETTINGS, id: VAN, from_day: NEXT });
+    assert.equal(plan.isBack, true);
+});
+
+test("a denial counts once for a rider of the plan", async () => {
+    const lists = { 1: [trip(10, 1, 600), trip(13, 1, 800, { from: 2, to: 1 })], 2: [trip(11, 2, 480)] };
+    const desk = makeDesk(lists, { booked: () => "no vehicle" });
+    const plan = await plans.carryOut(planOf(desk), desk.ports);
+    assert.deepEqual(desk.counted.map((it) => it.minute), [475, 595]);
+    await plans.carryOut(plans.toTryAgain(plan), desk.ports);
+    assert.equal(desk.counted.length, 2);
+});
+
+test("a line that breaks at any request, before or after it is done, loses and doubles nobody", async () => {
+    for (const kind of ["before", "after"]) {
+        for (let at = 1; at <= 8; at += 1) {
+            let broken = false;
+            const desk = makeDesk(THREE, { fails: (count) => {
+                if (count !== at || broken) return null;
+                broken = true;
+                return kind;
+            } });
+            let plan = await plans.carryOut(planOf(desk, { back: NEXT, settings: SETTINGS }), desk.ports);
+            // (a tab that was closed: what was kept last)
+            for (let tries = 0; !plan.done && tries < 4; tries += 1) {
+                plan = await plans.carryOut(await plans.readAgain(desk.keptPlans.at(-1), desk.ports), desk.ports);
+            }
+            assert.equal(plan.done, true, `${kind} ${at}`);
+            assert.deepEqual(bookedOn(desk), { 1: 1, 2: 1, 3: 1 }, `${kind} ${at}`);
+        }
+    }
+});
+
+test("each step is written down before it is sent", async () => {
+    const desk = makeDesk(THREE), { ports } = desk, sent = [];
+    const spied = { ...ports, cancel: (number) => { sent.push([number, desk.keptPlans.at(-1).items.find((it) => it.old.trip === number).step]); return ports.cancel(number); } };
+    await plans.carryOut(planOf(desk), spied);
+    assert.deepEqual(sent, [[11, "cancelling"], [12, "cancelling"], [10, "cancelling"]]);
+});
+
+test("another key in the window stops it", async () => {
+    const desk = makeDesk(THREE);
+    const plan = await plans.carryOut(planOf(desk), { ...desk.ports, isMine: () => false });
+    assert.deepEqual([plan.stopped, plan.done, bookedOn(desk)], ["left", false, { 1: 1, 2: 1, 3: 1 }]);
+});
+
+test("a trip that was pinned once is asked for by what its rider first said", async () => {
+    const desk = makeDesk({ 1: [trip(10, 1, 600, { wish: 660, by: 650 })] }), plan = planOf(desk);
+    plan.items[0].said = { wish: 595, by: null };
+    assert.deepEqual(plans.triesOf(plan.items[0]).at(-1), { wish: 595, by: null });
+    assert.deepEqual(plans.triesOf(plan.items[0]).map(({ by }) => by), [650, 665, 685, null]);
+    const done = await plans.carryOut(plan, desk.ports);
+    assert.deepEqual(desk.first[done.items[0].ticket.trip], { wish: 595, by: null });
+});

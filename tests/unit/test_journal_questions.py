@@ -1,0 +1,261 @@
+"""What the record answers: people by their digits at each moment, borrowed keys, words, and cells of a spreadsheet."""
+
+import csv
+import hashlib
+import io
+import json
+from datetime import timezone
+from pathlib import Path
+
+import pytest
+from hypothesis import given
+from hypothesis import strategies as some
+
+from desk_tools.journal import lines, people, questions, reading, sheets
+from desk_tools.journal.names import Names
+from desk_tools.journal.people import People, Person
+from desk_tools.journal.places import Places
+
+
+def digest(key: str) -> str:
+    return hashlib.sha256(key.encode()).hexdigest()
+
+
+def at(minute: int) -> str:
+    return f"2026-11-29T12:{minute:02}:00.000Z"
+
+
+def request(
+    minute: int, key: str, method: str, path: str, status: int = 200, **more: object
+) -> bytes:
+    """A line as the site writes it."""
+    body = {"body": json.dumps(more.pop("body"))} if "body" in more else {}
+    reply = {"reply": json.dumps(more.pop("reply"))} if "reply" in more else {}
+    told = {
+        "at": at(minute),
+        "door": "site",
+        "from": "192.0.2.1",
+        "who": digest(key)[:12],
+        "method": method,
+    }
+    return json.dumps(
+        {**told, "path": path, "status": status, "took": 0.001, "number": "1", **body, **reply}
+    ).encode()
+
+
+def put_key(
+    minute: int, by: str, caller: int, key: str, status: int = 200, **more: object
+) -> bytes:
+    body = {"id": caller, "role": "examiner", "subject": 0, "digest": digest(key), **more}
+    return request(minute, by, "POST", "/callers", status, body=body, reply={"done": True})
+
+
+def asked_of(folder: Path, found: list[bytes], rows: list[Person]) -> questions.Asked:
+    folder.mkdir(exist_ok=True)
+    places = Places(folder, "desk", timezone.utc)
+    places.requests.write_bytes(b"".join(it + b"\n" for it in found))
+    people.keep(places.callers, People(rows))
+    return questions.Asked(places, reading.people_of(places), Names(riders={7: "Ana"}), {})
+
+
+def notes_of(answer: questions.Answer) -> list[str]:
+    return [str(it[-1]) for it in answer.rows]
+
+
+ADMIN = Person(1, "", "admin", 0, "", "", digest("abc")[:12])
+
+
+@pytest.mark.parametrize("is_known", ["by a row", "by its uses", "by the record"])
+def test_a_borrowed_key_is_found(tmp_path: Path, is_known: str) -> None:
+    """Also of a caller whose first key is on record, and of one whose first key is older."""
+    rows = [ADMIN] + (
+        [Person(11, "", "examiner", 0, "", "", digest("own")[:12])]
+        if is_known == "by a row"
+        else []
+    )
+    first = [request(1, "own", "GET", "/riders/7/trips")] if is_known == "by its uses" else []
+    first = [put_key(1, "abc", 11, "own")] if is_known == "by the record" else first
+    used = request(
+        3,
+        "mine",
+        "POST",
+        "/riders/7/entries",
+        body={"entry": "refuse", "reasons": "x"},
+        reply={"entered": 1},
+    )
+    asked = asked_of(
+        tmp_path, [*first, put_key(2, "abc", 11, "mine"), used, put_key(4, "abc", 11, "own")], rows
+    )
+    notes = notes_of(questions.of_keys(asked))
+    assert "BORROWED" in notes[-1] and "used once" in notes[-1], notes
+    assert not any("BORROWED" in it for it in notes[:-1])
+    assert [it[2] for it in questions.of_caller(asked, 11).rows if "refusal" in str(it[2])]
+
+
+def test_a_lost_key_that_is_replaced_once_is_not_borrowed(tmp_path: Path) -> None:
+    found = [
+        put_key(1, "abc", 11, "own"),
+        put_key(2, "abc", 11, "new"),
+        put_key(3, "abc", 11, "new"),
+        put_key(4, "abc", 12, "own"),
+    ]
+    assert not any(
+        "BORROWED" in it for it in notes_of(questions.of_keys(asked_of(tmp_path, found, [ADMIN])))
+    )
+
+
+def test_a_key_that_was_refused_is_no_deed(tmp_path: Path) -> None:
+    asked = asked_of(tmp_path, [put_key(1, "abc", 11, "own", 422)], [ADMIN])
+    [row] = questions.of_keys(asked).rows
+    assert str(row[2]).startswith("asked to put a key for caller 11") and str(row[3]).startswith(
+        "refused"
+    )
+    assert asked.people.now(11) is None
+
+
+def test_the_same_first_digits_are_shown(tmp_path: Path) -> None:
+    rows = [ADMIN, Person(5, "", "officer", 0, "", "", digest("own")[:12])]
+    assert (
+        "the same first digits as caller 5"
+        in notes_of(questions.of_keys(asked_of(tmp_path, [put_key(1, "abc", 11, "own")], rows)))[0]
+    )
+
+
+def test_a_person_keeps_what_was_done_under_an_earlier_key_and_role(tmp_path: Path) -> None:
+    """An admin who gives himself a new key keeps his past, and a role is that of the moment."""
+    again = {"id": 1, "role": "admin", "subject": 0, "digest": digest("new")}
+    clerk = {"id": 11, "role": "clerk", "subject": 0, "digest": digest("desk")}
+    found = [
+        put_key(1, "abc", 11, "own", name="Rosa Peña"),
+        request(2, "own", "GET", "/riders/7/trips"),
+        request(3, "abc", "POST", "/callers", body=again, reply={"done": True}),
+        request(4, "new", "POST", "/callers", body=clerk, reply={"done": True}),
+        request(5, "desk", "GET", "/riders/7/trips"),
+        request(6, "own", "GET", "/riders/7/trips", 401),
+    ]
+    asked = asked_of(tmp_path, found, [ADMIN])
+    assert len(questions.of_caller(asked, 1).rows) == 3
+    roles = [str(it[1]) for it in questions.of_rider(asked, 7, False).rows]
+    assert roles == [
+        "Rosa Peña, examiner (caller 11)",
+        "Rosa Peña, clerk (caller 11)",
+        "Rosa Peña, examiner (caller 11)",
+    ]
+    own = questions.of_own(asked, 7)
+    assert [it[1] for it in own.rows][:2] == ["the agency (examiner)", "the agency (clerk)"]
+    assert "Rosa" not in sheets.as_csv(own.columns, own.rows)
+
+
+def test_taking_in_the_callers_twice_changes_nothing(tmp_path: Path) -> None:
+    found = [
+        put_key(1, "abc", 11, "a"),
+        put_key(2, "abc", 11, "b"),
+        put_key(3, "abc", 11, "a"),
+        put_key(4, "abc", 11, "a"),
+    ]
+    asked = asked_of(tmp_path, found, [ADMIN])
+    rows = list(asked.people.rows)
+    people.keep(asked.places.callers, asked.people)
+    assert reading.people_of(asked.places).rows == rows
+    assert [(it.since, it.until) for it in rows if it.number == 11] == [
+        (at(1), at(2)),
+        (at(2), at(3)),
+        (at(3), ""),
+    ]
+
+
+def test_rows_by_hand_stay(tmp_path: Path) -> None:
+    path = tmp_path / "callers.csv"
+    path.write_text(
+        'number,name,role,subject,from,to,digits\n11,"Peña, Rosa",examiner,,,,ABC\n,,,,,,\n',
+        encoding="utf-8-sig",
+    )
+    known = people.read(path)
+    people.keep(path, known)
+    assert people.read(path).rows == [Person(11, "Peña, Rosa", "examiner", 0, "", "", "abc")]
+
+
+def test_a_change_shows_what_was_promised_before(tmp_path: Path) -> None:
+    wish = {
+        "day": "2026-12-03",
+        "wish": 500,
+        "from": 1,
+        "to": 2,
+        "by": 600,
+        "attendant": False,
+        "companions": 0,
+    }
+    promise = {"trip": 3, "vehicle": 1, "due": 350, "fare": 350}
+    found = [
+        request(
+            1,
+            "abc",
+            "POST",
+            "/trips",
+            body={"rider": 7, **wish},
+            reply={**promise, "window_from": 740, "window_to": 755},
+        ),
+        request(
+            2, "abc", "POST", "/trips/3/change", 422, body=wish, reply={"denied": "no vehicle"}
+        ),
+        request(
+            3,
+            "abc",
+            "POST",
+            "/trips/3/change",
+            body=wish,
+            reply={**promise, "window_from": 800, "window_to": 815},
+        ),
+        request(4, "abc", "POST", "/trips/3/cancel", 499, body={}),
+    ]
+    rows = questions.of_trip(asked_of(tmp_path, found, [ADMIN]), 3).rows
+    assert "promised before: 2026-12-03, pickup 12:20 PM to 12:35 PM" in str(rows[2][4])
+    assert [str(it[2]).split()[0] for it in rows] == ["booked", "asked", "changed", "asked"]
+    assert rows[1][3] == "refused (no vehicle)" and "may have been done, or not" in str(rows[3][3])
+
+
+@pytest.mark.parametrize("text", ["=1+1", "+1 555", "-x", "@sum", "\t=1", "\r=1", "\n=1"])
+def test_no_cell_is_a_formula(text: str) -> None:
+    [_, [got]] = list(csv.reader(io.StringIO(sheets.as_csv(["a"], [[text]]), newline="")))
+    assert got == "'" + text.replace("\r", "\n")
+
+
+@pytest.mark.parametrize("value", ["", None, 5, -5, "-5", "plain", "-"])
+def test_a_cell_that_is_no_formula_stays(value: object) -> None:
+    assert sheets.cell(value) == ("" if value is None else str(value))
+
+
+@given(some.text())
+def test_a_terminal_is_sent_no_signs_that_steer_it(text: str) -> None:
+    assert sheets.plain(text).isprintable()
+
+
+@given(
+    some.dictionaries(
+        some.text(),
+        some.none() | some.booleans() | some.integers() | some.text() | some.lists(some.integers()),
+    )
+)
+def test_no_line_makes_telling_fail(fields: dict[str, object]) -> None:
+    teller = questions.Teller(People(), Names())
+    for path in (
+        "/trips",
+        "/trips/3/change",
+        "/trips/3/outcome",
+        "/riders",
+        "/riders/7/entries",
+        "/callers",
+        "/policy",
+        "/tally/x",
+    ):
+        raw = {
+            "at": at(1),
+            "who": "-",
+            "method": "POST",
+            "path": path,
+            "status": 200,
+            "took": 0,
+            "body": json.dumps(fields),
+        }
+        line = lines.of_fields(1, {**raw, "reply": json.dumps(fields)})
+        assert line is not None and isinstance(teller.event(line).what, str)
