@@ -105,11 +105,12 @@ function tripsShown(shown) {
  */
 function toolsOf(trip, { rider, cancel, change, again }) {
     const named = (/** @type {string} */ key) => ({ class: "small", "aria-label": t(key, { trip: trip.trip, rider: riderLabel(rider) }) });
-    return part("div", { class: "row tight tools" }, mayChange(trip) && button(t("booking.change"), () => change(trip), named("booking.change-of")),
-        mayCancel(trip) && button(t("booking.cancel"), () => cancel(trip), named("booking.cancel-of")),
-        again && button(t("booking.again"), () => again(trip), named("booking.again-of")),
+    // (what is asked for most stands last, next to the booking, from where a clerk comes back by few keys)
+    return part("div", { class: "row tight tools" }, again && button(t("booking.again"), () => again(trip), named("booking.again-of")),
         trip.status === "booked" && button(t("booking.ticket-print"), () => printTickets([{ rider, ticket: trip, wish: trip }], t("booking.ticket", { trip: trip.trip })),
-            named("booking.print-of")));
+            named("booking.print-of")),
+        mayChange(trip) && button(t("booking.change"), () => change(trip), named("booking.change-of")),
+        mayCancel(trip) && button(t("booking.cancel"), () => cancel(trip), named("booking.cancel-of")));
 }
 
 /** @param {number} rider @param {Trip} trip */

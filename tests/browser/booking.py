@@ -149,7 +149,7 @@ def a_booking_for_a_known_number_takes_eight_clicks_at_most(at):
 @check
 def a_call_from_a_name_to_a_round_trip_takes_sixty_keys_at_most(at):
     keys = begin(at)
-    keys.press(Keys.TAB, "alv")
+    keys.press("alv")
     at.browser.find("option", re.compile("Rosa Álvarez"))
     keys.press(Keys.ENTER)
     wait_for(at, "the form", "document.activeElement.id === 'book'")

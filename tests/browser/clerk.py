@@ -10,7 +10,7 @@ from selenium.webdriver.common.action_chains import ActionChains
 from selenium.webdriver.common.by import By
 from selenium.webdriver.common.keys import Keys
 
-from booking import BOOK, THURSDAY, begin, wait_for, wish
+from booking import BOOK, THURSDAY, begin, results, wait_for, wish
 from checks import check, holds, same
 from database import until
 from people import TODAY, TOMORROW, ZONE
@@ -487,6 +487,61 @@ def a_note_that_is_closed_leaves_the_focus_where_it_was(at):
     same("the next note has it", "two", at.browser.script("return document.activeElement.closest('[data-note]')?.dataset.note"))
     two.click()
     same("and then what had it before", "From", at.browser.focused())
+
+
+# How many keys a call takes, from the search, where the rider's name is known.
+
+
+def known(at):
+    """Three letters of a name, and Enter."""
+    keys = begin(at)
+    keys.press("alv")
+    at.browser.find("option", re.compile("Rosa"))
+    keys.press(Keys.ENTER)
+    wait_for(at, "the form", "document.activeElement.id === 'book'")
+    at.browser.find("button", re.compile("^Book trip"))
+    return keys
+
+
+def back_to(at, keys, name):
+    for _ in range(12):
+        if re.search(name, at.browser.focused()):
+            return
+        ActionChains(at.browser.driver).key_down(Keys.SHIFT).send_keys(Keys.TAB).key_up(Keys.SHIFT).perform()
+        keys.count += 1
+    raise AssertionError(f"no focus on {name}")
+
+
+@check
+def frequent_calls_take_few_keys(at):
+    at.town.book(1001, "2025-03-20", 600, 11, 6)
+    keys = known(at)
+    holds(f"may I ride, when is my van: {keys.count} keys", keys.count <= 5)
+    at.browser.sees("May ride until", "Pickup")
+    back_to(at, keys, "^Book trip .* again")
+    keys.press(Keys.ENTER)
+    wait_for(at, "the day has the focus", "document.activeElement.name === 'day'")
+    keys.press("f", Keys.ENTER)
+    results(at, 1)
+    holds(f"the same trip on another day: {keys.count} keys", keys.count <= 13)
+    keys = known(at)
+    back_to(at, keys, "^Change trip")
+    keys.press(Keys.ENTER)
+    wait_for(at, "the change has the focus", "document.activeElement.id.startsWith('change-')")
+    while at.browser.focused() != "Pickup time":
+        keys.press(Keys.TAB)
+    keys.press("3p", Keys.ENTER)
+    at.browser.sees("is changed for Rosa Álvarez (1001)")
+    holds(f"an hour later: {keys.count} keys", keys.count <= 15)
+    keys = known(at)
+    back_to(at, keys, "^Cancel trip")
+    keys.press(Keys.ENTER)
+    back_to(at, keys, "^Yes")
+    keys.press(Keys.ENTER)
+    at.browser.sees("is cancelled.")
+    holds(f"a trip is given up: {keys.count} keys", keys.count <= 11)
+    keys.press("/")
+    same("one key leads back to the search", "Rider number", at.browser.focused())
 
 
 # What is half filled.
