@@ -4,16 +4,12 @@ import { agency, forgetPlaces, hasAgency, loadAgency, loadPlaces, troubles } fro
 import { asked } from "./ask.js";
 import * as desk from "./desk.js";
 import { denialOf } from "./denials.js";
-import { forgetDrafts } from "./drafts.js";
 import { button, drawInto, found, make, part, say } from "./element.js";
 import * as line from "./line.js";
 import { clearNotes, dropNote, keepNotes, note, sayNotesAgain } from "./notes.js";
 import { takePaperAway } from "./paper.js";
-import { forgetReads, readAll } from "./reads.js";
 import { forgetRoster, loadRoster } from "./roster.js";
-import { drawAllAgain } from "./screen.js";
 import { screenOf, SCREENS, STAFF } from "./screens.js";
-import { lookAtSent, unread } from "./sent.js";
 import { signIn } from "./signing.js";
 import { beginAnew, whenRefused } from "./tally.js";
 import { chooseLanguage, language, LANGUAGE_NAMES, languageFor, t, useWords } from "./words.js";
@@ -158,8 +154,8 @@ async function loadNames(screen) {
         else {
             showFrame();
             showTroubles(screen.id);
-            drawAllAgain();
-            readAll();
+            (await import("./screen.js")).drawAllAgain();
+            (await import("./reads.js")).readAll();
         }
     };
     askingAgain = setTimeout(again, HURRY);
@@ -271,13 +267,18 @@ function kept(name) {
 /** What the driver's phone keeps for itself.
  * @returns {Promise<any>}
  */
-const queue = () => import("./queue.js").catch(() => ({}));
+const queue = () => own("queue");
+
+/** A module that only who is signed in needs; nothing where it cannot be loaded.
+ * @param {string} name @returns {Promise<any>}
+ */
+const own = (name) => import(`./${name}.js`).catch(() => ({}));
 
 async function leaveByHand() {
     const { maySignOut } = await queue();
     if (maySignOut && !await maySignOut()) return;
     if (line.isWaiting() && !await asked({ question: t("signing.waiting"), detail: t("signing.waiting-detail"), yes: t("signing.out-anyway"), danger: true })) return;
-    forgetDrafts();
+    (await own("drafts")).forgetDrafts?.();
     await signOut(t("signing.signed-out"));
 }
 
@@ -288,7 +289,7 @@ async function signOut(words) {
     await forgetHere?.(digest);
     forgetPlaces();
     forgetRoster();
-    forgetReads();
+    (await own("reads")).forgetReads?.();
     loadedFor = "";
     for (const name of Object.keys(localStorage)) if (name.startsWith("desk.") && !STAYS.includes(name)) localStorage.removeItem(name);
     clearNotes();
@@ -317,10 +318,10 @@ function isActive() {
 
 // What was under way when the page was loaded anew comes to its end before anything else is sent.
 async function finish() {
-    const reply = await desk.finishPending();
-    lookAtSent();
+    const [{ lookAtSent, unread }] = await Promise.all([own("sent"), useWords("sent")]), reply = await desk.finishPending();
+    lookAtSent?.();
     // (what became of a trip is in the list of what was sent)
-    if (reply && !unread().length) note("finished", () => (reply.denied ? [part("p", {}, t("common.was-denied")), denialOf(reply)] : t("common.was-done")));
+    if (reply && !unread?.().length) note("finished", () => (reply.denied ? [part("p", {}, t("common.was-denied")), denialOf(reply)] : t("common.was-done")));
 }
 
 whenRefused(showCounts);
@@ -328,7 +329,7 @@ desk.whenOthersWrote(() => note("others", () => t("common.others-wrote")));
 keepNotes();
 await Promise.all([loadAgency(), desk.comeBack()]);
 await chooseLanguage(languageFor(agency().languages));
-await useWords("common", "denials", "fields", "sent", "signing");
+await useWords("common", "denials", "fields", "signing");
 window.addEventListener("hashchange", () => show());
 window.addEventListener("keydown", slash);
 // (a page that moves by itself, as where a note comes, is used by nobody)

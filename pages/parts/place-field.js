@@ -2,32 +2,19 @@
 
 import { isOwnPlace, placeNote, placePairs } from "./agency.js";
 import { comboField } from "./combo.js";
-import * as desk from "./desk.js";
 import { HIGHEST_ID } from "./limits.js";
-import { reading } from "./reads.js";
 import { searchable } from "./roster.js";
 import { t } from "./words.js";
 
 /** @typedef {{ id: number, text: string, note: string, sought: string }} Choice */
 
-/** The places of a rider's trips, as far as they were read, the more frequent ones first.
- * @param {number} rider @returns {number[]}
- */
-function placesOfTrips(rider) {
-    /** @type {Map<number, number>} */
-    const counts = new Map();
-    const trips = /** @type {import("../types").Trip[]} */ (reading(desk.pathOf.trips(rider)).reply()?.value?.trips ?? []);
-    for (const { from, to } of trips) for (const place of [from, to]) counts.set(place, (counts.get(place) ?? 0) + 1);
-    return [...counts].sort(([, one], [, other]) => other - one).map(([place]) => place);
-}
-
-/** The places that may be chosen: the rider's own ones first, then the usual ones, then those of the rider's trips.
+/** The places that may be chosen: the rider's own ones first, then the usual ones in their order.
  * @param {number | undefined} rider @param {number[]} usual @returns {Choice[]}
  */
 function choicesOf(rider, usual) {
     const all = placePairs(rider).map(([id, text]) => ({ id, text, note: placeNote(id), sought: ` ${searchable(`${text} ${placeNote(id)}`)}` }));
     const own = rider === undefined ? [] : all.filter(({ id }) => isOwnPlace(id, rider)).map(({ id }) => id);
-    const first = [...new Set([...own, ...usual, ...(rider === undefined ? [] : placesOfTrips(rider))])];
+    const first = [...new Set([...own, ...usual])];
     const at = (/** @type {Choice} */ { id }) => (first.includes(id) ? first.indexOf(id) : first.length);
     return all.sort((a, b) => at(a) - at(b));
 }

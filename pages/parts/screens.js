@@ -4,11 +4,11 @@
 
 /** @type {Screen[]} */
 export const SCREENS = [
-    { id: "rider", module: "rider", words: ["booking", "trips", "rider", "cases", "map"], styles: ["booking", "cases", "map"] },
-    { id: "clerk", module: "clerk", words: ["booking", "trips", "clerk", "cases", "map"], styles: ["booking", "cases", "map"] },
+    { id: "rider", module: "rider", words: ["booking", "trips", "sent", "rider", "cases", "map"], styles: ["booking", "cases", "map"] },
+    { id: "clerk", module: "clerk", words: ["booking", "trips", "sent", "clerk", "cases", "map"], styles: ["booking", "cases", "map"] },
     { id: "examiner", module: "decisions", words: ["cases"], styles: ["cases"] },
     { id: "officer", module: "decisions", words: ["cases"], styles: ["cases"] },
-    { id: "dispatcher", module: "dispatcher", words: ["booking", "trips", "clerk", "cases", "dispatcher", "map"], styles: ["booking", "dispatcher", "map"] },
+    { id: "dispatcher", module: "dispatcher", words: ["booking", "trips", "sent", "clerk", "cases", "dispatcher", "map"], styles: ["booking", "dispatcher", "map"] },
     { id: "driver", module: "driver", words: ["driver"], styles: ["driver"] },
     { id: "admin", module: "admin", words: ["admin", "map"], styles: ["admin", "map"] },
 ];
