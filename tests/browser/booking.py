@@ -54,10 +54,11 @@ def wait_for(at, what, script):
 def begin(at, number=None, holder="second clerk"):
     """The clerk's first screen, as it is after signing in; with a number, that rider's."""
     at.browser.sign_in(at.keys[holder], "clerk", "trips")
-    wait_for(at, "the clerk's screen", "!!document.querySelector('.roster') && document.activeElement.id === 'main'")
+    wait_for(at, "the search has the focus",
+             "!!document.querySelector('.roster') && document.activeElement.matches('[data-search]')")
     keys = Keystrokes(at.browser)
     if number:
-        keys.press(Keys.TAB, number, Keys.ENTER)
+        keys.press(number, Keys.ENTER)
         wait_for(at, "the form", "document.activeElement.id === 'book'")
     return keys
 
@@ -148,7 +149,7 @@ def a_booking_for_a_known_number_takes_eight_clicks_at_most(at):
 @check
 def a_call_from_a_name_to_a_round_trip_takes_sixty_keys_at_most(at):
     keys = begin(at)
-    keys.press(Keys.TAB, "alv")
+    keys.press("alv")
     at.browser.find("option", re.compile("Rosa Álvarez"))
     keys.press(Keys.ENTER)
     wait_for(at, "the form", "document.activeElement.id === 'book'")
