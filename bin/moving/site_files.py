@@ -12,7 +12,8 @@ from moving import agency_file, roster_file, whole_file
 from moving.limits import Wrong
 
 PUBLIC = ("name", "telephone", "address", "zone", "first_weekday", "place_word", "clock", "languages", "wait_minutes",
-          "lead", "idle_minutes", "lock_minutes", "appeal", "closed", "unproved")
+          "lead", "idle_minutes", "lock_minutes", "board_minutes", "board_names", "manifest_telephone", "appeal", "closed",
+          "unproved")
 # Whoever serves the files is in the folder's group; nobody else reads them.
 FILE_MODE, FOLDER_MODE = 0o640, 0o2750
 FIXED = ("agency.json", "places.json", "staff/places.json", "staff/roster.csv", "drivers/places.json", "drivers/roster.csv")

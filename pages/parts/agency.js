@@ -94,6 +94,7 @@ const SETTINGS = { name: isText, telephone: isText, address: isText, zone: (it) 
     place_word: (it) => isText(it) && it !== "", clock: (it) => it === 12 || it === 24,
     languages: (it) => Array.isArray(it) && it.some((one) => LANGUAGES.includes(one)), wait_minutes: (it) => within(it, 0, 120), lead: (it) => within(it, 0, 60),
     idle_minutes: (it) => within(it, 0, 1440), lock_minutes: (it) => within(it, LEAST_LOCK, LONGEST_LOCK), appeal: isObject, unproved: isYesNo,
+    manifest_telephone: isYesNo, board_names: isYesNo, board_minutes: (it) => within(it, 0, 1440),
     closed: (it) => Array.isArray(it) && it.every((one) => isObject(one) && isDay(one.day) && (one.name === undefined || isText(one.name))) };
 
 /** The settings with what is assumed of what is not there.
@@ -105,7 +106,8 @@ export function agency() {
     return { name: it.name || t("common.agency"), telephone: it.telephone ?? "", address: it.address ?? "", zone: it.zone, first_weekday: it.first_weekday ?? 7,
         place_word: it.place_word ?? t("common.place"), clock: it.clock ?? DEFAULT_CLOCK, languages: it.languages ?? LANGUAGES,
         wait_minutes: it.wait_minutes ?? DEFAULT_WAIT, lead: it.lead ?? DEFAULT_LEAD, idle_minutes: it.idle_minutes ?? DEFAULT_IDLE, lock_minutes: it.lock_minutes ?? DEFAULT_LOCK,
-        unproved: it.unproved === true, closed: it.closed ?? [],
+        unproved: it.unproved === true, manifest_telephone: it.manifest_telephone === true, board_minutes: it.board_minutes ?? 0, board_names: it.board_names !== false,
+        closed: it.closed ?? [],
         appeal: { to: "", address: "", telephone: "", days: APPEAL_DAYS, ...appeal } };
 }
 

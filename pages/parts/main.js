@@ -19,7 +19,7 @@ import { chooseLanguage, language, LANGUAGE_NAMES, languageFor, t, useWords } fr
 /** @typedef {import("./screens.js").Screen} Screen */
 
 const SCREEN = "desk.screen", STAYS = [SCREEN, "desk.language", "desk.agency", "desk.ahead"], LOOKED = 5_000, MINUTE = 60_000;
-const HURRY = 5_000, NEVER_IDLE = ["driver"];
+const HURRY = 5_000, NEVER_IDLE = ["driver"], BOARD = "#dispatcher/day";
 
 /** How often something else was shown: who waited for a screen that was left draws nothing. */
 let shows = 0;
@@ -234,6 +234,15 @@ async function signOut(words) {
     say(words);
 }
 
+/** A day on a wall stays where the agency says so: nothing can be done on it, and whoever touches it is signed out.
+ * @param {boolean} isOn
+ */
+function showBoard(isOn) {
+    document.body.classList.toggle("board", isOn);
+    document.body.classList.toggle("nameless", isOn && !agency().board_names);
+    for (const it of [found("main"), found("parts"), ...document.querySelectorAll(".top")]) /** @type {HTMLElement} */ (it).inert = isOn;
+}
+
 /** A screen has found that nobody has the key any more, and what was read with it is gone.
  * @param {any} event */
 function keyGone({ detail }) {
@@ -242,7 +251,9 @@ function keyGone({ detail }) {
 
 /** Who does nothing for long is signed out, and is told a minute before. */
 async function lookIdle() {
-    const minutes = agency().idle_minutes, idle = Date.now() - active;
+    const { idle_minutes: limit, board_minutes: board } = agency(), idle = Date.now() - active;
+    const isBoard = location.hash === BOARD && board > limit && limit > 0, minutes = isBoard ? board : limit;
+    showBoard(isBoard && desk.signedIn() && idle >= limit * MINUTE);
     if (!desk.signedIn() || !minutes || NEVER_IDLE.includes(wanted().screen?.id ?? "") || line.isWaiting()) return;
     if (idle >= minutes * MINUTE) {
         await signOut(t("signing.idle-out", { minutes }));
@@ -253,8 +264,16 @@ async function lookIdle() {
     }
 }
 
-function isActive() {
+/** @param {Event} event */
+function isActive({ type }) {
+    const isBoard = document.body.classList.contains("board");
+    // (a board that draws itself anew moves itself)
+    if (isBoard && type === "scroll") return;
     active = Date.now();
+    if (isBoard) {
+        showBoard(false);
+        signOut(t("signing.signed-out"));
+    }
     if (dropNote("idle-soon")) say("");
 }
 

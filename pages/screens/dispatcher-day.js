@@ -21,7 +21,7 @@ import { dayBar, nowOn, STOP, theDay } from "./dispatcher-bar.js";
 /** @typedef {import("../parts/timeline.js").Doings} Doings */
 /** @typedef {import("../parts/lateness.js").Told} Told */
 /** @typedef {{ day: string, text: string | null, csv: string, denied: any, chosen: number | null, now: number, ended: boolean, asTable: boolean, wide: number, told: Told | null,
- *   unplaced: number, onlyNeeds: boolean, printing: boolean, typed: string, marked: number | null }} State marked is the trip whose stop is shown in the manifest */
+ *   unplaced: number, onlyNeeds: boolean, printing: boolean, original: boolean, typed: string, marked: number | null }} State marked is the trip whose stop is shown in the manifest */
 /** @typedef {{ manifests: Manifest[], busy: Manifest[], shown: Manifest[], idle: Manifest[], one: Manifest | undefined, doings: Doings, dues: Map<number, number>,
  *   lates: Map<number, import("../parts/lateness.js").Late>, needs: import("./dispatcher-attention.js").Attention }} Known shown are the rows, in their order */
 
@@ -128,19 +128,19 @@ const stopsOf = ({ vehicle, stops }, doings, marked) => part("ol", { class: "van
         stop.what === "PICK" && [" ", telephoneOf(Number(stop.rider))])))));
 
 /** @param {State} state @param {Known} known @param {() => void} close */
-function oneVan({ day, marked }, { one, doings, dues }, close) {
+function oneVan({ day, marked, original }, { one, doings, dues }, close) {
     if (!one) return null;
     const heading = t("dispatcher.manifest-of", { vehicle: vehicleName(one.vehicle), day: dayInWords(day) });
     return part("section", { class: "card one-van", key: `one-${one.vehicle}`, "aria-labelledby": "one-van" }, part("h3", { id: "one-van", tabindex: -1 }, heading),
-        part("div", { class: "row" }, one.stops.length > 0 && button(t("dispatcher.print-manifest"), () => printManifests([one], dues)), button(t("dispatcher.close"), close)),
+        part("div", { class: "row" }, one.stops.length > 0 && button(t("dispatcher.print-manifest"), () => printManifests([one], dues, { original })), button(t("dispatcher.close"), close)),
         one.stops.length ? stopsOf(one, doings, marked) : part("p", {}, t("dispatcher.no-stops")),
         part("details", {}, part("summary", {}, t("dispatcher.own-text")), part("pre", { tabindex: 0, role: "region", "aria-label": t("dispatcher.own-text") }, one.text)));
 }
 
 // The whole.
 
-/** @param {State} state @param {Known} known @param {{ chosen: (vehicle: number) => void, tip: ReturnType<typeof tipScreen>, toNow: () => void, tabled: () => void }} acts */
-function pictureCard(state, { manifests, busy, shown, idle, one, doings, dues, lates }, { chosen, tip, toNow, tabled }) {
+/** @param {State} state @param {Known} known @param {{ chosen: (vehicle: number) => void, tip: ReturnType<typeof tipScreen>, toNow: () => void, tabled: () => void, original: (original: boolean) => void }} acts */
+function pictureCard(state, { manifests, busy, shown, idle, one, doings, dues, lates }, { chosen, tip, toNow, tabled, original }) {
     const { day, text, now, asTable, chosen: selected } = state, stand = tripsThatStand(text ?? ""), isNow = day === today();
     const labelled = (/** @type {Label | null} */ label, spoken = false) => {
         const stop = label && manifests.find(({ vehicle }) => vehicle === label.vehicle)?.stops[label.at], words = stop ? stopWords(stop, doings) : "";
@@ -153,8 +153,9 @@ function pictureCard(state, { manifests, busy, shown, idle, one, doings, dues, l
         idle.length > 0 && part("details", { class: "idle" }, part("summary", {}, t("dispatcher.idle", { count: idle.length })),
             part("ul", { class: "row" }, idle.map(({ vehicle }) => part("li", { key: vehicle }, vehicleName(vehicle))))),
         part("div", { class: "row tools" }, part("p", {}, t("dispatcher.stand", { count: stand }), " ", t(manifests.length ? "dispatcher.choose" : "dispatcher.nobody")),
-            button(t("dispatcher.print-sheet"), () => printDaySheet(day, manifests, text ?? "")),
-            busy.length > 0 && button(t("dispatcher.print-manifests", { count: busy.length }), () => printManifests(busy, dues)),
+            button(t("dispatcher.print-sheet"), () => printDaySheet(day, manifests, text ?? "", { original: state.original })),
+            busy.length > 0 && button(t("dispatcher.print-manifests", { count: busy.length }), () => printManifests(busy, dues, { original: state.original })),
+            part("label", { class: "tick" }, part("input", { type: "checkbox", checked: state.original, on: { change: (event) => original(event.target.checked) } }), t("dispatcher.with-original")),
             isNow && busy.length > 0 && button(t("dispatcher.to-now"), toNow), button(t("dispatcher.as-table"), tabled, { "aria-expanded": String(asTable), "aria-controls": "as-table" }),
             busy.length > 0 && legend()),
         part("div", { id: "as-table", class: asTable ? null : "folded-table" }, (asTable || state.printing) && tableOfDay(t("dispatcher.table-of-day"), manifests, doings)));
@@ -175,7 +176,7 @@ function moveToNow(state) {
 function openAt({ now }, vehicle, trip) {
     const list = document.getElementById(`stops-${vehicle}`), stops = /** @type {HTMLElement[]} */ ([...list?.children ?? []]);
     const stop = stops.find((it) => (trip ? it.dataset.trip === String(trip) : Number(it.dataset.minute) >= now - 10));
-    if (list && stop) list.scrollTop = stop.offsetTop - list.offsetTop;
+    if (list && stop) list.scrollTop = stop.offsetTop;
     const frame = document.getElementById("picture"), row = frame?.querySelector(`[data-row="${vehicle}"]`), hours = frame?.querySelector(".hours");
     if (!frame || !(row instanceof HTMLElement) || !hours) return;
     const above = hours.clientHeight, top = row.offsetTop - above, bottom = row.offsetTop + row.offsetHeight - frame.clientHeight;
@@ -184,7 +185,7 @@ function openAt({ now }, vehicle, trip) {
 
 /** @param {string} day @returns {State} */
 const firstState = (day) => ({ day, text: null, csv: "", denied: null, chosen: null, now: nowOn(day), ended: false, asTable: false, wide: window.innerWidth, told: null, unplaced: 0,
-    onlyNeeds: false, printing: false, typed: "", marked: null });
+    onlyNeeds: false, printing: false, original: false, typed: "", marked: null });
 
 export function dayPicture() {
     const tip = tipScreen();
@@ -201,12 +202,12 @@ export function dayPicture() {
             change({ ...firstState(day), asTable: state.asTable, chosen: state.chosen, wide: state.wide });
             renew();
         };
-        const acts = { chosen, tip, toNow: () => moveToNow(screen.state), tabled: () => {
+        const acts = { chosen, tip, toNow: () => moveToNow(screen.state), original: (/** @type {boolean} */ original) => change({ original }), tabled: () => {
             change(({ asTable }) => ({ asTable: !asTable }));
             fill();
         } };
         return [dayBar({ ...state, go, kept }), state.denied ? denialOf(state.denied) : state.text === null ? part("p", {}, t("dispatcher.reading"))
-            : [attentionBar(known.needs, { told: state.told, unplaced: state.unplaced, isToday: state.day === today(), go: show }), searchRow(state, known, finding),
+            : [part("div", { class: "finding" }, attentionBar(known.needs, { told: state.told, unplaced: state.unplaced, isToday: state.day === today(), go: show }), searchRow(state, known, finding)),
                 part("div", { class: known.one ? "day-view with-one" : "day-view" }, pictureCard(state, known, acts), oneVan(state, known, close))]];
     } });
     const fill = () => screen.element.classList.toggle("dispatch-fill", !screen.state.asTable);

@@ -52,15 +52,14 @@ def trips_are_cards_with_the_wish_and_cancelled_ones_apart(at):
 @check
 def a_trip_is_booked_again_from_its_card(at):
     at.town.book(1006, "2025-03-14", 900, 7, 9)
-    promised = last_trip(at, 1006)
+    trip = last_trip(at, 1006)["trip"]
     sign_in(at, 1006, "trips")
     show(at, 1006)
-    at.browser.press(f"Book trip {promised['trip']} again on another day")
+    at.browser.press(f"Book trip {trip} again on another day")
     at.browser.find("button", re.compile("^Book the trip"))
     at.browser.sees("Pickup time")
-    hour, minute = divmod(promised["window_from"], 60)
-    same("the promised time, where nobody knows what was said", f"{hour % 12 or 12}:{minute:02} {'AM' if hour < 12 else 'PM'}",
-         at.browser.value("Pickup time"))
+    # (what was said is not known here, so it begins with the window that was promised)
+    same("the wish", "2:00 PM", at.browser.value("Pickup time"))
 
 
 @check

@@ -152,6 +152,7 @@ def on_wednesday_evening_thursday_is_printed(at):
     at.browser.fill("Day", THURSDAY)
     at.browser.sees("Thursday, March 13, 2025")
     lines = at.town.get("dispatcher", f"/days/{THURSDAY}/sheet").splitlines()
+    at.browser.fill("Print with the original text", True)
     paper = at.browser.print_by("Print the day sheet")
     printed = words_of(paper)
     same("lines that are not on the day sheet", [], [it for it in lines if it and " ".join(it.split()) not in printed])
@@ -163,11 +164,11 @@ def on_wednesday_evening_thursday_is_printed(at):
 def on_thursday_outcomes_are_entered(at):
     trips = {rider: trip_of(at, rider) for rider in (NEWCOMER, MISSED, TRAVELER)}
     begin(at, "dispatcher", "dispatcher", "trips", THURSDAY, "20:00")
-    for rider, button, wanted in ((NEWCOMER, "Ridden", "ridden"), (MISSED, "Rider missed", "missed-rider"),
-                                  (TRAVELER, "Agency missed", "missed-operator")):
+    for rider, button, wanted in ((NEWCOMER, "Completed", "ridden"), (MISSED, "No-show", "missed-rider"),
+                                  (TRAVELER, "Missed by us", "missed-operator")):
         number = trips[rider]["trip"]
-        at.browser.press(re.compile(f"^({button}): trip {number} of"))
-        at.browser.press(re.compile("^Yes: "))
+        at.browser.press(re.compile(f"^Set the outcome of trip {number} of"))
+        at.browser.press(button)
         until(f"trip {number} is no {wanted}", lambda: trip_of(at, rider)["status"] == wanted)
         same(f"trip {number}", wanted, trip_of(at, rider)["status"])
 

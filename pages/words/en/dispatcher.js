@@ -97,7 +97,6 @@ export const words = {
     "dispatcher.head-promised": "Pickup window",
     "dispatcher.head-aboard": "Aboard",
     "dispatcher.head-state": "State",
-    "dispatcher.head-own-line": "The desk's line",
     "dispatcher.head-telephone": "Telephone",
     "dispatcher.head-day": "Day",
     "dispatcher.head-from-to": "Trip",
@@ -301,4 +300,5 @@ export const words = {
     "dispatcher.set-outcome": "Set outcome",
     "dispatcher.set-outcome-of": ({ trip, rider }) => `Set the outcome of trip ${trip} of ${rider}`,
     "dispatcher.to-day": ({ vehicle, trip }) => `${vehicle}: show trip ${trip} on the day`,
+    "dispatcher.with-original": "Print with the original text",
 };

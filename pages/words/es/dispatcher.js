@@ -97,7 +97,6 @@ export const words = {
     "dispatcher.head-promised": "Horario de recogida",
     "dispatcher.head-aboard": "A bordo",
     "dispatcher.head-state": "Estado",
-    "dispatcher.head-own-line": "La línea del sistema",
     "dispatcher.head-telephone": "Teléfono",
     "dispatcher.head-day": "Día",
     "dispatcher.head-from-to": "Viaje",
@@ -301,4 +300,5 @@ export const words = {
     "dispatcher.set-outcome": "Anotar resultado",
     "dispatcher.set-outcome-of": ({ trip, rider }) => `Anotar el resultado del viaje ${trip} de ${rider}`,
     "dispatcher.to-day": ({ vehicle, trip }) => `${vehicle}: mostrar el viaje ${trip} en el día`,
+    "dispatcher.with-original": "Imprimir con el texto original",
 };
