@@ -3,8 +3,9 @@
 /** @typedef {import("../types").Wish} Wish */
 /** @typedef {"planned" | "sending" | "booked" | "denied" | "unsent"} State planned: it waits for its turn; unsent: the page was gone before its turn came */
 /** @typedef {{ mode: string, minute: number } | null} Said what the rider named: the minute of a wish is the page's */
-/** @typedef {{ rider: number, wish: Wish, said: Said, trip: number | null, state: State, reply: any, late: boolean }} Leg trip is the number of a trip that is
- *   changed, reply the desk's, late says that whoever asked could not see the answer at once */
+/** @typedef {{ rider: number, wish: Wish, said: Said, trip: number | null, state: State, reply: any, late: boolean, cut?: boolean }} Leg trip is the number of a trip that is
+ *   changed, reply the desk's, late says that whoever asked could not see the answer at once,
+ *   cut that the page went while it was being asked: the rest of its plan was not sent */
 
 /** @param {Leg} leg @param {{ rider: number, wish: Wish, trip: number | null }} asked */
 const isSame = (leg, asked) => leg.rider === asked.rider && leg.trip === asked.trip
@@ -47,7 +48,7 @@ export function afterAnswer(legs, asked, reply, late) {
  */
 export function afterLoading(legs) {
     const open = new Set(legs.filter(isOpen).map(({ rider }) => rider));
-    return legs.filter(({ rider, late }) => late || open.has(rider)).map((leg) => ({ ...leg, state: leg.state === "planned" ? "unsent" : leg.state, late: true }));
+    return legs.filter(({ rider, late }) => late || open.has(rider)).map((leg) => ({ ...leg, state: leg.state === "planned" ? "unsent" : leg.state, late: true, cut: leg.cut === true || (!leg.late && leg.state !== "planned") }));
 }
 
 /** All that was to be asked for a rider was asked: what was seen is not kept, and what was left out on purpose is no loss.

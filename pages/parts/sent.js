@@ -10,6 +10,7 @@ import { dropNote, note } from "./notes.js";
 import { riderLabel } from "./roster.js";
 import { makeScreen } from "./screen.js";
 import { afterAnswer, afterEnding, afterLoading, afterPlanning, afterReading, afterSending, toBeRead } from "./sent-list.js";
+import { isOfMinute } from "./wishes.js";
 import { t } from "./words.js";
 
 /** @typedef {import("./sent-list.js").Leg} Leg */
@@ -73,21 +74,33 @@ export function planned(rider, wanted, trip = null) {
     keep(afterPlanning(legs(), { rider, trip, wanted: wanted.map(({ wish, said }) => ({ wish, said: said && { mode: said.mode, minute: said.minute } })) }));
 }
 
+/** Whose a trip is that is going to be asked for again.
+ * @param {number} trip @param {number} rider
+ */
+export const belongs = (trip, rider) => { riders.set(trip, rider); };
+
 /** All of it was asked.
  * @param {number} rider
  */
 export const ended = (rider) => keep(afterEnding(legs(), rider));
 
+/** Whether a plan broke off in the middle: a denial of one of its requests is none of what the rider said.
+ * @param {Leg} leg
+ */
+const isCut = ({ state, cut, reply }) => state === "denied" && cut === true && isOfMinute(reply.denied);
+
 /** @param {Leg} leg */
-function words({ rider, wish, said, state, reply, trip }) {
+function words(leg) {
+    const { rider, wish, said, state, reply, trip } = leg;
     const way = { day: dayShort(wish.day), from: placeName(wish.from), to: placeName(wish.to), rider: riderLabel(rider),
         said: said ? t(`sent.said-${said.mode}`, { time: clock(said.minute) }) : "" };
     if (state === "booked") return t(trip === null ? "sent.booked" : "sent.changed", { ...way, trip: reply.trip, window: between(reply.window_from, reply.window_to) });
+    if (isCut(leg)) return t("sent.cut", way);
     return t(state === "denied" ? "sent.denied" : state === "unsent" ? "sent.unsent" : "sent.sending", way);
 }
 
 /** @param {Leg} leg @param {number} at */
-const shown = (leg, at) => part("li", { key: at, class: leg.state }, part("p", {}, words(leg)), leg.state === "denied" && denialOf(leg.reply, "trip"));
+const shown = (leg, at) => part("li", { key: at, class: leg.state }, part("p", {}, words(leg)), leg.state === "denied" && !isCut(leg) && denialOf(leg.reply, "trip"));
 
 /** What is to be read of a rider, where the booking was.
  * @param {number} rider

@@ -49,6 +49,10 @@ const NAMED = 5, UNNAMED = 3;
 const FULL = "no vehicle";
 /** Rules that may hold of one minute and not of another. */
 const OF_MINUTE = [FULL, "37.131(e)", "37.123(b)"];
+/** Whether another minute of the same plan may still be accepted.
+ * @param {string} name
+ */
+export const isOfMinute = (name) => OF_MINUTE.includes(name);
 
 /** A minute of the day.
  * @param {number} minute

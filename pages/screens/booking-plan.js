@@ -4,6 +4,7 @@
 import { agency } from "../parts/agency.js";
 import * as desk from "../parts/desk.js";
 import { beginAsking, driveOf, dropOffer, endAsking, keepOffer, keepSaid } from "../parts/said.js";
+import { belongs } from "../parts/sent.js";
 import { cancelTrip, count } from "../parts/tally.js";
 import { countedRule, isAsSaid, nextStep, otherRequests } from "../parts/wishes.js";
 
@@ -41,7 +42,10 @@ const ENDS = ["desk.key", "desk.caller", "desk.number", "left"];
 export const saidIn = ({ mode, minute, by, from, to, change }) => ({ mode, minute, by: mode === "by" ? null : by, drive: driveOf({ from, to }), lead: agency().lead, change });
 
 /** @param {number} rider @param {Wish} wish @param {Trip | null} trip the trip that is asked for again @returns {Promise<Reply>} */
-const sent = (rider, wish, trip) => (trip ? desk.change(trip.trip, wish) : desk.book({ rider, ...wish }));
+function sent(rider, wish, trip) {
+    if (trip) belongs(trip.trip, rider);
+    return trip ? desk.change(trip.trip, wish) : desk.book({ rider, ...wish });
+}
 
 /** Tells the site what was booked, and keeps what the rider said of it.
  * @param {{ wish: Wish, said: Said }} leg @param {Ticket} ticket

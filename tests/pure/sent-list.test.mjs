@@ -55,3 +55,15 @@ test("a trip that is booked twice is two legs", () => {
     legs = afterAnswer(afterSending(legs, asked("2025-03-11")), asked("2025-03-11"), ticket(2), true);
     assert.deepEqual(legs.map(({ reply }) => reply.trip), [1, 2]);
 });
+
+test("a denial within a plan that broke off is marked: the rest of the plan was not sent", () => {
+    for (const isAnswered of [true, false]) {
+        let legs = afterSending(afterPlanning([], { rider: 7, wanted: [wish("2025-03-11"), wish("2025-03-12")].map(planned) }), asked("2025-03-11", 1, 645));
+        if (isAnswered) legs = afterSending(afterAnswer(legs, asked("2025-03-11", 1, 645), { denied: "no vehicle" }, false), asked("2025-03-12", 1, 645));
+        legs = afterLoading(legs);
+        if (!isAnswered) legs = afterAnswer(legs, asked("2025-03-11", 1, 645), { denied: "no vehicle" }, true);
+        assert.deepEqual([legs[0].state, legs[0].cut], ["denied", true]);
+    }
+    const ended = afterLoading(afterAnswer(afterSending([], asked("2025-03-11")), asked("2025-03-11"), { denied: "no vehicle" }, true));
+    assert.equal(ended[0].cut, false);
+});

@@ -8,6 +8,7 @@ export const words = {
     "sent.booked": ({ trip, rider, day, window, from, to }) => `Trip ${trip} is booked for ${rider}: ${day}, pickup ${window}, from ${from} to ${to}.`,
     "sent.changed": ({ trip, rider, day, window, from, to }) => `Trip ${trip} of ${rider} is changed: ${day}, pickup ${window}, from ${from} to ${to}.`,
     "sent.denied": ({ rider, day, said, from, to }) => `Not booked for ${rider}: ${day}, ${said ? `${said}, ` : ""}from ${from} to ${to}.`,
+    "sent.cut": ({ rider, day, said, from, to }) => `Not finished for ${rider}: ${day}, ${said ? `${said}, ` : ""}from ${from} to ${to}. The page was loaded again while it was being asked. Book it again.`,
     "sent.unsent": ({ rider, day, said, from, to }) => `Not sent for ${rider}: ${day}, ${said ? `${said}, ` : ""}from ${from} to ${to}. The page was loaded again before its turn. Book it again.`,
     "sent.sending": ({ rider, day, said, from, to }) => `Being sent for ${rider}: ${day}, ${said ? `${said}, ` : ""}from ${from} to ${to}.`,
     "sent.said-around": ({ time }) => `around ${time}`,

@@ -8,6 +8,7 @@ export const words = {
     "sent.booked": ({ trip, rider, day, window, from, to }) => `El viaje ${trip} está reservado para ${rider}: ${day}, recogida ${window}, desde ${from} hasta ${to}.`,
     "sent.changed": ({ trip, rider, day, window, from, to }) => `El viaje ${trip} de ${rider} se cambió: ${day}, recogida ${window}, desde ${from} hasta ${to}.`,
     "sent.denied": ({ rider, day, said, from, to }) => `No reservado para ${rider}: ${day}, ${said ? `${said}, ` : ""}desde ${from} hasta ${to}.`,
+    "sent.cut": ({ rider, day, said, from, to }) => `Sin terminar para ${rider}: ${day}, ${said ? `${said}, ` : ""}desde ${from} hasta ${to}. La página se cargó otra vez mientras se pedía. Resérvelo de nuevo.`,
     "sent.unsent": ({ rider, day, said, from, to }) => `No enviado para ${rider}: ${day}, ${said ? `${said}, ` : ""}desde ${from} hasta ${to}. La página se cargó de nuevo antes de su turno. Resérvelo otra vez.`,
     "sent.sending": ({ rider, day, said, from, to }) => `Se está enviando para ${rider}: ${day}, ${said ? `${said}, ` : ""}desde ${from} hasta ${to}.`,
     "sent.said-around": ({ time }) => `alrededor de las ${time}`,
