@@ -14,7 +14,7 @@ export type Ticket = { trip: number, vehicle: number, window_from: number, windo
 export type Trip = Wish & Ticket & { status: Status };
 export type Standing = { standing: string, suspended: boolean, until?: string, conditions?: string[] };
 
-export type Place = { id: number, name?: string, note?: string, x?: number, y?: number, core?: boolean, private?: boolean | number, latitude?: number,
+export type Place = { id: number, name?: string, note?: string, noted?: boolean, x?: number, y?: number, core?: boolean, private?: boolean | number | number[], latitude?: number,
     longitude?: number };
 export type Route = { id: number, name?: string, width: number, points: [number, number][], accessible?: boolean, days?: number[], first?: number,
     last?: number };

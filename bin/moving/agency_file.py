@@ -126,11 +126,20 @@ def days_to_appeal(value, *_):
     return value
 
 
+def is_rider(value):
+    return type(value) is int and 1 <= value <= HIGHEST_NUMBER
+
+
 def private(value, where, faults):
-    """Whose place it is. Where that is wrong, nobody but staff may read it."""
-    if isinstance(value, bool) or type(value) is int and 1 <= value <= HIGHEST_NUMBER:
+    """Whose place it is: a rider's number, or a list of the riders who share it. Where that is wrong, nobody but staff
+    may read it."""
+    if isinstance(value, bool) or is_rider(value):
         return value
-    faults.append(f"{where}: {shown(value)} is neither true, false nor a rider's number, so only staff may read it")
+    if isinstance(value, list) and value and all(map(is_rider, value)):
+        riders = sorted(set(value))
+        return riders if len(riders) > 1 else riders[0]
+    faults.append(f"{where}: {shown(value)} is neither true, false, a rider's number nor a list of such, "
+                  "so only staff may read it")
     return True
 
 

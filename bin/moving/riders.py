@@ -38,15 +38,15 @@ def keep_homes(folder, agency, records):
     changed = {}
     for number, riders in homes.items():
         known = agency["places"][number].get("private")
-        riders |= set() if known is None or isinstance(known, bool) else {known}
-        wanted = known if isinstance(known, bool) else True if len(riders) > 1 else min(riders)
+        riders |= set() if known is None or isinstance(known, bool) else {*(known if isinstance(known, list) else [known])}
+        wanted = known if isinstance(known, bool) else sorted(riders) if len(riders) > 1 else min(riders)
         if wanted != known:
             changed[number] = agency["places"][number]["private"] = wanted
     if changed:
         carry.keep_agency(folder, agency)
-        shared = sum(it is True for it in changed.values())
-        print(f"homes: {len(changed) - shared} places are private to their riders now"
-              + (f", and {shared} to staff, since more than one rider lives there" if shared else ""))
+        shared = sum(isinstance(it, list) for it in changed.values())
+        print(f"homes: {len(changed)} places are private to their riders now"
+              + (f", {shared} of them to more than one" if shared else ""))
 
 
 def rider_fault(record, earliest, agency):

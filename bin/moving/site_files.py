@@ -30,8 +30,8 @@ def texts_of(agency, roster=None, drivers=None):
         "places.json": agency_file.text_of(hidden),
         "staff/places.json": agency_file.text_of(lists),
     }
-    for rider in sorted({it["private"] for it in lists["places"] if is_riders(it)}):
-        own = [it for it in lists["places"] if is_riders(it) and it["private"] == rider]
+    for rider in sorted({rider for it in lists["places"] for rider in riders_of(it)}):
+        own = [{**without_note(it), "private": rider} for it in lists["places"] if rider in riders_of(it)]
         texts[f"own/{rider}/places.json"] = agency_file.text_of({"places": own})
     if roster:
         texts["staff/roster.csv"] = roster_file.text_of(roster.riders, roster.columns)
@@ -45,13 +45,24 @@ def texts_of(agency, roster=None, drivers=None):
 
 
 def without_secrets(place):
-    """What anybody with a key may read of a place."""
-    return {"id": place["id"], "private": True} if place.get("private") else place
+    """What anybody with a key may read of a place. The note is for drivers and staff: that there is one is said, so that
+    nobody takes this file for the whole."""
+    if place.get("private"):
+        return {"id": place["id"], "private": True}
+    return {**without_note(place), **({"noted": True} if place.get("note") else {})}
 
 
-def is_riders(place):
-    """Whether the place is private to a rider, and not to staff alone."""
-    return not isinstance(place.get("private", False), bool)
+def without_note(place):
+    """A place without what a driver has to know of it, such as the code of a gate."""
+    return {name: value for name, value in place.items() if name != "note"}
+
+
+def riders_of(place):
+    """The riders to whom the place is private; none where it is everybody's, or for staff alone."""
+    private = place.get("private", False)
+    if isinstance(private, bool):
+        return []
+    return private if isinstance(private, list) else [private]
 
 
 def put(folder, texts):

@@ -118,9 +118,11 @@ def conditions(text):
 
 
 def whose(text):
-    """Whose place it is: nobody's, for staff alone, or a rider's."""
-    if text.isdigit():
-        return NUMBER.read(text)
+    """Whose place it is: nobody's, for staff alone, or that of some riders with blanks or semicolons between them."""
+    numbers = [it for it in re.split(r"[\s;]+", text) if it]
+    if numbers and all(it.isdigit() for it in numbers):
+        riders = sorted({NUMBER.read(it) for it in numbers})
+        return riders if len(riders) > 1 else riders[0]
     found = {"yes": True, "true": True, "no": False, "false": False}.get(text.lower())
     if found is None:
         raise ValueError("is neither yes, no nor a rider's number")

@@ -9,10 +9,10 @@ PAGE = """<!doctype html>
 <meta name="viewport" content="width=device-width">
 <title>{name}</title>
 <h1>{name}</h1>
-<p>The system is being worked on. Your trips stay as they are. Try again in a few minutes.</p>
+<p>The system does not answer right now. Your trips stay as they are. Try again in a few minutes.</p>
 {call}
 <div lang="es">
-<p>Estamos trabajando en el sistema. Sus viajes siguen como estaban. Inténtelo de nuevo en unos minutos.</p>
+<p>El sistema no responde en este momento. Sus viajes siguen como estaban. Inténtelo de nuevo en unos minutos.</p>
 {call_es}
 </div>
 </html>
@@ -24,7 +24,7 @@ def line(words, telephone):
     if not telephone:
         return ""
     number = html.escape(telephone)
-    return f'<p>{words}: <a href="tel:{number.replace(" ", "")}">{number}</a></p>'
+    return f'<p>{words} <a href="tel:{number.replace(" ", "")}">{number}</a>.</p>'
 
 
 def texts_of(agency):

@@ -61,7 +61,7 @@ const isMinute = (/** @type {any} */ it) => within(it, 0, LAST_MINUTE);
 
 /** @type {Record<Kind, Record<string, (it: any) => boolean>>} */
 const FIELDS = {
-    places: { name: isText, note: isText, x: isNumber, y: isNumber, core: isYesNo, private: (it) => isYesNo(it) || numberIn(it) !== null,
+    places: { name: isText, note: isText, noted: isYesNo, x: isNumber, y: isNumber, core: isYesNo, private: (it) => isYesNo(it) || numberIn(it) !== null || (Array.isArray(it) && it.length > 0 && it.every((one) => numberIn(one) !== null)),
         latitude: isNumber, longitude: isNumber },
     routes: { name: isText, width: isNumber, points: (it) => Array.isArray(it) && it.length > 0 && it.every(isPoint), accessible: isYesNo,
         days: (it) => Array.isArray(it) && it.every((day) => within(day, 1, 7)), first: isMinute, last: isMinute },
@@ -177,6 +177,11 @@ function keptHere() {
     }
 }
 
+let answered = false;
+
+/** Whether the site has said whether there is a file of the agency. */
+export const hasAgency = () => answered;
+
 /** The file that anybody may read. Without it everything goes by numbers. */
 export async function loadAgency() {
     added = keptHere();
@@ -196,6 +201,7 @@ async function textOf(path) {
         const { timeout } = /** @type {any} */ (AbortSignal);
         const reply = await fetch(path, { cache: "no-cache", credentials: "omit", signal: timeout.call(AbortSignal, LONGEST_WAIT) });
         hearServersTime(reply.headers.get("date"));
+        answered = reply.status !== 429 && reply.status < 500;
         return reply.ok ? await reply.text() : null;
     } catch {
         return null;
@@ -208,7 +214,7 @@ async function textOf(path) {
 export async function loadPlaces(screen) {
     for (const path of STAFF.includes(screen) ? ["/staff/places.json", "/places.json"] : ["/places.json"]) {
         const { status, text } = await desk.fetchFile(path);
-        if (status === 0 || status >= 500) return false;
+        if (status === 0 || status === 429 || status >= 500) return false;
         if (status !== 200) continue;
         /** @type {Trouble[]} */
         const faults = [];
@@ -308,7 +314,15 @@ export const placePairs = (rider) => places().filter((place) => isOffered(place,
 function isOffered({ id, private: whose, name }, rider) {
     if (!whose) return true;
     if (whose === true) return rider === undefined || Boolean(name) || own.has(id);
-    return rider === undefined || whose === rider;
+    return rider === undefined || [whose].flat().map(Number).includes(rider);
+}
+
+/** Whether a place is a rider's own, as a home is, be it shared.
+ * @param {number} id @param {number} rider
+ */
+export function isOwnPlace(id, rider) {
+    const whose = placeOf(id)?.private;
+    return (ownOf === rider && own.has(id)) || (whose !== undefined && typeof whose !== "boolean" && [whose].flat().map(Number).includes(rider));
 }
 
 /** Whether a point lies at most so many feet from some segment of a line: whole numbers below 2 to the 53rd, so nothing is rounded.

@@ -3,13 +3,13 @@
 import { drawInto, fresh, make, part } from "./element.js";
 import { field } from "./fields.js";
 
-const MOST_SHOWN = 12;
+const MOST_SHOWN = 100;
 
 /** @typedef {{ id: number, text: string, note?: string }} Choice */
 /**
  * @typedef {object} Options
  * @property {(typed: string) => Choice[]} search what fits what was typed, the best first
- * @property {() => Choice[]} [all] what is offered where nothing is typed
+ * @property {() => Choice[]} [all] what is offered where nothing is typed, at a tap or an arrow
  * @property {(typed: string) => number | null} meant the one number that is meant, or null
  * @property {(id: number) => string} textOf how a number is written in the field
  * @property {(typed: string) => string} wants what is told where none is meant
@@ -24,12 +24,13 @@ const MOST_SHOWN = 12;
  * @param {HTMLInputElement} control @param {HTMLElement} box @param {(choice: Choice) => void} take
  */
 function listBelow(control, box, take) {
-    let at = -1;
+    let at = -1, byHand = false;
     /** @type {Choice[]} */
     let shown = [];
     const idOf = (/** @type {Choice} */ { id }) => `${box.id}-${id}`;
     const open = (/** @type {Choice[]} */ choices, /** @type {number} */ marked) => {
         shown = choices.slice(0, MOST_SHOWN);
+        byHand = false;
         at = Math.min(marked, shown.length - 1);
         box.hidden = !shown.length;
         control.setAttribute("aria-expanded", String(shown.length > 0));
@@ -39,33 +40,45 @@ function listBelow(control, box, take) {
         control.setAttribute("aria-activedescendant", idOf(shown[at]));
         return box.children[at]?.scrollIntoView({ block: "nearest" });
     };
-    const move = (/** @type {number} */ step) => open(shown, at < 0 && step < 0 ? shown.length - 1 : (at + step + shown.length) % shown.length);
-    return { open, move, close: () => open([], -1), isOpen: () => shown.length > 0, marked: () => shown[at] ?? null };
+    const move = (/** @type {number} */ step) => {
+        open(shown, at < 0 && step < 0 ? shown.length - 1 : (at + step + shown.length) % shown.length);
+        byHand = true;
+    };
+    return { open, move, close: () => open([], -1), isOpen: () => shown.length > 0, marked: () => shown[at] ?? null, isByHand: () => byHand };
 }
 
 /** @param {string} name @param {string} label @param {Options} options */
 export function comboField(name, label, { search, all = () => [], meant, textOf, wants, marks = () => true, chosen = () => {}, sends = false, optional = false, hint }) {
     const id = fresh("choices"), control = make("input", { type: "text", role: "combobox", autocomplete: "off", spellcheck: "false", "aria-expanded": "false",
         "aria-controls": id, "aria-autocomplete": "list", autocapitalize: "off" });
-    const box = make("ul", { id, role: "listbox", class: "choices", "aria-label": label, hidden: true });
-    const take = (/** @type {Choice} */ it) => {
+    // (a list that scrolls would be a stop of Tab by itself, and take the focus where it is closed)
+    const box = make("ul", { id, role: "listbox", class: "choices", "aria-label": label, hidden: true, tabindex: -1, on: { mousedown: (event) => event.preventDefault() } });
+    const put = (/** @type {Choice} */ it) => {
         control.value = textOf(it.id);
         list.close();
         whole.tell("");
         chosen();
+    };
+    const take = (/** @type {Choice} */ it) => {
+        put(it);
+        control.focus();
         if (sends) control.form?.requestSubmit();
     };
     const list = listBelow(control, box, take);
+    const offered = () => (control.value.trim() && meant(control.value) === null ? search(control.value) : all());
     const moved = (/** @type {number} */ step) => {
-        if (list.isOpen()) list.move(step);
-        else list.open(control.value.trim() && meant(control.value) === null ? search(control.value) : all(), 0);
+        if (list.isOpen()) return list.move(step);
+        list.open(offered(), -1);
+        return list.isOpen() && list.move(step);
     };
     const keyed = (/** @type {KeyboardEvent} */ event) => {
         const marked = list.marked();
+        // (who chose by the arrows and goes on has chosen)
+        if (event.key === "Tab" && marked && list.isByHand()) return put(marked);
         const act = { ArrowDown: () => moved(1), ArrowUp: () => moved(-1), Enter: marked && (() => take(marked)), Escape: list.isOpen() && list.close }[event.key];
-        if (!act || event.isComposing) return;
+        if (!act || event.isComposing) return undefined;
         event.preventDefault();
-        act();
+        return act();
     };
     const left = () => {
         const number = meant(control.value);
@@ -79,6 +92,7 @@ export function comboField(name, label, { search, all = () => [], meant, textOf,
         chosen();
     });
     control.addEventListener("keydown", keyed);
+    control.addEventListener("click", () => { if (!list.isOpen()) list.open(offered(), -1); });
     control.addEventListener("blur", left);
     control.addEventListener("focus", () => control.select());
 

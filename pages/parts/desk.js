@@ -13,7 +13,7 @@ import * as line from "./line.js";
 /** @typedef {import("../types").Denied} Denied */
 /** @typedef {{ value: any, denied?: undefined, silent?: undefined } | (Denied & { silent?: undefined }) | { silent: string, denied?: undefined, value?: undefined }} Told
  *   what one try gives: silent is the key of words that say why */
-/** @typedef {{ digest: string | null, number: number, path: string, body: string, nextKey?: string, resent: boolean }} Pending */
+/** @typedef {{ digest: string | null, number: number, path: string, body: string, nextKey?: string, resent: boolean, waited?: boolean }} Pending */
 
 const LONGEST_WAIT = 30_000, PAUSES = [500, 1000, 2000, 4000, 5000], CROWDED = 429;
 const KEY = "desk.key", PENDING = "desk.pending", SILENT = "common.silent";
@@ -151,8 +151,9 @@ export async function postFile(path) {
  */
 export const readOnce = (path, by = key, signal = left.signal) => once("GET", path, { "Desk-Key": by ?? "" }, undefined, signal);
 
-/** @param {string} path @param {string | null} [by] @returns {Promise<Reply<any>>} */
-async function read(path, by = key) {
+/** A read that is asked until it is answered, or until its screen is left.
+ * @param {string} path @param {string | null} [by] @returns {Promise<Reply<any>>} */
+export async function read(path, by = key) {
     const request = {}, { signal } = left;
     for (let tries = 0; ; tries += 1) {
         const reply = await readOnce(path, by, signal);
@@ -209,6 +210,7 @@ async function untilAnswered(pending) {
         } else {
             line.waits(pending, reply.silent === SILENT ? "common.silent-write" : reply.silent);
             pending.resent ||= reply.silent === SILENT;
+            pending.waited = true;
             keep(pending);
         }
         await pause(tries);
@@ -218,6 +220,16 @@ async function untilAnswered(pending) {
         }
     }
 }
+
+/** @typedef {{ path: string, fields: any, reply: any, waited: boolean }} Wrote waited says that the line was broken, or the page was loaded anew meanwhile */
+/** @type {Set<(wrote: Wrote) => void>} */
+const afterWrites = new Set();
+/** @type {Set<(sending: { path: string, fields: any }) => void>} */
+const beforeWrites = new Set();
+/** @param {(wrote: Wrote) => void} act what follows each write of this window that was answered */
+export const whenWrote = (act) => { afterWrites.add(act); };
+/** @param {(sending: { path: string, fields: any }) => void} act what is done as a write of this window goes out */
+export const whenSending = (act) => { beforeWrites.add(act); };
 
 let told = () => {};
 /** @param {() => void} act what is done where another window or device wrote with this key */
@@ -236,6 +248,7 @@ async function sent(pending) {
         if (reply.denied !== "desk.number") told();
     }
     sessionStorage.removeItem(PENDING);
+    afterWrites.forEach((act) => act({ path: pending.path, fields: JSON.parse(pending.body), reply, waited: pending.waited === true }));
     return reply;
 }
 
@@ -243,6 +256,7 @@ async function sent(pending) {
 const write = (path, fields, nextKey) => inTurn(() => {
     const pending = { digest: mine, number: takeNumber(), path, body: JSON.stringify(fields), nextKey, resent: false };
     keep(pending);
+    beforeWrites.forEach((act) => act({ path, fields }));
     return sent(pending);
 });
 
@@ -252,7 +266,7 @@ const write = (path, fields, nextKey) => inTurn(() => {
 export async function finishPending() {
     const pending = JSON.parse(sessionStorage.getItem(PENDING) ?? "null");
     if (!pending || pending.digest !== mine) return null;
-    pending.resent = true;
+    pending.resent = pending.waited = true;
     return inTurn(() => sent(pending));
 }
 
@@ -292,12 +306,18 @@ export const cancel = (trip) => write(`/trips/${trip}/cancel`, {});
 /** @param {number} trip @param {string} outcome */
 export const tellOutcome = (trip, outcome) => write(`/trips/${trip}/outcome`, { outcome });
 
+/** The paths of what is read of a rider. */
+export const pathOf = {
+    standing: (/** @type {number} */ rider, /** @type {string} */ day) => `/riders/${rider}/standing/${day}`,
+    trips: (/** @type {number} */ rider) => `/riders/${rider}/trips`,
+    letters: (/** @type {number} */ rider) => `/riders/${rider}/letters/`,
+    letter: (/** @type {number} */ rider, /** @type {number} */ entry) => `/riders/${rider}/letters/${entry}`,
+};
+
 /** @param {number} rider @param {string} day @returns {Promise<Reply<import("../types").Standing>>} */
-export const standing = (rider, day) => read(`/riders/${rider}/standing/${day}`);
+export const standing = (rider, day) => read(pathOf.standing(rider, day));
 /** @param {number} rider @returns {Promise<Reply<{ trips: import("../types").Trip[] }>>} */
-export const tripsOf = (rider) => read(`/riders/${rider}/trips`);
-/** @param {number} rider @param {number} entry @returns {Promise<Reply<string>>} */
-export const letter = (rider, entry) => read(`/riders/${rider}/letters/${entry}`);
+export const tripsOf = (rider) => read(pathOf.trips(rider));
 /** @param {number} vehicle @param {string} day @returns {Promise<Reply<string>>} */
 export const manifest = (vehicle, day) => read(`/vehicles/${vehicle}/manifest/${day}`);
 /** @param {string} day @returns {Promise<Reply<string>>} */

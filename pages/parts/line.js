@@ -24,5 +24,8 @@ export function answers(request) {
     if (!waiting.size) say(t("common.answers-again"));
 }
 
+/** Says the sign anew, in the language that is chosen now. */
+export const sayAgain = show;
+
 /** Whether some request waits. */
 export const isWaiting = () => waiting.size > 0;

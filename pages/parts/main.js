@@ -1,13 +1,13 @@
 // Signing in and out, and which screen is shown. An address holds a screen and its part, never a key.
 
-import { agency, forgetPlaces, loadAgency, loadPlaces, troubles } from "./agency.js";
+import { agency, forgetPlaces, hasAgency, loadAgency, loadPlaces, troubles } from "./agency.js";
 import { asked } from "./ask.js";
 import { plus, today } from "./clock.js";
 import * as desk from "./desk.js";
 import { denialOf } from "./denials.js";
 import { button, drawInto, found, make, part, say } from "./element.js";
 import * as line from "./line.js";
-import { clearNotes, dropNote, note } from "./notes.js";
+import { clearNotes, dropNote, keepNotes, note, sayNotesAgain } from "./notes.js";
 import { takePaperAway } from "./paper.js";
 import { forgetRoster, loadRoster } from "./roster.js";
 import { screenOf, SCREENS, STAFF } from "./screens.js";
@@ -18,12 +18,14 @@ import { chooseLanguage, language, LANGUAGE_NAMES, languageFor, t, useWords } fr
 /** @typedef {import("../types").ScreenPart} ScreenPart */
 /** @typedef {import("./screens.js").Screen} Screen */
 
-const SCREEN = "desk.screen", STAYS = [SCREEN, "desk.language", "desk.agency", "desk.ahead"], LOOKED = 5_000, MINUTE = 60_000;
-const HURRY = 5_000, NEVER_IDLE = ["driver"], BOARD = "#dispatcher/day";
+const SCREEN = "desk.screen", STAYS = [SCREEN, "desk.language", "desk.agency", "desk.ahead", "desk.entered"], LOOKED = 5_000, MINUTE = 60_000;
+const HURRY = 5_000, NEVER_IDLE = ["driver"], BOARD = "#dispatcher/day", SEARCHES = ["clerk", "examiner", "officer"], USES = ["pointerdown", "keydown", "wheel", "touchstart", "touchmove"];
 
 /** How often something else was shown: who waited for a screen that was left draws nothing. */
 let shows = 0;
 let shown = false, active = Date.now();
+/** Whether the search is to have the focus once the screen is shown. */
+let toSearch = false;
 /** Whose names are loaded: a key's digest and a screen's kind. */
 let loadedFor = "";
 /** @type {Map<string, ScreenPart[]>} */
@@ -59,6 +61,8 @@ function languageChoice() {
     return part("select", { id: "language", "aria-label": t("common.language"), value: language(), on: { change: async (event) => {
         await chooseLanguage(event.target.value, { keep: true });
         loaded.clear();
+        sayNotesAgain();
+        line.sayAgain();
         await show({ again: true });
         found("language").focus();
     } } }, agency().languages.filter((it) => it in LANGUAGE_NAMES).map((it) => part("option", { value: it, lang: it }, LANGUAGE_NAMES[/** @type {"en"} */ (it)])));
@@ -124,16 +128,39 @@ async function partsOf(screen) {
 
 const inHurry = (/** @type {Promise<any>} */ it) => Promise.race([it, new Promise((go) => { setTimeout(go, HURRY); })]);
 
-/** The names that this key may see.
+/** Asks for the names that this key may see; whether the site answered.
+ * @param {Screen} screen
+ */
+async function askNames(screen) {
+    const staff = STAFF.includes(screen.id), whose = `${desk.digest()} ${staff}`;
+    if (loadedFor === whose) return true;
+    const answers = await inHurry(Promise.all([loadPlaces(screen.id), staff ? loadRoster() : true]));
+    const answered = answers?.every(Boolean) ?? false;
+    if (answered) loadedFor = whose;
+    return answered;
+}
+
+/** @type {ReturnType<typeof setTimeout> | undefined} */
+let askingAgain;
+
+/** The names that this key may see. A site that did not answer is asked again until it does; then what is shown has the names.
  * @param {Screen} screen
  */
 async function loadNames(screen) {
-    const staff = STAFF.includes(screen.id), whose = `${desk.digest()} ${staff}`;
-    if (loadedFor === whose) return;
-    loadedFor = whose;
-    const [answered] = await inHurry(Promise.all([loadPlaces(screen.id), staff ? loadRoster() : null])) ?? [];
-    // (a site that did not answer is asked again with the next screen)
-    if (!answered) loadedFor = "";
+    clearTimeout(askingAgain);
+    if (await askNames(screen)) return;
+    const again = async () => {
+        if (!desk.signedIn() || wanted().screen !== screen) return;
+        if (!hasAgency()) await loadAgency();
+        if (!await askNames(screen)) askingAgain = setTimeout(again, HURRY);
+        else {
+            showFrame();
+            showTroubles(screen.id);
+            (await import("./screen.js")).drawAllAgain();
+            (await import("./reads.js")).readAll();
+        }
+    };
+    askingAgain = setTimeout(again, HURRY);
 }
 
 // Showing.
@@ -150,6 +177,7 @@ function showSignIn() {
     drawInto(found("main"), signIn({ screen: wanted().screen?.id ?? kept(SCREEN) ?? "rider", signed: (screen) => {
         localStorage.setItem(SCREEN, screen);
         active = Date.now();
+        toSearch = true;
         if (wanted().screen?.id === screen) show();
         else location.hash = screen;
     } }));
@@ -194,6 +222,37 @@ async function show({ again = false } = {}) {
     if (shown && !again) found("main").focus({ preventScroll: true });
     if (shown && !again) window.scrollTo(0, 0);
     shown = true;
+    if (!toSearch || !desk.signedIn()) return;
+    toSearch = false;
+    search()?.focus({ preventScroll: true });
+}
+
+/** The field that finds whose record is shown, where this part has one that is seen.
+ * @returns {HTMLElement | undefined}
+ */
+function search() {
+    const field = /** @type {HTMLElement | null} */ (found("main").querySelector("[data-search]"));
+    const folded = field?.closest("details");
+    if (folded) folded.open = true;
+    return field?.getClientRects().length ? field : undefined;
+}
+
+const WRITES = "input:not([type=checkbox], [type=radio], [type=file]), textarea, select, [contenteditable]";
+
+/** A slash goes to the search, from anywhere but a field where it is written. A part without a search leads to the first part.
+ * @param {KeyboardEvent} event
+ */
+function slash(event) {
+    if (event.key !== "/" || event.ctrlKey || event.metaKey || event.altKey || !desk.signedIn()) return;
+    if ((event.target instanceof Element && event.target.closest(WRITES)) || document.querySelector("dialog[open]")) return;
+    const { screen } = wanted(), field = search(), first = screen && loaded.get(screen.id)?.[0];
+    if (field) field.focus();
+    else if (!screen || !first || !SEARCHES.includes(screen.id) || wanted().partId === first.id) return;
+    else {
+        toSearch = true;
+        location.hash = addressOf(screen.id, first.id);
+    }
+    event.preventDefault();
 }
 
 // Signing out: nothing stays that tells who was there.
@@ -210,12 +269,18 @@ function kept(name) {
 /** What the driver's phone keeps for itself.
  * @returns {Promise<any>}
  */
-const queue = () => import("./queue.js").catch(() => ({}));
+const queue = () => own("queue");
+
+/** A module that only who is signed in needs; nothing where it cannot be loaded.
+ * @param {string} name @returns {Promise<any>}
+ */
+const own = (name) => import(`./${name}.js`).catch(() => ({}));
 
 async function leaveByHand() {
     const { maySignOut } = await queue();
     if (maySignOut && !await maySignOut()) return;
     if (line.isWaiting() && !await asked({ question: t("signing.waiting"), detail: t("signing.waiting-detail"), yes: t("signing.out-anyway"), danger: true })) return;
+    (await own("drafts")).forgetDrafts?.();
     await signOut(t("signing.signed-out"));
 }
 
@@ -226,6 +291,7 @@ async function signOut(words) {
     await forgetHere?.(digest);
     forgetPlaces();
     forgetRoster();
+    (await own("reads")).forgetReads?.();
     loadedFor = "";
     for (const name of Object.keys(localStorage)) if (name.startsWith("desk.") && !STAYS.includes(name)) localStorage.removeItem(name);
     clearNotes();
@@ -257,9 +323,9 @@ async function lookIdle() {
     if (!desk.signedIn() || !minutes || NEVER_IDLE.includes(wanted().screen?.id ?? "") || line.isWaiting()) return;
     if (idle >= minutes * MINUTE) {
         await signOut(t("signing.idle-out", { minutes }));
-        note("idle", t("signing.idle-out", { minutes }));
+        note("idle", () => t("signing.idle-out", { minutes }));
     } else if (idle >= minutes * MINUTE - MINUTE) {
-        note("idle-soon", t("signing.idle-soon"));
+        note("idle-soon", () => t("signing.idle-soon"));
         say(t("signing.idle-soon"));
     }
 }
@@ -279,8 +345,10 @@ function isActive({ type }) {
 
 // What was under way when the page was loaded anew comes to its end before anything else is sent.
 async function finish() {
-    const reply = await desk.finishPending();
-    if (reply) note("finished", reply.denied ? [part("p", {}, t("common.was-denied")), denialOf(reply)] : t("common.was-done"));
+    const [{ lookAtSent, unread }] = await Promise.all([own("sent"), useWords("sent")]), reply = await desk.finishPending();
+    lookAtSent?.();
+    // (what became of a trip is in the list of what was sent)
+    if (reply && !unread?.().length) note("finished", () => (reply.denied ? [part("p", {}, t("common.was-denied")), denialOf(reply)] : t("common.was-done")));
 }
 
 /** Asks at once for what the screen takes that will be shown, while the agency's file is on its way. */
@@ -300,13 +368,16 @@ async function forgetManifests() {
 }
 
 whenRefused(showCounts);
-desk.whenOthersWrote(() => note("others", t("common.others-wrote")));
+desk.whenOthersWrote(() => note("others", () => t("common.others-wrote")));
+keepNotes();
 await Promise.all([loadAgency(), desk.comeBack()]);
 await chooseLanguage(languageFor(agency().languages));
 await useWords("common", "denials", "fields", "signing");
 window.addEventListener("hashchange", () => show());
 window.addEventListener("desk.key-gone", keyGone);
-for (const event of ["pointerdown", "keydown", "scroll"]) window.addEventListener(event, isActive, { passive: true, capture: true });
+window.addEventListener("keydown", slash);
+// (a page that moves by itself, as where a note comes, is used by nobody)
+for (const event of USES) window.addEventListener(event, isActive, { passive: true, capture: true });
 found("skip").addEventListener("click", (event) => {
     event.preventDefault();
     found("main").focus();

@@ -1,19 +1,21 @@
 // A place, searched by any part of its name, its note or its number.
 
-import { placeNote, placePairs } from "./agency.js";
+import { isOwnPlace, placeNote, placePairs } from "./agency.js";
 import { comboField } from "./combo.js";
 import { HIGHEST_ID } from "./limits.js";
-import { folded } from "./roster.js";
+import { searchable } from "./roster.js";
 import { t } from "./words.js";
 
 /** @typedef {{ id: number, text: string, note: string, sought: string }} Choice */
 
-/** The places that may be chosen: the rider's usual ones first.
+/** The places that may be chosen: the rider's own ones first, then the usual ones in their order.
  * @param {number | undefined} rider @param {number[]} usual @returns {Choice[]}
  */
 function choicesOf(rider, usual) {
-    const all = placePairs(rider).map(([id, text]) => ({ id, text, note: placeNote(id), sought: folded(`${text} ${placeNote(id)}`) }));
-    const at = (/** @type {Choice} */ { id }) => (usual.includes(id) ? usual.indexOf(id) : usual.length);
+    const all = placePairs(rider).map(([id, text]) => ({ id, text, note: placeNote(id), sought: ` ${searchable(`${text} ${placeNote(id)}`)}` }));
+    const own = rider === undefined ? [] : all.filter(({ id }) => isOwnPlace(id, rider)).map(({ id }) => id);
+    const first = [...new Set([...own, ...usual])];
+    const at = (/** @type {Choice} */ { id }) => (first.includes(id) ? first.indexOf(id) : first.length);
     return all.sort((a, b) => at(a) - at(b));
 }
 
@@ -21,7 +23,7 @@ function choicesOf(rider, usual) {
  * @param {Choice[]} all @param {string} typed
  */
 function fitting(all, typed) {
-    const words = folded(typed).split(/\s+/).filter(Boolean), same = (/** @type {Choice} */ { id, text }) => String(id) === typed.trim() || text === typed.trim();
+    const words = searchable(typed).split(" ").filter(Boolean), same = (/** @type {Choice} */ { id, text }) => String(id) === typed.trim() || text === typed.trim();
     const fit = all.filter(({ sought }) => words.every((word) => sought.includes(word)));
     return [...fit.filter(same), ...fit.filter((it) => !same(it))];
 }

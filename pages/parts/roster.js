@@ -7,7 +7,7 @@ import { t } from "./words.js";
 /** @typedef {import("../types").Rider} Rider */
 /** @typedef {Rider & { sought: string, digits: string, number: string }} Row a rider with the texts that a search looks at */
 
-const PATH = "/staff/roster.csv", MOST_FOUND = 20, MOST_FAULTS = 20;
+const PATH = "/staff/roster.csv", MOST_FOUND = 20, MOST_FAULTS = 20, LEAST_TELEPHONE = 7;
 
 /** @type {Row[]} */
 let rows = [];
@@ -17,10 +17,20 @@ let byNumber = new Map();
 let faults = [];
 let from = "";
 
+/** Letters that have no accent to take away, as people type them.
+ * @type {Record<string, string>}
+ */
+const PLAIN = { đ: "d", ø: "o", ł: "l", ß: "ss", æ: "ae", œ: "oe", ı: "i" };
+
 /** Small letters without accents.
  * @param {string} text
  */
-export const folded = (text) => text.normalize("NFD").replace(/[\u0300-\u036f]/g, "").toLowerCase();
+export const folded = (text) => text.normalize("NFD").replace(/[\u0300-\u036f]/g, "").toLowerCase().replace(/[đøłßæœı]/g, (letter) => PLAIN[letter]);
+
+/** The same as it is searched: apostrophes of any kind are left out, and hyphens, points and commas part words as blanks do.
+ * @param {string} text
+ */
+export const searchable = (text) => folded(text).replace(/['`´\u2018\u2019\u02bc\u02b9\u2032\uff07]/g, "").replace(/[\s,.\-\u2010-\u2015\u2212]+/g, " ").trim();
 
 /** The rows of a CSV (RFC 4180), each a list of its cells.
  * @param {string} text
@@ -50,7 +60,7 @@ function rowOf(cells, rider) {
     const name = cells.name ?? "", telephone = cells.telephone ?? "";
     return { rider, name, telephone, language: (cells.language ?? "").toLowerCase().slice(0, 2), home: idIn(cells.home ?? ""),
         usual: (cells.usual ?? "").split(/[\s;]+/).map(idIn).filter((it) => it !== null).map(Number), aid: cells.aid ?? "", note: cells.note ?? "",
-        sought: ` ${folded(name).replace(/[,-]/g, " ")}`, digits: telephone.replace(/\D/g, ""), number: String(rider) };
+        sought: ` ${searchable(name)}`, digits: telephone.replace(/\D/g, ""), number: String(rider) };
 }
 
 /** Reads a roster's text: what is right in it is used.
@@ -78,14 +88,15 @@ export function readRoster(text) {
     });
 }
 
-/** The roster that the server gives to staff; a missing one is none. */
+/** The roster that the server gives to staff; a missing one is none. Whether the site answered. */
 export async function loadRoster() {
-    if (from) return;
+    if (from) return true;
     const { status, text } = await desk.fetchFile(PATH);
     if (status === 200) {
         readRoster(text ?? "");
         from = "server";
     }
+    return status !== 0 && status !== 429 && status < 500;
 }
 
 /** A roster from disk, for this window alone.
@@ -117,21 +128,49 @@ export const riderName = (rider) => byNumber.get(rider)?.name ?? "";
  */
 export const riderLabel = (rider) => (riderName(rider) ? `${riderName(rider)} (${rider})` : t("common.rider", { rider }));
 
+/** The digits of what was typed, where it holds nothing else; a number may begin with #.
+ * @param {string} text
+ */
+function digitsIn(text) {
+    const digits = text.replace(/^\s*#|[\s().+/-]/g, "");
+    return /^\d+$/.test(digits) ? digits : "";
+}
+
+/** Whether digits are of a telephone number, with or without the country's 1.
+ * @param {string} own those of the roster @param {string} digits
+ */
+const isTelephoneOf = (own, digits) => own.length > 0 && (own.includes(digits) || (digits.length > 10 && own === digits.slice(-10)));
+
+/** Whether what was typed is a telephone number sooner than a rider's: so long is no number of the roster.
+ * @param {string} text
+ */
+export function isTelephone(text) {
+    const digits = digitsIn(text);
+    return digits.length >= LEAST_TELEPHONE && rows.length > 0 && !rows.some(({ number }) => number.length === digits.length);
+}
+
+/** Riders of this number or telephone, the best first.
+ * @param {string} digits @param {number} most
+ */
+function findByDigits(digits, most) {
+    const own = byNumber.get(Number(digits)), begins = (/** @type {Row} */ { number }) => number !== digits && number.startsWith(digits);
+    const called = digits.length < 3 ? [] : rows.filter((row) => row !== own && isTelephoneOf(row.digits, digits)).slice(0, most);
+    const numbered = rows.filter((row) => begins(row) && !called.includes(row)).slice(0, most);
+    return [...(own ? [own] : []), ...(digits.length >= LEAST_TELEPHONE ? [...called, ...numbered] : [...numbered, ...called])].slice(0, most);
+}
+
 /** Riders whose number, telephone or name has what was typed: each word begins a part of the name. The best come first.
  * @param {string} text @param {number} [most] @returns {Rider[]} */
 export function findRiders(text, most = MOST_FOUND) {
-    const words = folded(text).trim().split(/[\s,]+/).filter(Boolean), digits = text.replace(/[\s().+-]/g, "");
-    if (!words.length) return [];
+    const words = searchable(text).split(" ").filter(Boolean), digits = digitsIn(text);
+    if (digits) return findByDigits(digits, most);
     /** @type {Row[]} */
     const first = [];
     /** @type {Row[]} */
     const other = [];
-    const isNumber = /^\d+$/.test(digits);
+    if (!words.length) return [];
     for (const row of rows) {
-        if (isNumber) {
-            if (row.number === digits) first.unshift(row);
-            else if (other.length < most && (row.number.startsWith(digits) || (digits.length > 2 && row.digits.includes(digits)))) other.push(row);
-        } else if (words.every((word) => row.sought.includes(` ${word}`))) first.push(row);
+        if (words.every((word) => row.sought.includes(` ${word}`))) first.push(row);
         else if (other.length < most && words.every((word) => row.sought.includes(word))) other.push(row);
         if (first.length >= most) break;
     }

@@ -43,12 +43,20 @@ function focusAgain(way, id) {
     if (left && document.activeElement === document.body) focusOn(left);
 }
 
+/** What draws the screen of a place.
+ * @type {WeakMap<Element, () => void>}
+ */
+const shows = new WeakMap();
+
+/** Draws all that is on the page anew, as where names have come that it lacked. */
+export const drawAllAgain = () => document.querySelectorAll("[data-screen]").forEach((it) => shows.get(it)?.());
+
 /**
  * @template {object} State
  * @param {{ state: State, draw: (state: State, tools: Tools<State>) => Given, class?: string }} given
  */
 export function makeScreen({ state: first, draw, class: kind = "stack" }) {
-    const place = make("div", { class: kind });
+    const place = make("div", { class: kind, "data-screen": true });
     /** @type {Map<string, any>} */
     let things = new Map();
     let state = first;
@@ -83,6 +91,7 @@ export function makeScreen({ state: first, draw, class: kind = "stack" }) {
     const every = (/** @type {number} */ milliseconds, /** @type {() => void} */ act) => whileShown(place, milliseconds, act);
     const onNewDay = (/** @type {() => void} */ act) => newDay(place, act);
     const onMedia = (/** @type {string} */ query) => whileMatched(place, query, show);
+    shows.set(place, show);
     show();
     return { element: place, get state() { return state; }, change, every, onNewDay, onMedia };
 }

@@ -6,7 +6,8 @@ import { comboField } from "./combo.js";
 import { part } from "./element.js";
 import { form } from "./fields.js";
 import { HIGHEST_ID } from "./limits.js";
-import { findRiders, folded, riderLabel, riderName, rosterSize } from "./roster.js";
+import { readAll } from "./reads.js";
+import { findRiders, folded, isTelephone, riderOf, rosterSize } from "./roster.js";
 import { makeScreen } from "./screen.js";
 import { vehicleMeant, vehiclesFor as vehiclesIn } from "./vehicle-number.js";
 import { t } from "./words.js";
@@ -23,8 +24,16 @@ export const keepSubject = (what, id) => sessionStorage.setItem(keyOf(what), Str
 
 /** @param {string} typed */
 function numberIn(typed) {
-    const text = typed.trim();
+    const text = typed.trim().replace(/^#\s*/, "");
     return /^\d{1,10}$/.test(text) && Number(text) >= 1 && Number(text) <= HIGHEST_ID ? Number(text) : null;
+}
+
+/** The number that is meant: digits that are a telephone number are searched as one.
+ * @param {What} what @param {string} typed
+ */
+function plainNumber(what, typed) {
+    const number = numberIn(typed);
+    return number !== null && what === "rider" && !riderOf(number) && isTelephone(typed) ? null : number;
 }
 
 /** @param {string} typed */
@@ -43,7 +52,7 @@ const vehicleText = (id) => (vehicles().some((it) => it.id === id && it.name) ? 
 /** The rider that is meant.
  * @param {string} typed */
 function riderMeant(typed) {
-    const number = numberIn(typed);
+    const number = plainNumber("rider", typed);
     if (number !== null || !typed.trim()) return number;
     const found = ridersFor(typed);
     return found.length === 1 ? found[0].id : null;
@@ -52,7 +61,7 @@ function riderMeant(typed) {
 /** @type {Record<What, { search: (typed: string) => import("./combo.js").Choice[], meant: (typed: string) => number | null, textOf: (id: number) => string, wants: (typed: string) => string }>} */
 const KINDS = {
     rider: { search: ridersFor, meant: riderMeant, textOf: String,
-        wants: (typed) => t(typed.trim() && rosterSize() ? "fields.rider-none" : "fields.id", { most: HIGHEST_ID }) },
+        wants: (typed) => t(typed.trim() && rosterSize() ? (isTelephone(typed) ? "fields.telephone-none" : "fields.rider-none") : "fields.id", { most: HIGHEST_ID }) },
     vehicle: { search: vehiclesFor, meant: (typed) => vehicleMeant(folded(typed.trim()), named(), HIGHEST_ID), textOf: vehicleText,
         wants: (typed) => t(typed.trim() && vehiclesFor(typed).length > 1 ? "fields.vehicle-which" : "fields.vehicle-none") },
 };
@@ -60,8 +69,12 @@ const KINDS = {
 /** A field for a number, which is found by a name too.
  * @param {What} what @param {string} label @param {() => void} chosen
  */
-const subjectField = (what, label, chosen) => comboField(what, label, { ...KINDS[what], chosen, sends: true, marks: (typed) => !/^[\d\s]+$/.test(typed),
-    hint: what === "rider" && rosterSize() ? t("fields.rider-hint") : undefined });
+function subjectField(what, label, chosen) {
+    const field = comboField(what, label, { ...KINDS[what], chosen, sends: true, hint: what === "rider" && rosterSize() ? t("fields.rider-hint") : undefined,
+        marks: (typed) => (what === "rider" ? plainNumber(what, typed) === null : !/^[\d\s]+$/.test(typed)) });
+    field.control.setAttribute("data-search", "");
+    return field;
+}
 
 /** A field for the number, and below it what draw(number) gives of the number that was chosen. Where one person has one number, the field is
  * folded away once it is known. focus names the element that has the focus once a number was chosen.
@@ -71,24 +84,27 @@ export function withSubject({ what, label, action, draw, folded: folds = false, 
     /** @type {any} */
     let tools = null;
     const field = subjectField(what, label, () => tools?.change({ typed: field.control.value.trim() }));
-    const ask = form({ name: label, fields: [field], action, class: "inline", send: async (values) => ({ value: values[what] }), done: (id) => {
+    const ask = form({ name: label, fields: [field], action, class: "inline subject", send: async (values) => ({ value: values[what] }), done: (id) => {
         keepSubject(what, id);
         field.write(id);
+        // (who asks again wants to know how it is now)
+        if (tools.state().shown === id) readAll();
         tools.change({ shown: id, typed: textOf(id), open: false }, { focus });
     } });
     const first = subjectOf(what), { textOf, meant } = KINDS[what];
     if (first) field.write(first);
-    return makeScreen({
+    const screen = makeScreen({
         state: { shown: first, typed: first ? textOf(first) : "", open: !first },
         draw: ({ shown, typed, open }, { kept, change }) => {
-            tools = { change };
-            const same = shown !== null && meant(typed) === shown, name = shown !== null && what === "rider" ? riderName(shown) : "";
+            tools = { change, state: () => screen.state };
+            const same = shown !== null && meant(typed) === shown;
             const summary = part("summary", {}, shown === null ? t("fields.type-number") : other || `${label}: ${textOf(shown)}`);
             return [folds ? part("details", { class: "folded", open: open || !same, on: { toggle: (event) => change({ open: event.target.open }) } }, summary, ask)
-                : part("div", { class: "card" }, ask, same && name && part("p", { class: "whose" }, riderLabel(shown))),
+                : part("div", { class: "card asked" }, ask),
             shown !== null && !same && part("p", { class: "note", role: "status" }, t("fields.other-number", { typed: typed || "…", action })),
             shown !== null && part("div", { class: "stack", id: `${what}-below`, key: `below-${shown}`, hidden: !same },
                 kept(`below-${shown}`, () => draw(shown)))];
         },
-    }).element;
+    });
+    return screen.element;
 }

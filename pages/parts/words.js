@@ -100,6 +100,11 @@ export const loadBoth = () => Promise.all(LANGUAGES.flatMap((it) => [...loaded].
  */
 export const listed = (list) => new Intl.ListFormat(now, { type: "conjunction" }).format(list);
 
+/** "a, b or c".
+ * @param {string[]} list
+ */
+export const anyOf = (list) => new Intl.ListFormat(now, { type: "disjunction" }).format(list);
+
 /** A whole number as the reader writes it.
  * @param {number} number
  */

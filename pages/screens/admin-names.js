@@ -77,7 +77,7 @@ export function names() {
                 agency().name === t("admin.example-name") && part("p", { class: "note" }, t("admin.is-example")), part("p", {}, t("admin.file-what")),
                 part("p", {}, t(isAhead() ? "admin.is-ahead" : "admin.is-same")), here().length > 0 && table(t("admin.put-here"), [{ head: t("admin.number"), cell: ({ id }) => String(id) },
                     { head: t("admin.of-a"), cell: ({ kind }) => kindName(kind) }, { head: t("admin.name"), cell: ({ name }) => name ?? "" }], here(), { rowKey: ({ kind, id }) => `${kind}-${id}` }),
-                kept("file", chooser), part("div", { class: "row" }, !places().some(({ private: whose }) => whose) && button(t("admin.save-new"), () => save(FILE, "application/json", agencyText())),
+                kept("file", chooser), part("div", { class: "row" }, !places().some(({ private: whose, noted }) => whose || noted) && button(t("admin.save-new"), () => save(FILE, "application/json", agencyText())),
                     isAhead() && button(t("admin.forget"), forget, { class: "danger" })), said("file"), part("p", { class: "hint" }, t("admin.file-where"))),
             part("section", { class: "card" }, part("h2", {}, t("admin.the-agency")), kept("agency", () => form({ name: t("admin.the-agency"), action: t("admin.keep"), fields: settingsFields(),
                 begun: () => told("", null), send: async (values) => keepSettings(values), done: () => told("agency", part("p", { class: "good" }, t("admin.kept"))) })), said("agency")),

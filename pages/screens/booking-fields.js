@@ -2,10 +2,12 @@
 
 import { closedOn, placeName } from "../parts/agency.js";
 import { bookableDays, dayInWords, dayShort } from "../parts/clock.js";
+import * as desk from "../parts/desk.js";
 import { drawInto, fresh, make, part, say } from "../parts/element.js";
 import { placeField, radioField, tickField, timeField } from "../parts/fields.js";
 import { NEGOTIATED_MINUTES } from "../parts/limits.js";
 import { map, nearestPlace } from "../parts/map.js";
+import { reading } from "../parts/reads.js";
 import { riderOf } from "../parts/roster.js";
 import { MODES } from "../parts/wishes.js";
 import { t } from "../parts/words.js";
@@ -97,10 +99,21 @@ function mapFor(from, to) {
     return box;
 }
 
+/** The places of a rider's trips, as far as they were read, the more frequent ones first.
+ * @param {number} rider @returns {number[]}
+ */
+function placesOfTrips(rider) {
+    /** @type {Map<number, number>} */
+    const counts = new Map();
+    const trips = /** @type {import("../types").Trip[]} */ (reading(desk.pathOf.trips(rider)).reply()?.value?.trips ?? []);
+    for (const { from, to } of trips) for (const place of [from, to]) counts.set(place, (counts.get(place) ?? 0) + 1);
+    return [...counts].sort(([, one], [, other]) => other - one).map(([place]) => place);
+}
+
 /** @param {number} rider */
 const usualOf = (rider) => {
     const known = riderOf(rider);
-    return known ? [...(known.home === null ? [] : [known.home]), ...known.usual] : [];
+    return [...(known ? [...(known.home === null ? [] : [known.home]), ...known.usual] : []), ...placesOfTrips(rider)];
 };
 
 /** What matters of a trip, of the way there or back.

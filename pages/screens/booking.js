@@ -9,6 +9,7 @@ import { form } from "../parts/fields.js";
 import { riderLabel } from "../parts/roster.js";
 import { driveOf, namedBy, readSaid, saidOf, takeUp } from "../parts/said.js";
 import { makeScreen } from "../parts/screen.js";
+import { ended, planned } from "../parts/sent.js";
 import { otherRequests, pickupsOf, searched, underWay, underWayOf } from "../parts/wishes.js";
 import { t } from "../parts/words.js";
 import { faultOf, wishFields } from "./booking-fields.js";
@@ -140,7 +141,9 @@ function wishScreen({ rider, trip = null, booked, heading, action }) {
         ask: (values) => questionOf(about, legsOf(values, Boolean(trip))),
         send: async (values) => {
             screen.change({ legs: legsOf(values, Boolean(trip)), busy: true });
+            planned(rider, screen.state.legs, trip?.trip ?? null);
             await asker.rest();
+            ended(rider);
             return { value: true };
         },
         done: () => {
@@ -171,17 +174,17 @@ function backOf(back) {
 }
 
 /** Booking for a rider. copy(trip, back) fills in what a trip that is there says, and its way back; the day is still to be chosen.
- * @param {number} rider @param {{ booked?: () => void, known?: () => Promise<Trip[]> }} [options]
+ * @param {number} rider @param {{ booked?: () => void, changed?: () => void }} [options] booked follows a booking, changed what else the rider's trips are to show anew
  */
 export function bookingFor(rider, options = {}) {
-    const { booked = () => {} } = options;
+    const { booked = () => {}, changed = () => {} } = options;
     const screen = wishScreen({ rider, booked, heading: t("booking.book-for", { rider: riderLabel(rider) }), action: t("booking.book", { rider: riderLabel(rider) }) });
     const copy = (/** @type {Trip} */ trip, /** @type {Trip | null} */ back) => {
         screen.begin();
         screen.write({ ...wishOf(trip), days: "", ...backOf(back) });
         screen.focus();
     };
-    const offers = offersFor(rider, booked), whole = makeScreen({ state: {}, draw: () => [offers, screen.element] });
+    const offers = offersFor(rider, changed), whole = makeScreen({ state: {}, draw: () => [offers, screen.element] });
     return { element: whole.element, copy };
 }
 

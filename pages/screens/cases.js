@@ -4,12 +4,15 @@ import { dayInWords, monthNames, plus, today } from "../parts/clock.js";
 import * as desk from "../parts/desk.js";
 import { denialOf } from "../parts/denials.js";
 import { fresh, make, part } from "../parts/element.js";
+import { draftIn } from "../parts/drafts.js";
+import { enter } from "../parts/entered.js";
 import { dayField, form, numberField, reasonsField, tickField, ticksField } from "../parts/fields.js";
 import { FEW_REASONS, MOST_FARTHER, SUSPENSION_DAYS } from "../parts/limits.js";
+import { reading } from "../parts/reads.js";
 import { riderLabel } from "../parts/roster.js";
 import { makeScreen } from "../parts/screen.js";
-import { listed, t } from "../parts/words.js";
-import { conditionInWords, hearEntries, isOwn, purposeOf } from "./letters.js";
+import { anyOf, t } from "../parts/words.js";
+import { conditionInWords, isOwn, purposeOf } from "./letters.js";
 
 export { conditionInWords, lettersFor } from "./letters.js";
 
@@ -32,31 +35,39 @@ function standingWords(rider, day, { standing, suspended, until, conditions }) {
     return part("div", { class: `standing ${may ? "yes" : "no"}` }, part("p", { class: "verdict" }, may ? "✓ " : "✗ ", verdict),
         suspended && part("p", {}, t("cases.suspended"), " (49 CFR 37.125(h))"),
         part("p", {}, t(suspended ? "cases.else" : "cases.reason", { why: [why, last].filter(Boolean).join(" ") }), ` (${SECTIONS[standing]})`),
-        conditions && part("p", {}, t("cases.for", { conditions: listed(conditions.map((it) => conditionInWords(it))) }), " (49 CFR 37.123(b))"));
+        conditions && part("p", {}, t("cases.for", { conditions: anyOf(conditions.map((it) => conditionInWords(it))) }), " (49 CFR 37.123(b))"));
 }
 
 /** @param {number} rider */
 export function standingOf(rider) {
+    const on = (/** @type {string} */ day) => ({ day, read: reading(desk.pathOf.standing(rider, day)) });
     const screen = makeScreen({
-        state: { day: today(), reply: /** @type {any} */ (null) },
+        state: on(today()),
         class: "card",
-        draw: ({ day, reply }, { kept }) => [part("h2", {}, isOwn() ? t("cases.standing-own") : t("cases.standing", { who: riderLabel(rider) })),
-            part("div", { role: "status", id: "standing-answer" }, reply === null ? t("cases.reading")
-                : reply.denied !== undefined ? denialOf(reply, purposeOf("standing")) : standingWords(rider, day, reply.value)),
-            kept("ask", () => form({ name: t("cases.standing-day"), fields: [dayField("day", t("cases.day"), { value: today() })], class: "inline", action: t("cases.show-standing"),
-                send: async (values) => ({ value: values.day }), done: (on) => read(on, { focus: "standing-answer" }) }))],
+        draw: ({ day, read }, { kept }) => {
+            const reply = read.reply();
+            return [part("h2", {}, isOwn() ? t("cases.standing-own") : t("cases.standing", { who: riderLabel(rider) })), read.age(),
+                part("div", { role: "status", id: "standing-answer" }, reply === null ? t("cases.reading")
+                    : reply.denied !== undefined ? denialOf(reply, purposeOf("standing")) : standingWords(rider, day, reply.value)),
+                kept("ask", () => form({ name: t("cases.standing-day"), fields: [dayField("day", t("cases.day"), { value: today() })], class: "inline", action: t("cases.show-standing"),
+                    send: async (values) => ({ value: values.day }), done: show }))];
+        },
     });
-    /** @param {string} day @param {{ focus?: string }} [options] */
-    async function read(day, options) {
-        screen.change({ day });
-        const reply = await desk.standing(rider, day);
-        // (an answer to an older question is dropped)
-        if (screen.state.day === day && reply.denied !== "left") screen.change({ reply }, options);
+    const watch = () => screen.state.read.watch(screen.element, () => screen.change({}));
+    let leave = watch();
+    const turn = (/** @type {string} */ day) => {
+        leave();
+        screen.change(on(day));
+        leave = watch();
+    };
+    /** @param {string} day */
+    async function show(day) {
+        turn(day);
+        await screen.state.read.again();
+        screen.change({}, { focus: "standing-answer" });
     }
-    const refresh = () => read(screen.state.day);
-    screen.onNewDay(() => read(today()));
-    hearEntries(rider, screen.element, refresh);
-    refresh();
+    const refresh = () => screen.state.read.again();
+    screen.onNewDay(() => turn(today()));
     return { element: screen.element, refresh };
 }
 
@@ -126,7 +137,7 @@ export function faultOfDays({ starts, ends }) {
  * @param {any} values @returns {Given}
  */
 function letterWords({ until, conditions, reasons: why, basis, starts, ends }) {
-    return [until && part("p", {}, t("cases.asked-until", { day: dayInWords(until), conditions: listed(conditions.map((/** @type {string} */ it) => conditionInWords(it))) })),
+    return [until && part("p", {}, t("cases.asked-until", { day: dayInWords(until), conditions: anyOf(conditions.map((/** @type {string} */ it) => conditionInWords(it))) })),
         starts && part("p", {}, t("cases.asked-days", { first: dayInWords(starts), last: dayInWords(ends) })),
         (why || basis) && part("p", {}, t("cases.asked-reasons"), " ", part("q", {}, why || basis)), part("p", {}, t("cases.asked-final"))];
 }
@@ -144,18 +155,25 @@ const fewWords = ({ reasons: why }) => why && why.length < FEW_REASONS && part("
 export function entryForm(rider, kind, entered, otherwise = {}) {
     const { fields = FIELDS[kind](), check = faultOfDays, entryOf = (/** @type {any} */ given) => given } = otherwise;
     const values = { who: riderLabel(rider), rider }, id = fresh("entered");
+    /** @type {ReturnType<typeof draftIn> | null} */
+    let draft = null;
+    const drafted = (/** @type {HTMLElement} */ whole) => {
+        draft = draftIn(whole, `${kind} ${rider}`);
+        return whole;
+    };
     /** @type {any} */
     const screen = makeScreen({
         state: { done: false },
         draw: ({ done }, { kept }) => part("details", { class: "card entry", "data-entry": kind }, part("summary", {}, t(`cases.heading-${kind}`, values)),
-            part("p", {}, t(`cases.about-${kind}`)), kept("form", () => form({ name: t(`cases.heading-${kind}`, values), fields, action: t(`cases.do-${kind}`, values),
+            part("p", {}, t(`cases.about-${kind}`)), kept("form", () => drafted(form({ name: t(`cases.heading-${kind}`, values), fields, action: t(`cases.do-${kind}`, values),
                 purpose: "entry", danger: AGAINST.includes(kind), check, begun: () => screen.change({ done: false }),
                 ask: (given) => ({ question: t(`cases.ask-${kind}`, values), detail: [fewWords(given), letterWords(entryOf(given))], yes: t("cases.yes", { action: t(`cases.do-${kind}`, values) }),
                     danger: AGAINST.includes(kind) }),
-                send: (given) => desk.enter(rider, { entry: kind, ...entryOf(given) }), done: async () => {
+                send: (given) => enter(rider, { entry: kind, ...entryOf(given) }), done: async () => {
+                    draft?.drop();
                     screen.change({ done: true }, { focus: id });
                     await entered();
-                } })),
+                } }))),
             part("div", { role: "status", id }, done && part("p", { class: "good" }, t(`cases.done-${kind}`, values)))),
     });
     return screen.element;

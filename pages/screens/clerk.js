@@ -2,10 +2,12 @@
 
 import { today } from "../parts/clock.js";
 import * as desk from "../parts/desk.js";
+import { draftIn } from "../parts/drafts.js";
 import { element, make, part } from "../parts/element.js";
 import { choiceField, form, idField, yesNoField } from "../parts/fields.js";
 import { openRoster, riderLabel, rosterSize, rosterSource, rosterTroubles } from "../parts/roster.js";
 import { makeScreen } from "../parts/screen.js";
+import { lookAtSent, sentFor } from "../parts/sent.js";
 import { keepSubject, subjectOf, withSubject } from "../parts/subject.js";
 import { counted, t } from "../parts/words.js";
 import { bookingFor } from "./booking.js";
@@ -13,6 +15,7 @@ import { entryForms, lettersFor, ofResident, standingOf } from "./cases.js";
 import { noticeFor } from "./notice.js";
 import { withCard } from "./rider-card.js";
 import { tripsOfRider } from "./trips.js";
+import { worklist } from "./worklist.js";
 
 // A rider's record.
 
@@ -52,9 +55,11 @@ function record() {
         return question;
     },
     send: desk.putRider, done: (_, values) => {
+        draft.drop();
         keepSubject("rider", values.id);
         screen.change({ answer: t(isNew ? "clerk.is-new" : "clerk.is-changed", { rider: riderLabel(values.id), record: recordWords(values) }) }, { focus: "record-answer" });
     } });
+    const draft = draftIn(whole, `record ${subjectOf("rider") ?? ""}`);
     const screen = makeScreen({ state: { answer: /** @type {string | null} */ (null) }, class: "card", draw: ({ answer }) => [part("h2", {}, t("clerk.record")),
         part("p", { class: "hint" }, t("clerk.record-hint")), whole, part("div", { role: "status", id: "record-answer" }, answer && part("p", { class: "good" }, answer))] });
     return screen.element;
@@ -100,9 +105,17 @@ const file = (rider) => ofResident(rider, () => {
 
 /** @param {number} rider */
 const booking = (rider) => withCard(rider, () => {
-    const trips = tripsOfRider(rider, { heading: t("booking.trips-of", { rider: riderLabel(rider) }), again: (trip, back) => book.copy(trip, back) });
-    const book = bookingFor(rider, { booked: trips.refresh, known: trips.known });
-    return [book.element, trips.element];
+    const trips = tripsOfRider(rider, { heading: t("booking.trips-of", { rider: riderLabel(rider) }), again: (trip, back) => {
+        book.copy(trip, back);
+        draft.keep();
+    } });
+    const book = bookingFor(rider, { booked: () => {
+        draft.drop();
+        trips.refresh();
+    }, changed: trips.refresh });
+    const draft = draftIn(book.element, `book ${rider}`);
+    lookAtSent();
+    return [trips.element, make("div", { class: "stack", "data-sent": rider }, sentFor(rider), book.element)];
 });
 
 export const ridersTrips = forRider(booking, "book");
@@ -110,4 +123,5 @@ export const ridersTrips = forRider(booking, "book");
 export const clerk = () => [
     { id: "trips", name: t("clerk.trips"), draw: ridersTrips },
     { id: "file", name: t("clerk.file"), draw: forRider(file) },
-    { id: "rider", name: t("clerk.record-part"), draw: record }];
+    { id: "rider", name: t("clerk.record-part"), draw: record },
+    { id: "waits", name: t("cases.waits"), draw: () => worklist("clerk") }];

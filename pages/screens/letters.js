@@ -2,13 +2,16 @@
 
 import { agency, placeOf } from "../parts/agency.js";
 import { asked } from "../parts/ask.js";
+import { appealedHere } from "../parts/case-facts.js";
 import { asSpoken, plus, today } from "../parts/clock.js";
 import * as desk from "../parts/desk.js";
 import { denialOf } from "../parts/denials.js";
 import { button, part } from "../parts/element.js";
+import { enter, enteredOf } from "../parts/entered.js";
 import { APPEAL_DAYS, HEARING_DAYS, MOST_ENTRIES } from "../parts/limits.js";
 import { noticeIn } from "../parts/notices.js";
 import { printParts } from "../parts/paper.js";
+import { reading } from "../parts/reads.js";
 import { riderLabel, riderName, riderOf } from "../parts/roster.js";
 import { makeScreen } from "../parts/screen.js";
 import { inBoth, language, LANGUAGE_NAMES, loadBoth, t } from "../parts/words.js";
@@ -72,6 +75,8 @@ async function loadOwnName(rider) {
 // Of entries that stand side by side at most four have no letter: an application, an appeal, its hearing, and the hearing of a notice. So
 // behind five of them in a row there is none.
 const WITHOUT_LETTER = 4;
+/** Letters are read again at each sight of the rider and after each write; else only so often, since each takes some requests. */
+const SELDOM = 300_000;
 
 /** @param {number} entry @param {string} text @returns {Letter} */
 function letterOf(entry, text) {
@@ -82,18 +87,25 @@ function letterOf(entry, text) {
     return { entry, text, lines, date: lines.get("DATE") ?? "", decision: lines.get("DECISION") ?? "" };
 }
 
-/** @param {number} rider @returns {Promise<{ letters: Letter[], denied?: any }>} */
-export async function readLetters(rider) {
-    /** @type {Letter[]} */
-    const letters = [];
-    for (let entry = 0, without = 0; entry < MOST_ENTRIES && without <= WITHOUT_LETTER; entry += 1) {
-        const reply = await desk.letter(rider, entry);
-        if (reply.denied !== undefined && reply.denied !== "desk.unknown") return { letters, denied: reply };
+/** Reads the letters that come after those that are known: a letter never changes.
+ * @param {number} rider @param {import("../parts/reads.js").Ask} ask @param {Letter[]} known
+ */
+async function readLetters(rider, ask, known) {
+    const letters = [...known];
+    for (let entry = (known.at(-1)?.entry ?? -1) + 1, without = 0; entry < MOST_ENTRIES && without <= WITHOUT_LETTER; entry += 1) {
+        const reply = await ask(desk.pathOf.letter(rider, entry));
+        if (reply.silent || (reply.denied !== undefined && reply.denied !== "desk.unknown")) return reply;
         without = reply.denied === undefined ? 0 : without + 1;
         if (reply.denied === undefined) letters.push(letterOf(entry, reply.value));
     }
-    return { letters };
+    return { value: letters };
 }
+
+/** A rider's letters, as they are known to all screens.
+ * @param {number} rider
+ */
+export const lettersRead = (rider) => reading(desk.pathOf.letters(rider), { period: SELDOM,
+    read: (ask, before) => readLetters(rider, ask, before ?? []) });
 
 // What a letter means. The names of decisions are the desk's.
 
@@ -220,61 +232,55 @@ function howPrinted(own, large, change) {
 const mayAppeal = (letter, letters) => APPEALABLE.includes(letter.decision) && today() <= lastDay(letter)
     && !letters.some(({ entry, decision }) => entry > letter.entry && OF_APPEALS.includes(decision));
 
-/** Those who want to know that something was entered in a rider's case.
- * @type {Set<{ rider: number, element: HTMLElement, refresh: () => any }>}
+/** What is offered or known of an appeal against a letter.
+ * @param {Letter} letter @param {Letter[]} letters @param {{ rider: number, entered: import("../parts/entered.js").Entered[], appeal: (() => void) | null }} given
  */
-const readers = new Set();
-
-/** @param {number} rider @param {HTMLElement} element @param {() => any} refresh */
-export const hearEntries = (rider, element, refresh) => readers.add({ rider, element, refresh });
-
-/** @param {number} rider */
-function tellReaders(rider) {
-    for (const it of readers) {
-        if (!it.element.isConnected) readers.delete(it);
-        else if (it.rider === rider) it.refresh();
-    }
+function appealShown(letter, letters, { rider, entered, appeal }) {
+    const filed = appealedHere(letter, letters, entered);
+    if (filed) return part("p", { class: "good" }, t(isOwn() ? "cases.appeal-filed-own" : "cases.appeal-filed", { day: dayIn(language(), filed.since) }));
+    if (!mayAppeal(letter, letters)) return null;
+    return [part("p", {}, t("cases.appeal-by", { day: dayIn(language(), lastDay(letter)) }), appeal && ` ${t(isOwn() ? "cases.appeal-once-own" : "cases.appeal-once")}`),
+        appeal && part("div", { class: "row" }, button(t(isOwn() ? "cases.appeal-own" : "cases.appeal-for", { entry: letter.entry, rider }), appeal, { class: "danger" }))];
 }
 
 /** A rider's letters in order. appeals says whether who reads may enter an appeal.
  * @param {number} rider @param {{ appeals?: boolean }} options
  */
 export function lettersFor(rider, { appeals = true } = {}) {
-    const who = riderLabel(rider);
+    const who = riderLabel(rider), read = lettersRead(rider);
     const screen = makeScreen({
-        state: { letters: /** @type {Letter[] | null} */ (null), denied: /** @type {any} */ (null), own: firstLanguage(rider), large: false,
-            answerAt: -1, answer: /** @type {Given} */ (null) },
+        state: { ready: false, entered: /** @type {import("../parts/entered.js").Entered[]} */ ([]), own: firstLanguage(rider), large: false, answerAt: -1,
+            answer: /** @type {Given} */ (null) },
         class: "card",
-        draw: ({ letters, denied, own, large, answerAt, answer }, { change }) => [
-            part("h2", {}, isOwn() ? t("cases.letters-own") : t("cases.letters", { who })),
-            part("div", { role: "status" }, !letters && !denied && t("cases.letters-reading"), denied && denialOf(denied, purposeOf("standing")),
-                letters && !letters.length && !denied && t("cases.letters-none")),
-            letters && letters.length > 0 && howPrinted(own, large, change),
-            letters && letters.length > 0 && part("ol", { class: "letters" }, letters.map((letter) => part("li", { key: letter.entry },
-                part("h3", {}, `${dayIn(language(), letter.date)}: ${titleOf(language(), letter)}`),
-                meaningOf(language(), letter, isOwn() ? t("cases.you") : who, letters).map((it) => part("p", {}, it)), reasonsOf(language(), letter),
-                part("div", { class: "row" }, button(t("cases.print-letter", { entry: letter.entry, rider }), () => print(letter, rider, { own, large, letters }))),
-                part("details", {}, part("summary", {}, t("cases.on-record", { entry: letter.entry })),
-                    part("pre", { lang: "en", tabindex: 0, role: "region", "aria-label": t("cases.on-record", { entry: letter.entry }) }, letter.text)),
-                mayAppeal(letter, letters) && part("p", {}, t("cases.appeal-by", { day: dayIn(language(), lastDay(letter)) }), " ",
-                    appeals && button(t(isOwn() ? "cases.appeal-own" : "cases.appeal-for", { entry: letter.entry, rider }), () => appeal(letter), { class: "danger" })),
-                part("div", { role: "status", id: `answer-letter-${letter.entry}` }, answerAt === letter.entry && answer))))],
+        draw: ({ ready, entered, own, large, answerAt, answer }, { change }) => {
+            const reply = ready ? read.reply() : null, denied = reply?.denied !== undefined, letters = /** @type {Letter[]} */ (reply?.value ?? []);
+            return [part("h2", {}, isOwn() ? t("cases.letters-own") : t("cases.letters", { who })), read.age(),
+                part("div", { role: "status" }, !reply && t("cases.letters-reading"), denied && denialOf(reply, purposeOf("standing")),
+                    reply && !letters.length && !denied && t("cases.letters-none")),
+                letters.length > 0 && howPrinted(own, large, change),
+                letters.length > 0 && part("ol", { class: "letters" }, letters.map((letter) => part("li", { key: letter.entry },
+                    part("h3", {}, `${dayIn(language(), letter.date)}: ${titleOf(language(), letter)}`),
+                    meaningOf(language(), letter, isOwn() ? t("cases.you") : who, letters).map((it) => part("p", {}, it)), reasonsOf(language(), letter),
+                    part("div", { class: "row" }, button(t("cases.print-letter", { entry: letter.entry, rider }), () => print(letter, rider, { own, large, letters }))),
+                    part("details", {}, part("summary", {}, t("cases.on-record", { entry: letter.entry })),
+                        part("pre", { lang: "en", tabindex: 0, role: "region", "aria-label": t("cases.on-record", { entry: letter.entry }) }, letter.text)),
+                    appealShown(letter, letters, { rider, entered, appeal: appeals ? () => appeal(letter) : null }),
+                    part("div", { role: "status", id: `answer-letter-${letter.entry}` }, answerAt === letter.entry && answer))))];
+        },
     });
+    const redraw = async () => screen.change({ entered: await enteredOf(rider) });
     /** @param {Letter} letter */
     async function appeal(letter) {
         const against = { title: titleOf(language(), letter), day: dayIn(language(), letter.date), who, rider };
         if (!await asked({ question: t(isOwn() ? "cases.appeal-question-own" : "cases.appeal-question", against), detail: t("cases.appeal-detail", against),
             yes: t(isOwn() ? "cases.appeal-yes-own" : "cases.appeal-yes", against), danger: true })) return;
-        const reply = await desk.enter(rider, { entry: "appeal", against: letter.entry });
-        const answer = reply.denied !== undefined ? denialOf(reply, isOwn() ? "rider" : "entry")
+        const reply = await enter(rider, { entry: "appeal", against: letter.entry });
+        const answer = reply.denied !== undefined ? denialOf(reply, isOwn() ? "appeal-own" : "appeal")
             : part("p", { class: "good" }, t(isOwn() ? "cases.appealed-own" : "cases.appealed", against));
+        await redraw();
         screen.change({ answerAt: letter.entry, answer }, { focus: `answer-letter-${letter.entry}` });
-        if (reply.denied === undefined) tellReaders(rider);
     }
-    const refresh = async () => {
-        const [{ letters, denied }] = await Promise.all([readLetters(rider), loadBoth(), loadOwnName(rider)]);
-        if (denied?.denied !== "left") screen.change({ letters, denied: denied ?? null });
-    };
-    refresh();
-    return { element: screen.element, refresh };
+    read.watch(screen.element, redraw);
+    Promise.all([loadBoth(), loadOwnName(rider)]).then(() => screen.change({ ready: true }));
+    return { element: screen.element, refresh: read.again };
 }

@@ -13,7 +13,7 @@ import { plainOf } from "../parts/plain.js";
 import { makeScreen } from "../parts/screen.js";
 import { t } from "../parts/words.js";
 import { entryForm, faultOfDays } from "./cases.js";
-import { readLetters } from "./letters.js";
+import { lettersRead } from "./letters.js";
 import { windowOf } from "./ticket.js";
 
 /** @typedef {import("../types").Trip} Trip */
@@ -83,7 +83,7 @@ export function suspensionFor(rider, entered) {
         return [proposed && part("p", {}, t("cases.proposed", { first: dayInWords(proposed.first), last: dayInWords(proposed.last) })),
             kept("form", () => entryForm(rider, "suspend", entered, { fields }))];
     } });
-    readLetters(rider).then(({ letters }) => screen.change({ letters }));
+    lettersRead(rider).again().then((reply) => { if (reply.denied !== "left") screen.change({ letters: reply.value ?? [] }); });
     return screen.element;
 }
 

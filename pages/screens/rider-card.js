@@ -1,27 +1,53 @@
-// What a clerk has to know of the rider who calls: standing, conditions, and what the agency's roster says.
+// What a clerk has to know of the rider who calls: standing, conditions, what waits, and what the agency's roster says.
 
-import { placeName } from "../parts/agency.js";
-import { dayInWords, today } from "../parts/clock.js";
+import { placeName, placeNote } from "../parts/agency.js";
+import { suspensionOn, waits } from "../parts/case-facts.js";
+import { dayInWords, dayShort, today } from "../parts/clock.js";
 import * as desk from "../parts/desk.js";
 import { denialOf } from "../parts/denials.js";
 import { part } from "../parts/element.js";
+import { enteredOf } from "../parts/entered.js";
+import { reading } from "../parts/reads.js";
 import { riderLabel, riderOf } from "../parts/roster.js";
 import { makeScreen } from "../parts/screen.js";
-import { LANGUAGE_NAMES, listed, t } from "../parts/words.js";
+import { anyOf, LANGUAGE_NAMES, listed, t } from "../parts/words.js";
 import { conditionInWords } from "./cases.js";
+import { lettersRead } from "./letters.js";
+import { listsIn, worklistRead } from "./worklist.js";
 
 /** @typedef {import("../types").Standing} Standing */
+/** @typedef {import("../types").Given} Given */
+/** @typedef {import("../parts/entered.js").Entered} Entered */
+/** @typedef {{ from: string, to: string } | null} Days */
 
 const MAY_RIDE = ["presumed", "appeal-overdue", "granted", "visitor"], RECORD = "#clerk/rider";
 /** A clerk makes records and is told the standing, a dispatcher neither. */
 const isClerk = () => location.hash.startsWith("#clerk");
 
-/** @param {Standing} told */
-function standingWords({ standing, suspended, until, conditions }) {
-    const may = !suspended && MAY_RIDE.includes(standing);
-    return part("div", { class: `standing ${may ? "yes" : "no"}` }, part("p", { class: "verdict" }, may ? "✓ " : "✗ ",
-        t(suspended ? "clerk.suspended" : `clerk.standing-${standing}`), until && ` ${t("clerk.until", { day: dayInWords(until) })}`),
-    conditions && conditions.join() !== "always" && part("p", {}, t("clerk.conditions", { conditions: listed(conditions.map((it) => String(conditionInWords(it)))) })));
+/** The verdict of today. A suspension has days of its own, and eligibility has its own last day.
+ * @param {Standing} told @param {Days} days those of the suspension, where its letter is known
+ */
+function verdictOf({ standing, suspended, until }, days) {
+    if (suspended) return days ? t("clerk.suspended-days", { from: dayInWords(days.from), to: dayInWords(days.to) }) : t("clerk.suspended");
+    return [t(`clerk.standing-${standing}`), until && t("clerk.until", { day: dayInWords(until) })].filter(Boolean).join(" ");
+}
+
+/** @param {Standing} told @param {Days} days @param {Given[]} waiting */
+function standingWords(told, days, waiting) {
+    const { standing, suspended, until, conditions } = told, may = !suspended && MAY_RIDE.includes(standing);
+    return part("div", { class: `standing ${may ? "yes" : "no"}` }, part("p", { class: "verdict" }, may ? "✓ " : "✗ ", verdictOf(told, days)),
+        suspended && until && part("p", {}, t("clerk.on-file", { day: dayInWords(until) })),
+        conditions && conditions.join() !== "always" && part("p", {}, t("clerk.conditions", { conditions: anyOf(conditions.map((it) => String(conditionInWords(it)))) })),
+        waiting.map((it) => part("p", { class: "waits" }, it)));
+}
+
+/** What waits for a decision, and since when.
+ * @param {{ rider: number, letters: import("../parts/case-facts.js").Letter[], entered: Entered[], lists: any[] }} known @returns {Given[]}
+ */
+function waitingWords(known) {
+    const application = waits("complete", known), appeal = waits("appeal", known);
+    return [application && t("clerk.application-waits", { day: dayShort(application.since) }),
+        appeal && t(appeal.heard ? "clerk.appeal-heard" : "clerk.appeal-waits", { day: dayShort(appeal.since), heard: dayShort(appeal.heard ?? appeal.since) })].filter(Boolean);
 }
 
 /** @param {number} rider @returns {[string, import("../types").Given][]} */
@@ -30,28 +56,53 @@ function knownOf(rider) {
     if (!known) return [];
     /** @type {[string, import("../types").Given][]} */
     const all = [["telephone", known.telephone && part("a", { href: `tel:${known.telephone.replace(/[^\d+]/g, "")}` }, known.telephone)],
-        ["home", known.home === null ? null : placeName(known.home)], ["usual", listed(known.usual.map(placeName))], ["aid", known.aid], ["note", known.note],
+        ["home", known.home === null ? null : [placeName(known.home), placeNote(known.home)].filter(Boolean).join(", ")], ["usual", listed(known.usual.map(placeName))], ["aid", known.aid], ["note", known.note],
         ["language", known.language && known.language !== "en" ? LANGUAGE_NAMES[/** @type {"es"} */ (known.language)] ?? known.language : null]];
     return all.filter(([, value]) => value);
+}
+
+/** What the desk, the letters and the list of what waits say of a rider today. The letters cost some requests and are read where they tell
+ * something: where the rider is suspended, or something waits.
+ * @param {number} rider
+ */
+function knownToday(rider) {
+    const standing = reading(desk.pathOf.standing(rider, today())), letters = lettersRead(rider), list = worklistRead();
+    return { standing, letters, list, needsLetters: (/** @type {Entered[]} */ entered) => {
+        const told = standing.reply(), lists = listsIn(list.reply());
+        return told?.value && (told.value.suspended || waitingWords({ rider, letters: [], entered, lists }).length > 0);
+    } };
 }
 
 /** What is known of a rider, and below it what draw() gives, as long as this key may see the rider and there is one.
  * @param {number} rider @param {() => HTMLElement[]} draw
  */
 export function withCard(rider, draw) {
-    const screen = makeScreen({ state: { reply: /** @type {any} */ (null) }, draw: ({ reply }, { kept }) => {
-        const denied = reply?.denied !== undefined, words = reply === null ? t("clerk.reading") : denied ? denialOf(reply, "standing") : standingWords(reply.value);
-        return [part("section", { class: "card rider-card" }, part("h2", {}, t("clerk.rider", { rider: riderLabel(rider) })), part("div", { role: "status" }, isClerk() && words),
-            reply?.denied === "desk.unknown" && isClerk() && part("p", {}, part("a", { href: RECORD }, t("clerk.make-record", { rider: riderLabel(rider) }))),
+    /** @type {ReturnType<typeof knownToday> | null} */
+    let known = null;
+    const screen = makeScreen({ state: { entered: /** @type {Entered[]} */ ([]) }, class: "call", draw: ({ entered }, { kept }) => {
+        const reply = known?.standing.reply() ?? null, denied = reply?.denied !== undefined, letters = known?.letters.reply()?.value ?? [];
+        const words = () => (reply === null ? t("clerk.reading") : denied ? denialOf(reply, "standing") : standingWords(reply.value, suspensionOn(letters, today()),
+            waitingWords({ rider, letters, entered, lists: listsIn(known?.list.reply()) })));
+        return [part("section", { class: "card rider-card" }, part("h2", {}, t("clerk.rider", { rider: riderLabel(rider) })), known?.standing.age(),
+            part("div", { role: "status" }, isClerk() && words()),
+            denied && reply.denied === "desk.unknown" && isClerk() && part("p", {}, part("a", { href: RECORD }, t("clerk.make-record", { rider: riderLabel(rider) }))),
             part("dl", { class: "facts" }, knownOf(rider).map(([name, value]) => part("div", {}, part("dt", {}, t(`clerk.${name}`)), part("dd", {}, value))))),
-        part("div", { class: "stack", hidden: denied }, kept("below", draw))];
+        part("div", { class: "below", hidden: denied }, kept("below", draw))];
     } });
-    const refresh = async () => {
-        if (!isClerk()) return;
-        const reply = await desk.standing(rider, today());
-        if (reply.denied !== "left") screen.change({ reply });
+    /** @type {(() => void)[]} */
+    let leave = [];
+    const changed = async () => {
+        const entered = await enteredOf(rider);
+        screen.change({ entered });
+        if (known?.needsLetters(entered) && leave.length === 2) leave.push(known.letters.watch(screen.element, changed));
     };
-    screen.onNewDay(refresh);
-    refresh();
+    const begin = () => {
+        if (!isClerk()) return;
+        leave.forEach((act) => act());
+        known = knownToday(rider);
+        leave = [known.standing.watch(screen.element, changed), known.list.watch(screen.element, changed)];
+    };
+    screen.onNewDay(begin);
+    begin();
     return screen.element;
 }

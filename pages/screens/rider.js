@@ -4,8 +4,11 @@ import { agency, hasOwnPlaces, loadOwnPlaces } from "../parts/agency.js";
 import { today } from "../parts/clock.js";
 import * as desk from "../parts/desk.js";
 import { denialOf } from "../parts/denials.js";
+import { draftIn } from "../parts/drafts.js";
 import { make, part } from "../parts/element.js";
+import { reading } from "../parts/reads.js";
 import { makeScreen } from "../parts/screen.js";
+import { lookAtSent, sentFor } from "../parts/sent.js";
 import { keepSubject, withSubject } from "../parts/subject.js";
 import { t } from "../parts/words.js";
 import { bookingFor, offersFor } from "./booking.js";
@@ -44,15 +47,21 @@ const trips = (rider) => [offersFor(rider), tripsOfRider(rider, { heading: t("ri
  * @param {number} rider
  */
 function book(rider) {
-    const booking = bookingFor(rider);
+    const booking = bookingFor(rider, { booked: () => draft.drop() }), draft = draftIn(booking.element, `book ${rider}`);
     const copied = again;
     again = null;
-    if (copied) setTimeout(() => booking.copy(copied.trip, copied.back));
+    if (copied) setTimeout(() => {
+        booking.copy(copied.trip, copied.back);
+        draft.keep();
+    });
     const screen = makeScreen({ state: { denied: /** @type {any} */ (null) }, draw: ({ denied }) => (denied ? denialOf(denied, "rider") : booking.element) });
+    // (places of earlier trips are offered first, and a question before a booking has them already)
+    reading(desk.pathOf.trips(rider)).watch(screen.element, () => {});
     desk.standing(rider, today()).then((reply) => {
         if (reply.denied !== undefined && reply.denied !== "left") screen.change({ denied: reply });
     });
-    return [screen.element, ...help()];
+    lookAtSent();
+    return [make("div", { class: "stack", "data-sent": rider }, sentFor(rider), screen.element), ...help()];
 }
 
 /** @param {number} rider */

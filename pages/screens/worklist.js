@@ -1,9 +1,9 @@
 // What waits in the office: the list that the site makes each night of a copy of the desk's file (docs/WORKLIST.md). The desk tells an officer's
 // key no trips, so the missed trips on which an officer decides are read here. Of the file only its words come onto the page, never its markup.
 
-import * as desk from "../parts/desk.js";
 import { button, part, table } from "../parts/element.js";
 import { printParts } from "../parts/paper.js";
+import { fileAt, reading } from "../parts/reads.js";
 import { makeScreen } from "../parts/screen.js";
 import { keepSubject } from "../parts/subject.js";
 import { t } from "../parts/words.js";
@@ -13,11 +13,11 @@ import { t } from "../parts/words.js";
 /** @typedef {{ id: string, title: string, said: string[], tables: Table[] }} List */
 /** @typedef {{ said: string[], lists: List[], files: List[], fault?: undefined } | { fault: string }} Found */
 
-const FILE = "/staff/worklist.html", FILES = "rider-";
+const FILE = "/staff/worklist.html", FILES = "rider-", SELDOM = 300_000;
 /** Whose work each list is, and the part of the screen that shows a rider of it.
  * @type {Record<string, Record<string, string>>}
  */
-const OWN = { examiner: { applications: "case", grants: "case" }, officer: { appeals: "appeals", missed: "suspensions" },
+const OWN = { clerk: { applications: "file", appeals: "file", grants: "file" }, examiner: { applications: "case", grants: "case" }, officer: { appeals: "appeals", missed: "suspensions" },
     dispatcher: { canceled: "riders", suspended: "riders", outcomes: "", vehicles: "" } };
 
 /** @param {Element | null} it */
@@ -30,14 +30,24 @@ const wordsOfTable = (it) => ({ heads: [...it.querySelectorAll("thead th")].map(
 const listOf = (it) => ({ id: it.id, title: wordsOf(it.querySelector("h2, summary")), said: [...it.querySelectorAll("p")].map(wordsOf).filter(Boolean),
     tables: [...it.querySelectorAll("table")].map(wordsOfTable).filter(({ rows }) => rows.length > 0) });
 
-/** @returns {Promise<Found>} */
-async function readWorklist() {
-    const { status, text } = await desk.fetchFile(FILE);
-    if (status !== 200) return { fault: status === 404 ? "none" : status === 401 || status === 403 ? "caller" : "silent" };
-    const { body } = new DOMParser().parseFromString(text ?? "", "text/html"), main = body.querySelector("main") ?? body;
+/** @param {string} text @returns {Found} */
+function foundIn(text) {
+    const { body } = new DOMParser().parseFromString(text, "text/html"), main = body.querySelector("main") ?? body;
     const all = (/** @type {string} */ those) => [...main.querySelectorAll(those)];
     return { said: all(":scope > p").map(wordsOf), lists: all("section[id]").map(listOf), files: all(`details[id^="${FILES}"]`).map(listOf) };
 }
+
+/** What waits, as it is known to all screens. It is made once a night. */
+export const worklistRead = () => reading(FILE, { period: SELDOM, read: async (ask, before) => {
+    const told = await fileAt(FILE)(ask, before);
+    if (told.silent) return before?.fault === undefined && before ? told : { value: { fault: "silent" } };
+    return { value: told.status === 200 ? foundIn(told.value ?? "") : { fault: told.status === 401 || told.status === 403 ? "caller" : told.status === 404 ? "none" : "silent" } };
+} });
+
+/** The lists of what waits, none where they are not known.
+ * @param {any} reply @returns {List[]}
+ */
+export const listsIn = (reply) => reply?.value?.lists ?? [];
 
 /** @param {string} fault */
 const faultWords = (fault) => part("p", { class: "note" }, t(`cases.waits-${fault}`));
@@ -68,23 +78,21 @@ const print = (lists, said) => printParts(t("cases.waits"), [said.map((it) => pa
     list.said.map((it) => part("p", {}, it)), list.tables.map(paperOf)))]);
 
 /** What waits: the lists of who reads first, the others folded below.
- * @param {"examiner" | "officer" | "dispatcher"} reader
+ * @param {"clerk" | "examiner" | "officer" | "dispatcher"} reader
  */
 export function worklist(reader) {
-    const own = OWN[reader], address = (/** @type {string} */ id) => own[id] && `${reader}/${own[id]}`;
-    const screen = makeScreen({ state: { found: /** @type {Found | null} */ (null) }, draw: ({ found }) => {
+    const own = OWN[reader], address = (/** @type {string} */ id) => own[id] && `${reader}/${own[id]}`, list = worklistRead();
+    const screen = makeScreen({ state: {}, draw: () => {
+        const found = /** @type {Found | null} */ (list.reply()?.value ?? null);
         if (!found) return part("p", { role: "status" }, t("cases.waits-reading"));
-        if (found.fault !== undefined) return [faultWords(found.fault), part("div", { class: "row" }, button(t("cases.waits-again"), read))];
+        if (found.fault !== undefined) return [faultWords(found.fault), part("div", { class: "row" }, button(t("cases.waits-again"), () => list.again()))];
         const { lists, said } = found, others = lists.filter(({ id }) => !(id in own));
-        return [part("div", { lang: "en" }, said.map((it) => part("p", {}, it))), lists.filter(({ id }) => id in own).map((it) => card(it, address(it.id))),
+        return [list.age(), part("div", { lang: "en" }, said.map((it) => part("p", {}, it))), lists.filter(({ id }) => id in own).map((it) => card(it, address(it.id))),
             others.length > 0 && part("details", {}, part("summary", {}, t("cases.waits-others")), part("div", { class: "stack" }, others.map((it) => card(it)))),
             lists.length > 0 && part("div", { class: "row" }, button(t("cases.waits-print"), () => print(lists, said)))];
     } });
-    async function read() {
-        screen.change({ found: await readWorklist() });
-    }
-    screen.onNewDay(read);
-    read();
+    screen.onNewDay(() => list.again());
+    list.watch(screen.element, () => screen.change({}));
     return screen.element;
 }
 
@@ -98,7 +106,9 @@ const rowsOf = (list, rider) => ({ ...list, tables: list.tables.map(({ heads, ro
  * @param {number} rider
  */
 export function waitingOf(rider) {
-    const screen = makeScreen({ state: { found: /** @type {Found | null} */ (null) }, class: "card", draw: ({ found }) => {
+    const list = worklistRead();
+    const screen = makeScreen({ state: {}, class: "card", draw: () => {
+        const found = /** @type {Found | null} */ (list.reply()?.value ?? null);
         const head = [part("h2", {}, t("cases.missed-of", { rider })), part("p", { class: "hint" }, t("cases.missed-hint"))];
         if (!found) return [head, part("p", { role: "status" }, t("cases.waits-reading"))];
         if (found.fault !== undefined) return [head, faultWords(found.fault)];
@@ -107,6 +117,6 @@ export function waitingOf(rider) {
         return [head, part("div", { lang: "en" }, found.said.map((it) => part("p", {}, it))), !shown.length && part("p", {}, t("cases.missed-none")),
             shown.map((list) => part("section", { key: list.id, lang: "en" }, part("h3", {}, list.title), list.said.map((it) => part("p", {}, it)), tablesOf(list)))];
     } });
-    readWorklist().then((found) => screen.change({ found }));
+    list.watch(screen.element, () => screen.change({}));
     return screen.element;
 }

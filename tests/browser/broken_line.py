@@ -1,6 +1,10 @@
 """A line that breaks at each step of a write, a desk that is slow or gone, two windows, other devices: done once."""
 import json
+import re
 
+from selenium.webdriver.common.keys import Keys
+
+from booking import BOOK, begin
 from browser import pause
 from checks import check, holds, same
 from database import until
@@ -117,7 +121,7 @@ def a_page_that_is_loaded_anew_while_it_sends_says_that_it_is_done_once(at):
         asks(at, "book", wish(940))
         until("the write comes", at.town.middle.writes)
         at.browser.reload()
-    at.browser.sees("What was being sent when this page was loaded is done, once.")
+    at.browser.sees("These trips were asked for earlier.", "is booked for Samuel Grant (1005): Fri, Mar 14, pickup")
     same("the trips", before + 1, trips(at))
 
 
@@ -129,7 +133,7 @@ def without_a_line_what_was_being_sent_outlives_a_reload(at):
         asks(at, "book", wish(1000))
         at.browser.sees(SIGN)
         at.browser.script("location.reload()")
-    at.browser.sees("What was being sent when this page was loaded is done, once.")
+    at.browser.sees("These trips were asked for earlier.", "is booked for Samuel Grant (1005): Fri, Mar 14, pickup")
     same("the trips", before + 1, trips(at))
 
 
@@ -235,3 +239,89 @@ def numbers_of_writes_are_used_once(at):
     for number, body in sent:
         bodies.setdefault(number, set()).add(body)
     same("numbers of two writes", [], [number for number, those in bodies.items() if len(those) > 1])
+
+
+# What was sent while nobody could see the answer.
+
+LISTED = """const it = document.querySelector('[data-sent-list="1005"]');
+return [...(it?.querySelectorAll('li') ?? [])].map((it) => it.innerText.split("\\n")[0])"""
+
+
+def asks_for_two_days(at, day="2025-03-19", further="Thu, Mar 20"):
+    """A clerk asks for a round trip on two days."""
+    at.browser.fill_all({"From": "town", "To": "hosp", "Day": day, "Pickup time": "9 am",
+                         "Return pickup": "2 pm"})
+    at.browser.press("The same on further days")
+    at.browser.fill(further, True)
+    at.browser.press(BOOK)
+
+
+@check
+def what_was_sent_while_the_clerk_took_the_next_call_is_listed(at):
+    begin(at, "1005", "clerk")
+    before = trips(at)
+    with at.town.middle.gone():
+        asks_for_two_days(at)
+        at.browser.sees(SIGN)
+        at.browser.keys("/")
+        at.browser.fill("Rider number", "1006")
+        at.browser.keys(Keys.ENTER)
+        at.browser.find("button", re.compile("^Book the trip for Ana"))
+    until("four trips", lambda: trips(at) == before + 4)
+    at.browser.sees("These trips were asked for earlier. This is what came of them:")
+    booked = sorted(it["trip"] for it in at.town.trips_of(RIDER))[-4:]
+    for trip in booked:
+        at.browser.sees(f"Trip {trip} is booked for Samuel Grant (1005)")
+    at.browser.fill("Language", "es")
+    at.browser.sees(f"El viaje {booked[0]} está reservado para Samuel Grant (1005)")
+    at.browser.fill("Idioma", "en")
+    at.browser.fill("Rider number", "1005")
+    at.browser.press("Show")
+    at.browser.sees("Sent earlier: what came of it")
+    same("legs that are listed", [str(it) for it in booked], [re.search(r"Trip (\d+)", it)[1] for it in at.browser.script(LISTED)])
+    at.browser.press("I have read this")
+    at.browser.sees_no("Sent earlier: what came of it", "These trips were asked for earlier")
+
+
+@check
+def a_denial_that_came_late_is_listed_with_its_reason(at):
+    begin(at, "1005", "clerk")
+    with at.town.middle.gone():
+        asks(at, "book", wish(600, **{"from": 1, "to": 4}))
+        at.browser.sees(SIGN)
+    at.browser.sees("Not booked for Samuel Grant (1005): Fri, Mar 14", "49 CFR 37.131")
+
+
+@check
+def a_reload_in_the_middle_of_four_legs_loses_none_silently(at):
+    begin(at, "1005", "clerk")
+    before = trips(at)
+    at.town.middle.breaks(LOST, times=1000)
+    try:
+        asks_for_two_days(at, "2025-03-21", "Sat, Mar 22")
+        at.browser.sees(SIGN)
+        at.browser.script("location.reload()")
+        at.browser.find("field", "Rider number")
+    finally:
+        at.town.middle.planned.clear()
+    until("the list has four legs", lambda: len(at.browser.script(LISTED)) == 4 and "Being" not in "".join(at.browser.script(LISTED)))
+    listed = at.browser.script(LISTED)
+    holds(f"the first is {listed[0]}", listed[0].startswith("Trip ") and "is booked for Samuel Grant (1005): Fri, Mar 21" in listed[0])
+    same("the others", ["Not sent for Samuel Grant (1005)"] * 3, [it.split(":")[0] for it in listed[1:]])
+    same("trips at the desk", before + 1, trips(at))
+
+
+# The agency's own files.
+
+
+@check
+def files_that_were_missed_are_asked_for_again(at):
+    at.browser.sign_in(at.keys["clerk"], "clerk", "trips")
+    at.browser.keep_subjects()
+    with at.town.middle.gone():
+        at.browser.reload()
+        at.browser.sees(SIGN)
+    at.browser.sees("Trips of", "12 Oak Street")
+    at.browser.fill("Rider number", "")
+    at.browser.find("field", "Rider number").send_keys("alva")
+    at.browser.find("option", re.compile("Rosa Álvarez"))

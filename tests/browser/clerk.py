@@ -1,14 +1,19 @@
-"""The clerk's counter: riders found by name, what is known of them, their records."""
+"""The clerk's counter: riders found by name, what is known of them and how old it is, their records."""
+import contextlib
 import csv
+import datetime
+import json
 import os
 import re
 
+from selenium.webdriver.common.action_chains import ActionChains
 from selenium.webdriver.common.by import By
 from selenium.webdriver.common.keys import Keys
 
-from booking import BOOK, begin, wait_for
+from booking import BOOK, THURSDAY, begin, results, wait_for, wish
 from checks import check, holds, same
 from database import until
+from people import TODAY, TOMORROW, ZONE
 
 VANS = 1
 MANY = 20_000
@@ -61,7 +66,7 @@ def riders_are_found_by_parts_of_their_names_without_accents(at):
 @check
 def a_number_that_begins_others_shows_that_very_rider(at):
     begin(at)
-    at.browser.keys(Keys.TAB, *"100", Keys.ENTER)
+    at.browser.keys(*"100", Keys.ENTER)
     at.browser.sees("Rider 100", "There is no rider of this number.")
 
 
@@ -239,6 +244,13 @@ def who_does_nothing_for_long_is_signed_out(at):
             begin(at, "1001")
             at.browser.script("const real = Date.now; Date.now = () => real() + 70000")
             at.browser.sees("You will be signed out in a minute.")
+            # (the note moves the page, which is no use of it)
+            at.browser.script("document.dispatchEvent(new Event('scroll', { bubbles: true }))")
+            at.browser.settled()
+            at.browser.sees("You will be signed out in a minute.")
+            at.browser.script("scrollTo(0, 500)")
+            top = at.browser.script("return document.querySelector('[data-note]').getBoundingClientRect().top")
+            holds(f"the warning is at {top}", 0 <= top < 300)
             at.browser.keys(Keys.TAB)
             at.browser.sees_no("You will be signed out in a minute.")
             at.browser.script("const now = Date.now; Date.now = () => now() + 121000")
@@ -248,3 +260,397 @@ def who_does_nothing_for_long_is_signed_out(at):
             holds(f"{secret} is kept: {kept}", secret not in kept)
     finally:
         at.town.write_files()
+
+
+# How old what is shown is.
+
+
+def list_of(at):
+    return at.browser.script("""return [...document.querySelectorAll('h2')].find((it) => /^Trips of/.test(it.textContent))
+        ?.parentElement.innerText ?? ''""")
+
+
+def changed_beside(at, trip, minute):
+    """Another device moves a trip; the new window as the page writes it."""
+    told = at.town.post("third clerk", f"/trips/{trip}/change", {
+        "day": THURSDAY, "wish": minute, "from": 1, "to": 2, "by": None, "attendant": False, "companions": 0})
+    return clock_of(told["window_from"]).removesuffix(" AM").removesuffix(" PM")
+
+
+def clock_of(minute):
+    return f"{minute // 60 % 12 or 12}:{minute % 60:02} {'AM' if minute < 720 else 'PM'}"
+
+
+@check
+def a_list_is_read_again_at_show_at_a_look_and_by_itself(at):
+    trip = at.town.book(1005, THURSDAY, 600, 1, 2)
+    with at.browser.clock(hurry=20):
+        begin(at, "1005")
+        until("the trip is not listed", lambda: str(trip) in list_of(at))
+        for what, minute, act in [
+                ("Show", 660, lambda: at.browser.press("Show")),
+                ("a look", 720, lambda: at.browser.script("window.dispatchEvent(new Event('focus'))")),
+                ("half a minute", 780, lambda: at.browser.passes(31))]:
+            moved = changed_beside(at, trip, minute)
+            act()
+            until(f"{what} shows {moved}", lambda moved=moved: moved in list_of(at), 10)
+    at.town.post("third clerk", f"/trips/{trip}/cancel", {})
+
+
+@check
+def what_another_window_writes_is_seen_at_once(at):
+    trip = at.town.book(1005, THURSDAY, 600, 1, 2)
+    begin(at, "1005", "clerk")
+    until("the trip is not listed", lambda: f"\n{trip}\t" in list_of(at) or str(trip) in list_of(at))
+    with at.browser.second_window() as (first, second):
+        begin(at, "1005")
+        at.browser.press(f"Cancel trip {trip} of Samuel Grant (1005)")
+        at.browser.press(f"Yes, cancel trip {trip}")
+        at.browser.sees(f"Trip {trip} of Samuel Grant (1005) is cancelled.")
+        first()
+        until("the other window's list", lambda: not at.browser.is_there("button", re.compile(f"^Cancel trip {trip} ")))
+        second()
+
+
+@check
+def what_nothing_answers_for_stays_and_says_its_age(at):
+    at.town.book(1005, THURSDAY, 600, 1, 2)
+    begin(at, "1005")
+    at.browser.sees("Upcoming", "May ride until")
+    at.town.stop_desk()
+    try:
+        at.browser.script("window.dispatchEvent(new Event('focus'))")
+        at.browser.sees("As of 12:00 PM. There is no answer to a newer question yet.", "May ride until", "Upcoming")
+    finally:
+        at.town.start_desk()
+    at.browser.script("window.dispatchEvent(new Event('focus'))")
+    at.browser.sees_no("As of 12:00 PM")
+    at.browser.sees("Upcoming")
+
+
+@check
+def the_same_trip_of_another_clerk_is_asked_about(at):
+    begin(at, "1005")
+    at.browser.sees("Trips of Samuel Grant")
+    at.town.book(1005, THURSDAY, 900, 3, 7)
+    wish(at, start="school", goal="library", day=THURSDAY, wish="3 pm")
+    at.browser.press(BOOK)
+    at.browser.find("button", "Yes, book once more")
+    at.browser.press("No, go back")
+
+
+# Where the van of today is.
+
+
+def made_at(minute):
+    """A minute of the day after, by the agency's clocks, as the file of the day has it."""
+    there = datetime.datetime.fromisoformat(TOMORROW).replace(hour=minute // 60, minute=minute % 60, tzinfo=ZONE)
+    return there.astimezone(datetime.timezone.utc).strftime("%Y-%m-%dT%H:%M:%SZ")
+
+
+@contextlib.contextmanager
+def late(at, rider, minutes=2):
+    """So many minutes after the window of a rider's first trip of the day after."""
+    trip = min((it for it in at.town.trips_of(rider) if it["day"] == TOMORROW and it["status"] == "booked"),
+               key=lambda it: it["window_from"])
+    minute = trip["window_to"] + minutes
+    at.town.set_clock(TOMORROW, f"{minute // 60:02}:{minute % 60:02}")
+    try:
+        yield trip, minute
+    finally:
+        at.town.write_file("staff/today.json", None)
+        at.town.set_clock(TODAY)
+
+
+@check
+def where_a_late_van_is_is_answered_without_scrolling(at):
+    with late(at, 1001) as (trip, minute):
+        taps = [{"trip": trip["trip"] + 1, "kind": "aboard", "minute": minute - 5}, {"trip": "x"}, None]
+        at.town.write_file("staff/today.json", json.dumps({"day": TOMORROW, "made": made_at(minute), "vehicles": {
+            str(trip["vehicle"]): {"taps": taps}}}))
+        with at.browser.screen(1366, 625):
+            begin(at, "1001")
+            at.browser.sees("Today", "Window over, no update from Van 1, blue", "Ask dispatch where Van 1, blue is.",
+                            f"Van 1, blue picked up trip {trip['trip'] + 1} at {clock_of(minute - 5)}.")
+            seen = at.browser.script("""const it = document.querySelector('[data-trip] .state').getBoundingClientRect();
+                return [it.top >= 0, it.bottom <= innerHeight, scrollY]""")
+            same("the state is in view, and nothing was scrolled", [True, True, 0], seen)
+        at.browser.sign_in(at.keys["dispatcher"], "dispatcher", "riders")
+        at.browser.fill("Rider number", "1001")
+        at.browser.press("Show")
+        at.browser.sees("Window over, no update from Van 1, blue", "Call the driver of Van 1, blue.")
+        at.town.write_file("staff/today.json", "no JSON")
+        begin(at, "1001")
+        at.browser.sees("Window over, no update from Van 1, blue")
+
+
+@check
+def a_trip_of_today_is_earlier_once_it_has_an_outcome(at):
+    with late(at, 1002) as (trip, _):
+        begin(at, "1002")
+        at.browser.sees("Window over, no update from Van 1, blue")
+        at.town.post("dispatcher", f"/trips/{trip['trip']}/outcome", {"outcome": "ridden"})
+        at.browser.press("Show")
+        until("it is under Today still", lambda: not at.browser.script(
+            "return !!document.querySelector(`[data-trip='${arguments[0]}']`)", trip["trip"]))
+        at.browser.sees("1 earlier")
+
+
+# Lists that are searched.
+
+
+def from_disk(at, *rows):
+    path = os.path.join(at.folder, "names.csv")
+    with open(path, "w", encoding="utf-8") as file:
+        file.write("\n".join(["rider,name,telephone", *rows]))
+    at.browser.press(re.compile("^Roster: "))
+    at.browser.driver.find_element(By.ID, "roster-file").send_keys(path)
+    at.browser.sees(f"From names.csv: {len(rows)} riders.")
+
+
+@check
+def names_are_found_however_their_signs_are_typed(at):
+    begin(at)
+    from_disk(at, "1002,Dorothy O'Neill,", "1005,Seán O’Brien,", "1006,Ana Núñez-Ortiz,")
+    for typed, name in [("oneill", "Dorothy O'Neill (1002)"), ("O\u2019Neill", "Dorothy O'Neill (1002)"),
+                        ("o neill", "Dorothy O'Neill (1002)"), ("O'Brien", "Seán O’Brien (1005)"), ("obrien", "Seán O’Brien (1005)"),
+                        ("Ana Núñez-Ortiz", "Ana Núñez-Ortiz (1006)"), ("nunez ortiz", "Ana Núñez-Ortiz (1006)"),
+                        ("nunez-ortiz", "Ana Núñez-Ortiz (1006)"), ("#1006", "Ana Núñez-Ortiz (1006)")]:
+        same(typed, name, (found_by(at, typed) or [""])[0])
+
+
+@check
+def a_telephone_number_is_searched_before_riders_numbers(at):
+    begin(at)
+    from_disk(at, "1007,Walter Kowalski,315-555-0133", "1008,Irene Kowalski,(315) 555-0133", "1005,Samuel Grant,315-555-0177")
+    for typed in ["3155550133", "+1 315 555-0133"]:
+        same(typed, ["Walter Kowalski (1007)", "Irene Kowalski (1008)"], found_by(at, typed))
+    at.browser.keys(Keys.ENTER)
+    at.browser.sees("Trips of Walter Kowalski (1007)")
+    at.browser.fill("Rider number", "3155550199")
+    at.browser.keys(Keys.ENTER)
+    at.browser.sees("No rider has this telephone number.")
+    holds("a record of it is offered", not at.browser.is_there("link", re.compile("Make the record")))
+
+
+@check
+def tab_leaves_a_long_list_for_the_next_field(at):
+    begin(at, "1001")
+    for keys, value in [(["e"], "e"), ([Keys.ARROW_DOWN], None), ([Keys.ARROW_DOWN, Keys.ARROW_DOWN], "St. Mary's Dialysis (6)")]:
+        at.browser.fill("From", "")
+        at.browser.find("field", "From").click()
+        at.browser.keys(*keys)
+        at.browser.find("option", re.compile("."))
+        at.browser.keys(Keys.TAB)
+        same(f"the focus after {keys!r}", "To", at.browser.focused())
+        if value:
+            same("what stands in the field", value, at.browser.value("From"))
+
+
+@check
+def a_tap_opens_the_places_with_the_riders_own_first(at):
+    begin(at, "1001")
+    at.browser.find("field", "From").click()
+    at.browser.find("option", re.compile("^12 Oak Street"))
+    shown = at.browser.script("return [...document.querySelectorAll('[role=option]')].map((it) => it.firstChild.textContent)")
+    same("the first ones", ["12 Oak Street (11)", "St. Mary's Dialysis (6)", "General Hospital (2)"], shown[:3])
+    holds("all can be reached", len(shown) >= 10)
+    at.browser.press(re.compile("^12 Oak Street"), "option")
+    same("what stands in the field", "12 Oak Street (11)", at.browser.value("From"))
+    same("the focus", "From", at.browser.focused())
+
+
+@check
+def a_slash_leads_to_the_search_from_anywhere_but_a_text_field(at):
+    begin(at, "1001")
+    same("the focus", "book", at.browser.script("return document.activeElement.id"))
+    at.browser.keys("/")
+    same("the focus after a slash", "Rider number", at.browser.focused())
+    same("what is in the field", "1001", at.browser.value("Rider number"))
+    at.browser.find("field", "From").click()
+    at.browser.keys("/")
+    same("in a text field", ("From", "/"), (at.browser.focused(), at.browser.value("From")))
+    at.browser.go_part("clerk", "rider")
+    at.browser.shown("clerk/rider")
+    at.browser.keys("/")
+    at.browser.shown("clerk/trips")
+    until("the search has the focus", lambda: at.browser.focused() == "Rider number")
+
+
+@check
+def a_note_that_is_closed_leaves_the_focus_where_it_was(at):
+    begin(at, "1001")
+    at.browser.script("""return import("/parts/notes.js").then(({ note }) => { note("one", "One note."); note("two", "Two notes."); })""")
+    at.browser.find("field", "From").click()
+    one, two = (at.browser.driver.find_element(By.CSS_SELECTOR, f"[data-note={it}] button") for it in ("one", "two"))
+    one.click()
+    same("the next note has it", "two", at.browser.script("return document.activeElement.closest('[data-note]')?.dataset.note"))
+    two.click()
+    same("and then what had it before", "From", at.browser.focused())
+
+
+# How many keys a call takes, from the search, where the rider's name is known.
+
+
+def known(at):
+    """Three letters of a name, and Enter."""
+    keys = begin(at)
+    keys.press("alv")
+    at.browser.find("option", re.compile("Rosa"))
+    keys.press(Keys.ENTER)
+    wait_for(at, "the form", "document.activeElement.id === 'book'")
+    at.browser.find("button", re.compile("^Book trip"))
+    return keys
+
+
+def back_to(at, keys, name):
+    for _ in range(12):
+        if re.search(name, at.browser.focused()):
+            return
+        ActionChains(at.browser.driver).key_down(Keys.SHIFT).send_keys(Keys.TAB).key_up(Keys.SHIFT).perform()
+        keys.count += 1
+    raise AssertionError(f"no focus on {name}")
+
+
+@check
+def frequent_calls_take_few_keys(at):
+    at.town.book(1001, "2025-03-20", 600, 11, 6)
+    keys = known(at)
+    holds(f"may I ride, when is my van: {keys.count} keys", keys.count <= 5)
+    at.browser.sees("May ride until", "Pickup")
+    back_to(at, keys, "^Book trip .* again")
+    keys.press(Keys.ENTER)
+    wait_for(at, "the day has the focus", "document.activeElement.name === 'day'")
+    keys.press("f", Keys.ENTER)
+    results(at, 1)
+    holds(f"the same trip on another day: {keys.count} keys", keys.count <= 13)
+    keys = known(at)
+    back_to(at, keys, "^Change trip")
+    keys.press(Keys.ENTER)
+    wait_for(at, "the change has the focus", "document.activeElement.id.startsWith('change-')")
+    while at.browser.focused() != "Pickup time":
+        keys.press(Keys.TAB)
+    keys.press("3p", Keys.ENTER)
+    at.browser.sees("is changed for Rosa Álvarez (1001)")
+    holds(f"an hour later: {keys.count} keys", keys.count <= 15)
+    keys = known(at)
+    back_to(at, keys, "^Cancel trip")
+    keys.press(Keys.ENTER)
+    back_to(at, keys, "^Yes")
+    keys.press(Keys.ENTER)
+    at.browser.sees("is cancelled.")
+    holds(f"a trip is given up: {keys.count} keys", keys.count <= 11)
+    keys.press("/")
+    same("one key leads back to the search", "Rider number", at.browser.focused())
+
+
+# What is half filled.
+
+
+def typed(at):
+    return [at.browser.value(name) for name in ["From", "To", "Day"]]
+
+
+@check
+def a_half_filled_form_outlives_the_next_call_a_part_a_reload_and_the_idle_sign_out(at):
+    at.town.write_files(idle_minutes=20)
+    wanted = ["Mill Road School (3)", "Public Library (7)", THURSDAY]
+    try:
+        with at.browser.clock(hurry=20):
+            begin(at, "1005")
+            wish(at, start="school", goal="library", day=THURSDAY)
+            at.browser.find("field", "To").click()
+            for number in ["1006", "1005"]:
+                at.browser.fill("Rider number", number)
+                at.browser.press("Show")
+                at.browser.sees(f"({number})")
+                until(f"the form of {number}", lambda number=number: typed(at) == (wanted if number == "1005" else ["", "", ""]))
+            at.browser.go_part("clerk", "file")
+            at.browser.shown("clerk/file")
+            at.browser.driver.back()
+            at.browser.shown("clerk/trips")
+            same("after Back", wanted, typed(at))
+            at.browser.reload()
+            at.browser.find("button", BOOK)
+            same("after a reload", wanted, typed(at))
+            at.browser.passes(1205)
+            at.browser.sees("Nobody did anything for 20 minutes")
+            kept = at.browser.script("return JSON.stringify([{ ...localStorage }, { ...sessionStorage }])")
+            holds(f"something of it is kept: {kept}", "School" not in kept and "1005" not in kept)
+            at.browser.fill("Key", at.keys["second clerk"])
+            at.browser.press("Sign in")
+            at.browser.fill("Rider number", "1005")
+            at.browser.press("Show")
+            at.browser.find("button", BOOK)
+            same("after the idle sign-out", wanted, typed(at))
+        at.browser.press("Sign out")
+        begin(at, "1005")
+        same("after signing out by hand", ["", "", ""], typed(at))
+    finally:
+        at.town.write_files()
+
+
+# What a clerk has to know of a case.
+
+WORKLIST = """<main><section id=applications><h2>Applications to decide</h2><table><thead><tr><th>Rider<th>Name<th>Complete on
+<th>Presumed from<th>When<tbody><tr><td>1009<td>Peter Lange<td>2025-02-17<td>2025-03-10<td>today</table></section>
+<section id=appeals><h2>Appeals to decide</h2><table><thead><tr><th>Rider<th>Name<th>Against<th>Filed on<th>Heard on<tbody>
+<tr><td>1006<td>Ana<td>refuse (entry 3)<td>2025-02-20<td>2025-02-25<tr><td>1003<td>Henry<td>entry 1<td>2025-03-01<td>not heard"""
+
+
+@check
+def what_waits_is_on_the_card_and_a_part_of_the_clerks_screen(at):
+    at.town.write_file("staff/worklist.html", WORKLIST)
+    try:
+        for rider, words in [("1009", "An application has waited since Mon, Feb 17."), ("1003", "An appeal has waited since Sat, Mar 1. It has not been heard."),
+                             ("1006", "An appeal has waited since Thu, Feb 20. It was heard on Tue, Feb 25.")]:
+            begin(at, rider)
+            at.browser.sees(words)
+        at.browser.go_part("clerk", "waits")
+        at.browser.sees("Applications to decide", "Peter Lange")
+        at.browser.press("Show rider 1009")
+        at.browser.sees("The case of Peter Lange (1009)")
+    finally:
+        at.town.write_files()
+
+
+@check
+def an_application_that_was_taken_here_is_on_the_card(at):
+    at.town.post("third clerk", "/riders", {"id": 1710, "kind": "resident", "attendant": False, "wheelchair": False})
+    begin(at, "1710")
+    at.browser.sees("May not ride today: nothing is granted")
+    at.browser.go_part("clerk", "file")
+    at.browser.press("Application of rider 1710 taken")
+    at.browser.press("Rider 1710's application is complete")
+    at.browser.press("Yes: rider 1710's application is complete")
+    at.browser.sees("It waits for the examiner.")
+    at.browser.go_part("clerk", "trips")
+    at.browser.sees("An application has waited since Mon, Mar 10. It counts from its 21st day")
+    at.town.post("examiner", "/riders/1710/entries", {"entry": "refuse", "reasons": "lives by the stop, walks well"})
+    at.browser.press("Show")
+    at.browser.sees_no("An application has waited")
+
+
+def suspended(at, rider):
+    """A rider who missed the first trip of the day after, was told of it and heard, and is suspended a day later."""
+    trip = min(it["trip"] for it in at.town.trips_of(rider) if it["day"] == TOMORROW and it["status"] == "booked")
+    at.town.set_clock(TOMORROW, "22:00")
+    at.town.post("dispatcher", f"/trips/{trip}/outcome", {"outcome": "missed-rider"})
+    at.town.set_clock("2025-03-12")
+    for holder, entry in [("clerk", {"entry": "notice", "basis": "March 11, the first trip"}), ("officer", {"entry": "notice-heard"}),
+                          ("officer", {"entry": "suspend", "starts": "2025-03-13", "ends": "2025-03-20", "reasons": "a pattern of missed trips"})]:
+        same(entry["entry"], True, "entered" in at.town.post(holder, f"/riders/{rider}/entries", entry))
+    at.town.set_clock("2025-03-14")
+
+
+@check
+def a_suspension_has_days_of_its_own_on_the_card(at):
+    try:
+        suspended(at, 1007)
+        begin(at, "1007")
+        at.browser.sees("May not ride today: suspended from Thursday, March 13, 2025 through Thursday, March 20, 2025",
+                        "Eligibility on file through Saturday, February 28, 2026.")
+        card = at.browser.script("return document.querySelector('.rider-card .verdict').innerText")
+        holds(f"the grant's day is in the verdict: {card}", "2026" not in card)
+    finally:
+        at.town.set_clock(TODAY)

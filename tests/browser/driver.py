@@ -654,6 +654,7 @@ def begin_bad(at, clock, index):
     if at.browser.all("button", "This is my next stop"):
         at.browser.press("This is my next stop")
         at.browser.press("Yes: go on from here")
+    until(f"{name} is not next", lambda: at.browser.script("return document.querySelector('.driver-row.next')?.id") == name)
     return BOOKED[index]
 
 

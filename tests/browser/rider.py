@@ -3,6 +3,7 @@ import re
 
 from booking import last_trip
 from checks import check, holds, same
+from clerk import clock_of, late
 from people import TOMORROW
 
 VANS = 1
@@ -38,29 +39,28 @@ def own_places_have_names_and_others_are_not_offered(at):
 
 
 @check
-def trips_are_cards_with_the_wish_and_cancelled_ones_apart(at):
+def trips_are_cards_and_cancelled_ones_apart(at):
     at.town.book(1006, "2025-03-13", 600, 3, 7)
     trip = last_trip(at, 1006)["trip"]
     at.town.post("clerk", f"/trips/{trip}/cancel", {})
     sign_in(at, 1006, "trips")
     show(at, 1006)
-    at.browser.sees("Wished:", "1 cancelled")
-    coming = at.browser.script("""return document.querySelector('ul[aria-label="Upcoming trips"]').innerText""")
+    at.browser.sees("Pickup between", "1 cancelled")
+    coming = at.browser.script("""return document.querySelector('ul[aria-label="Upcoming"]').innerText""")
     holds("the cancelled trip is not among those to come", f"Trip {trip}." not in coming)
 
 
 @check
 def a_trip_is_booked_again_from_its_card(at):
     at.town.book(1006, "2025-03-14", 900, 7, 9)
-    promised = last_trip(at, 1006)
+    trip = last_trip(at, 1006)["trip"]
     sign_in(at, 1006, "trips")
     show(at, 1006)
-    at.browser.press(f"Book trip {promised['trip']} again on another day")
+    at.browser.press(f"Book trip {trip} again on another day")
     at.browser.find("button", re.compile("^Book the trip"))
     at.browser.sees("Pickup time")
-    hour, minute = divmod(promised["window_from"], 60)
-    same("the promised time, where nobody knows what was said", f"{hour % 12 or 12}:{minute:02} {'AM' if hour < 12 else 'PM'}",
-         at.browser.value("Pickup time"))
+    # (what was said is not known here, so it begins with the window that was promised)
+    same("the wish", "2:00 PM", at.browser.value("Pickup time"))
 
 
 @check
@@ -86,3 +86,87 @@ def a_rider_cancels_and_is_told_there(at):
     at.browser.press(f"Yes, cancel trip {trip}")
     at.browser.sees(f"Trip {trip} of rider 1005 is cancelled.")
     same("the focus", f"answer-{trip}", at.browser.script("return document.activeElement.id"))
+
+
+@check
+def a_late_van_is_not_forgotten_and_says_whom_to_call(at):
+    with late(at, 1003) as (trip, minute), at.browser.screen(390, 844, mobile=True):
+        at.town.write_file("staff/today.json", "{}")
+        sign_in(at, 1003, "trips")
+        show(at, 1003)
+        at.browser.sees("Today", "Window over, no update from Van 1, blue", "If the van is late, call 555-0100")
+        window = at.browser.script("return document.querySelector('[data-trip] .window strong').innerText")
+        holds(f"the window is {window}", clock_of(minute - 2) in window)
+        same("what can be moved sideways", 0, at.browser.sideways()[0])
+        low = at.browser.script("""return [...document.querySelectorAll('.trips-card button')].filter((it) => it.checkVisibility())
+            .map((it) => it.getBoundingClientRect().height).filter((it) => it < 44)""")
+        same("buttons that are too low for a finger", [], low)
+
+
+@check
+def a_trip_that_is_cancelled_elsewhere_goes_from_the_open_page(at):
+    trip = at.town.book(1006, "2025-03-15", 600, 3, 7)
+    sign_in(at, 1006, "trips")
+    show(at, 1006)
+    at.browser.find("button", f"Cancel trip {trip} of rider 1006")
+    at.town.post("clerk", f"/trips/{trip}/cancel", {})
+    at.browser.script("window.dispatchEvent(new Event('focus'))")
+    at.browser.sees_no(f"Trip {trip}. To pay")
+    holds("it is still offered", not at.browser.is_there("button", f"Cancel trip {trip} of rider 1006"))
+
+
+# Appeals.
+
+
+@check
+def an_appeal_that_is_filed_is_known_after_a_reload_and_signing_in_again(at):
+    at.town.post("examiner", "/riders/1009/entries", {"entry": "refuse", "reasons": "lives by the stop, walks well"})
+    sign_in(at, 1009, "letters")
+    show(at, 1009)
+    at.browser.sees("If you have appealed already, you need not appeal again.")
+    at.browser.press("Appeal this decision (letter 1)")
+    at.browser.press("Yes, appeal")
+    at.browser.sees("Your appeal is on record.", "We have your appeal of Monday, March 10, 2025.")
+    at.browser.reload()
+    at.browser.sees("We have your appeal of Monday, March 10, 2025. You need not appeal again.")
+    holds("it is offered again", not at.browser.is_there("button", re.compile("^Appeal this decision")))
+    at.browser.press("Sign out")
+    kept = at.browser.script("return JSON.stringify({ ...localStorage })")
+    holds(f"who appealed is kept: {kept}", "1009" not in kept.replace(at.keys["rider 1009"], ""))
+    sign_in(at, 1009, "letters")
+    show(at, 1009)
+    at.browser.sees("We have your appeal of Monday, March 10, 2025.")
+
+
+@check
+def a_second_appeal_from_another_browser_is_denied_in_fitting_words(at):
+    at.browser.fresh()
+    sign_in(at, 1009, "letters")
+    show(at, 1009)
+    at.browser.press("Appeal this decision (letter 1)")
+    at.browser.press("Yes, appeal")
+    at.browser.sees("We already have your appeal, or the 60 days are over.", "you need not do anything more")
+
+
+# A home that two riders share.
+
+
+@check
+def each_rider_of_a_shared_home_is_offered_it_and_reads_no_drivers_note(at):
+    from people import PLACES, agency_file
+    places = [{**it, "private": [1001, 1005]} if it["id"] == 11 else it for it in agency_file(1)["places"]]
+    at.town.write_files(places=places)
+    try:
+        for rider in (1001, 1005):
+            sign_in(at, rider, "book")
+            show(at, rider)
+            at.browser.find("button", re.compile("^Book the trip"))
+            at.browser.press("From", "field")
+            at.browser.find("option", "12 Oak Street (11)")
+            first = at.browser.script("return document.querySelector('[role=option]').innerText")
+            same(f"the first place of {rider}", "12 Oak Street (11)", first.strip())
+            notes = [note for _, _, note, *_ in PLACES if note]
+            shown = at.browser.script("return document.body.textContent")
+            same("drivers' notes that are shown", [], [it for it in notes if it in shown])
+    finally:
+        at.town.write_files()

@@ -32,7 +32,7 @@ export const words = {
     "cases.why-visitor": "a visitor, within the 21 days of a year",
     "cases.why-visitor-used": "a visitor who has used the 21 days of this year",
     "cases.until": ({ day }) => `until ${day}`,
-    "cases.for": ({ conditions }) => `For ${conditions}; one of them is enough.`.replace(/^(For every trip);.*/, "$1."),
+    "cases.for": ({ conditions }) => `For ${conditions}.`,
     "cases.condition-always": "every trip",
     "cases.condition-nolift": "trips that no bus with a lift or a ramp makes from end to end",
     "cases.condition-months": ({ months }) => `trips in ${months}`,
@@ -194,4 +194,8 @@ export const words = {
     "cases.missed-of": ({ rider }) => `No-shows of rider ${rider}`,
     "cases.missed-hint": "The desk shows trips to clerks and dispatchers alone. An officer reads of them in the work list, which is as old as the copy that it was made of.",
     "cases.missed-none": "The work list has no pattern of no-shows of this rider, and no case file to decide on.",
+    "cases.appeal-filed-own": ({ day }) => `We have your appeal of ${day}. You need not appeal again.`,
+    "cases.appeal-filed": ({ day }) => `An appeal against this decision was entered on ${day}, and waits.`,
+    "cases.appeal-once-own": "If you have appealed already, you need not appeal again.",
+    "cases.appeal-once": "If the rider has appealed already, it need not be entered again.",
 };

@@ -52,4 +52,6 @@ export const words = {
     "common.screen": "Screen",
     "common.parts": "Parts of this screen",
     "common.language": "Language",
+    "common.as-of": ({ time }) => `As of ${time}.`,
+    "common.as-of-silent": ({ time }) => `As of ${time}. There is no answer to a newer question yet.`,
 };

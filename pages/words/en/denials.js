@@ -92,4 +92,8 @@ export const words = {
     "denials.left/help": "Ask again.",
     "denials.other": ({ name }) => `The desk denies this: ${name}.`,
     "denials.other/help": "Tell the people who run the desk.",
+    "denials.37.125(g) appeal": "An appeal of this rider is on record already, or the 60 days are over.",
+    "denials.37.125(g) appeal/help": "What waits shows the appeals of yesterday and before. One appeal is enough for each decision.",
+    "denials.37.125(g) appeal-own": "We already have your appeal, or the 60 days are over.",
+    "denials.37.125(g) appeal-own/help": "If you have appealed, you need not do anything more. Call the agency to ask about it.",
 };

@@ -30,4 +30,5 @@ export const words = {
     "fields.vehicle-none": "Write a van’s name or number.",
     "fields.type-number": "Type the number here",
     "fields.other-number": ({ typed, action }) => `${typed} is not shown yet: “${action}” shows it.`,
+    "fields.telephone-none": "No rider has this telephone number. Write a number or a name.",
 };

@@ -30,7 +30,7 @@ export const words = {
     "cases.why-visitor": "visitante, dentro de los 21 días de un año",
     "cases.why-visitor-used": "visitante que ya usó los 21 días de este año",
     "cases.until": ({ day }) => `hasta el ${day}`,
-    "cases.for": ({ conditions }) => `Para ${conditions}; basta una de ellas.`.replace(/^(Para todos los viajes);.*/, "$1."),
+    "cases.for": ({ conditions }) => `Para ${conditions}.`,
     "cases.condition-always": "todos los viajes",
     "cases.condition-nolift": "viajes que ningún autobús con rampa o elevador hace de principio a fin",
     "cases.condition-months": ({ months }) => `viajes en ${months}`,
@@ -192,4 +192,8 @@ export const words = {
     "cases.missed-of": ({ rider }) => `Viajes a los que no se presentó el pasajero ${rider}`,
     "cases.missed-hint": "El sistema muestra los viajes solo a la ventanilla y al despachador. El oficial los lee en la lista de lo pendiente, que es de la fecha de su copia.",
     "cases.missed-none": "La lista de lo pendiente no tiene de este pasajero ningún patrón de viajes sin presentarse ni caso por decidir.",
+    "cases.appeal-filed-own": ({ day }) => `Tenemos su apelación del ${day}. No necesita apelar otra vez.`,
+    "cases.appeal-filed": ({ day }) => `La apelación contra esta decisión se registró el ${day} y está pendiente.`,
+    "cases.appeal-once-own": "Si ya apeló, no necesita apelar otra vez.",
+    "cases.appeal-once": "Si el pasajero ya apeló, no hace falta registrarlo otra vez.",
 };

@@ -61,4 +61,6 @@ export const words = {
     "common.screen": "Pantalla",
     "common.parts": "Partes de esta pantalla",
     "common.language": "Idioma",
+    "common.as-of": ({ time }) => `Según lo leído a las ${time}.`,
+    "common.as-of-silent": ({ time }) => `Según lo leído a las ${time}. Todavía no hay respuesta a una consulta más reciente.`,
 };

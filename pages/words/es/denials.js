@@ -92,4 +92,8 @@ export const words = {
     "denials.left/help": "Pregunte otra vez.",
     "denials.other": ({ name }) => `El sistema lo deniega: ${name}.`,
     "denials.other/help": "Avise a quienes manejan el sistema.",
+    "denials.37.125(g) appeal": "La apelación de este pasajero ya está registrada, o pasaron los 60 días.",
+    "denials.37.125(g) appeal/help": "La lista de pendientes muestra las apelaciones hasta ayer. Basta una apelación por decisión.",
+    "denials.37.125(g) appeal-own": "Ya tenemos su apelación, o pasaron los 60 días.",
+    "denials.37.125(g) appeal-own/help": "Si ya apeló, no tiene que hacer nada más. Llame a la agencia para preguntar por ella.",
 };

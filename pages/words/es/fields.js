@@ -30,4 +30,5 @@ export const words = {
     "fields.vehicle-none": "Escriba el nombre o el número del vehículo.",
     "fields.type-number": "Escriba aquí el número",
     "fields.other-number": ({ typed, action }) => `${typed} todavía no se muestra: «${action}» lo muestra.`,
+    "fields.telephone-none": "Ningún pasajero tiene este teléfono. Escriba un número o un nombre.",
 };

@@ -11,6 +11,7 @@ from __future__ import annotations
 
 import argparse
 import shutil
+import signal
 import subprocess
 import sys
 import tempfile
@@ -58,6 +59,8 @@ def words_of(arguments: list[str]) -> argparse.Namespace:
 def main(arguments: list[str]) -> int:
     """Runs the trials; the exit status."""
     told, checks = words_of(arguments), Checks("tests/booted")
+    # Whoever ends the trial ends its machines too.
+    signal.signal(signal.SIGTERM, lambda *_: sys.exit(143))
     missing = roots.missing()
     if missing:
         print(f"tests/booted: left out: all of it, for lack of {missing}")

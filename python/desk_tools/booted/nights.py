@@ -9,6 +9,7 @@ from desk_tools.booted.town import Town
 
 HOURS = {"backup": "03:05", "restart": "03:45", "worklist": "04:30"}
 SECONDS_TO_COME_BACK = 60
+NO_BACKUP = "grep -q 'there is no backup'"
 
 
 def check(town: Town) -> None:
@@ -59,10 +60,10 @@ def check_work(town: Town) -> None:
 def check_watch(town: Town) -> None:
     """The watch looks by itself, tells once, and leaves the journal alone."""
     checks, machine = town.checks, town.machine
-    well = machine.wait_for("tail -n 1 /root/alarms | grep -q 'all is well again'", 40)
-    checks.holds("all is well", well, machine.run("cat /root/alarms").output)
-    machine.run("rm -f /root/alarms /var/backups/desk/*.db")
-    told = machine.wait_for("grep -q 'there is no backup' /root/alarms", 40)
+    is_told = f"! {NO_BACKUP} /root/last-alarm"
+    checks.holds("the night's backup is seen", machine.wait_for(is_told, 60))
+    machine.run("rm -f /var/backups/desk/*.db")
+    told = machine.wait_for(f"{NO_BACKUP} /root/last-alarm", 60)
     checks.holds("a trouble is told", told)
     words = "journalctl --sync; journalctl -u desk-watch -o cat | grep -c"
     before = machine.run(f"{words} 'there is no backup'").output
@@ -72,8 +73,7 @@ def check_watch(town: Town) -> None:
     failed = machine.run(f"{words} Failed", check=False).output.strip()
     checks.equal("the watch itself did not fail", "0", failed)
     machine.run("systemctl start desk-backup.service")
-    well = machine.wait_for("grep -q 'all is well again' /root/alarms", 40)
-    checks.holds("the end of it is told", well, machine.run("cat /root/alarms").output)
+    checks.holds("the end of it is told", machine.wait_for(is_told, 60))
 
 
 def check_full_disk(town: Town) -> None:

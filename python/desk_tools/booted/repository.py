@@ -10,7 +10,7 @@ from pathlib import Path
 from desk_tools.booted import packages
 from desk_tools.booted.town import Town
 
-SOURCE = "deb [signed-by=/root/repository/desk.gpg] file:/root/repository bookworm main"
+SOURCE = "deb [signed-by=/srv/repository/desk.gpg] file:/srv/repository bookworm main"
 ASK = "-o Dir::Etc::sourcelist=/root/desk.list -o Dir::Etc::sourceparts=-"
 
 
@@ -25,7 +25,7 @@ def check(town: Town) -> None:
     named = {**os.environ, "GNUPGHOME": str(home)}
     words = ["gpg", "--batch", "--quiet", "--passphrase", "", "--quick-generate-key"]
     subprocess.run([*words, "trial@desk.test", "ed25519", "sign", "never"], env=named, check=True)
-    folder = machine.root / "root/repository"
+    folder = machine.root / "srv/repository"
     ran = make(named, folder, "trial@desk.test", town.package)
     checks.equal("a repository is made", (0, ""), (ran.returncode, ran.stderr))
     other = make(named, folder, "nobody@desk.test", town.package)
@@ -37,13 +37,13 @@ def check(town: Town) -> None:
     found = machine.run(f"apt-get download {ASK} --print-uris desk", check=False).output
     checks.has("apt finds the package", town.package.name.replace("~", "%7e"), found)
     machine.run(
-        "sed -i 's/^Size: ./Size: 9/' /root/repository/dists/bookworm/main/binary-amd64/Packages"
+        "sed -i 's/^Size: ./Size: 9/' /srv/repository/dists/bookworm/main/binary-amd64/Packages"
     )
-    machine.run("sed -i 's/^Label: desk/Label: disk/' /root/repository/dists/bookworm/InRelease")
+    machine.run("sed -i 's/^Label: desk/Label: disk/' /srv/repository/dists/bookworm/InRelease")
     machine.run("rm -rf /var/lib/apt/lists/_root*")
     update = machine.run(f"apt-get update {ASK}", check=False)
     checks.has("one that was changed is refused", "signature", update.output.lower())
-    machine.run("rm -rf /root/repository /root/desk.list")
+    machine.run("rm -rf /srv/repository /root/desk.list")
 
 
 def make(

@@ -12,8 +12,10 @@ HOOK = """
 import http.server
 class Handler(http.server.BaseHTTPRequestHandler):
     def do_POST(self):
-        with open("/root/alarms", "ab") as file:
-            file.write(self.rfile.read(int(self.headers["Content-Length"])))
+        told = self.rfile.read(int(self.headers["Content-Length"]))
+        for name, mode in (("alarms", "ab"), ("last-alarm", "wb")):
+            with open(f"/root/{name}", mode) as file:
+                file.write(told)
         self.send_response(204)
         self.end_headers()
 http.server.HTTPServer(("127.0.0.1", 9099), Handler).serve_forever()

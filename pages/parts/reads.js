@@ -1,0 +1,153 @@
+// What the desk and the site have told this window, one record a path, with the moment of each reply. Screens draw from it and keep no list of
+// their own. It is read again when somebody asks for it, when the window is looked at again, after each write of this window and of this
+// browser's other windows, and each half minute while it is seen.
+
+import { afterHearing, isDue, isOld, NOTHING, RENEWED } from "./ages.js";
+import { clock, dayShort, minuteNow, serverNow, today } from "./clock.js";
+import * as desk from "./desk.js";
+import { part } from "./element.js";
+import { t } from "./words.js";
+
+/** @typedef {import("./ages.js").Kept} Kept */
+/** @typedef {(path: string) => Promise<any>} Ask */
+/** @typedef {(ask: Ask, before: any) => Promise<any>} Reader how a path is read: before is the value that is kept of it, undefined where there is none */
+/** @typedef {{ act: () => void, shown: boolean }} Watcher */
+/** @typedef {{ path: string, read: Reader, period: number, kept: Kept, begun: number | null, waits: boolean, old: boolean,
+ *   watchers: Map<HTMLElement, Watcher> }} Source */
+/** @typedef {{ reply: () => any, age: () => import("../types").Given, again: () => Promise<any>, watch: (place: HTMLElement, act: () => void) => () => void }} Reading
+ *   again reads until it is answered; watch follows each reply as long as the place is on the page, or until what it gives is called */
+
+const LOOKED = 2_000, SOON = 150, FORGOTTEN = 600_000, CHANNEL = "desk.written";
+
+/** @type {Map<string, Source>} */
+const sources = new Map();
+let orders = 0;
+/** Raised where somebody signs out: what was asked before is not kept. */
+let era = 0;
+
+const others = typeof BroadcastChannel === "function" ? new BroadcastChannel(CHANNEL) : null;
+
+/** @param {Source} source */
+function tell(source) {
+    source.old = isOld(source.kept, serverNow());
+    for (const [place, watcher] of [...source.watchers]) {
+        watcher.shown ||= place.isConnected;
+        if (watcher.shown && !place.isConnected) source.watchers.delete(place);
+        else watcher.act();
+    }
+}
+
+/** @param {Source} source @param {Ask} ask */
+async function readWith(source, ask) {
+    const order = (orders += 1), mine = era, { reply } = source.kept;
+    source.begun = serverNow();
+    const told = await source.read(ask, reply?.denied === undefined ? reply?.value : undefined);
+    if (mine !== era) return told;
+    source.kept = afterHearing(source.kept, { order, told, moment: { at: serverNow(), day: today(), minute: minuteNow() } });
+    tell(source);
+    return told;
+}
+
+/** Reads until it is answered: the sign of the line says so meanwhile.
+ * @param {Source} source
+ */
+async function readSurely(source) {
+    source.waits = true;
+    try {
+        return await readWith(source, desk.read);
+    } finally {
+        source.waits = false;
+    }
+}
+
+/** Reads once. What is shown stays where nothing answers, and says its age.
+ * @param {Source} source
+ */
+const renew = (source) => (source.kept.reply === null ? readSurely(source) : readWith(source, desk.readOnce));
+
+/** @param {Source} source */
+const isWatched = (source) => [...source.watchers.keys()].some((place) => place.isConnected);
+
+/** Reads all that is shown once more, whatever its age. */
+export function readAll() {
+    for (const source of sources.values()) if (isWatched(source) && !(source.waits && source.kept.reply === null)) renew(source);
+}
+
+/** @type {ReturnType<typeof setTimeout> | undefined} */
+let soon;
+
+/** The same, once for all that is written in one moment. */
+function readSoon() {
+    if (soon !== undefined) return;
+    soon = setTimeout(() => {
+        soon = undefined;
+        readAll();
+    }, SOON);
+}
+
+/** Reads what is due, and lets what has grown old say so. */
+function look() {
+    const now = serverNow();
+    for (const [path, source] of sources) {
+        if (source.old !== isOld(source.kept, now)) tell(source);
+        if (isWatched(source)) {
+            if (!document.hidden && !source.waits && isDue(source.begun, now, source.period)) renew(source);
+        } else if (!source.waits && isDue(source.begun, now, FORGOTTEN)) sources.delete(path);
+    }
+}
+
+/** As of when something is, where it is older than a minute or nothing answers any more.
+ * @param {Kept} kept @returns {import("../types").Given}
+ */
+function ageOf(kept) {
+    if (kept.moment === null || (!kept.failed && !isOld(kept, serverNow()))) return null;
+    const { day, minute } = kept.moment, time = day === today() ? clock(minute) : `${dayShort(day)}, ${clock(minute)}`;
+    return part("p", { class: "hint age" }, t(kept.failed ? "common.as-of-silent" : "common.as-of", { time }));
+}
+
+/** What is known of a path. It is read by its reader, or as it is.
+ * @param {string} path @param {{ read?: Reader, period?: number }} options @returns {Reading}
+ */
+export function reading(path, { read = (ask) => ask(path), period = RENEWED } = {}) {
+    /** @returns {Source} */
+    const source = () => {
+        const known = sources.get(path) ?? { path, read, period, kept: NOTHING, begun: null, waits: false, old: false, watchers: new Map() };
+        sources.set(path, known);
+        return known;
+    };
+    const watch = (/** @type {HTMLElement} */ place, /** @type {() => void} */ act) => {
+        const watched = source();
+        watched.watchers.set(place, { act, shown: place.isConnected });
+        renew(watched);
+        return () => { watched.watchers.delete(place); };
+    };
+    return { watch, reply: () => sources.get(path)?.kept.reply ?? null, age: () => ageOf(sources.get(path)?.kept ?? NOTHING), again: () => readSurely(source()) };
+}
+
+/** How a file of the site is read: its text, or null where there is none for this key.
+ * @param {string} path @returns {Reader}
+ */
+export const fileAt = (path) => async () => {
+    const { status, text } = await desk.fetchFile(path);
+    return status === 0 || status === 429 || status >= 500 ? { silent: "common.silent" } : { value: status === 200 ? text : null, status };
+};
+
+/** Nothing that was read stays once somebody has signed out. */
+export function forgetReads() {
+    sources.clear();
+    era += 1;
+}
+
+desk.whenWrote(() => {
+    others?.postMessage("written");
+    readSoon();
+});
+if (others) others.onmessage = readSoon;
+window.addEventListener("focus", readSoon);
+window.addEventListener("online", readSoon);
+document.addEventListener("visibilitychange", () => {
+    if (document.hidden) return;
+    look();
+    readSoon();
+});
+setInterval(look, LOOKED);

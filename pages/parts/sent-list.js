@@ -1,0 +1,66 @@
+// What was asked of the desk for a rider's trips, and what came of each. Nothing here knows of a page or of the desk.
+
+/** @typedef {import("../types").Wish} Wish */
+/** @typedef {"planned" | "sending" | "booked" | "denied" | "unsent"} State planned: it waits for its turn; unsent: the page was gone before its turn came */
+/** @typedef {{ mode: string, minute: number } | null} Said what the rider named: the minute of a wish is the page's */
+/** @typedef {{ rider: number, wish: Wish, said: Said, trip: number | null, state: State, reply: any, late: boolean }} Leg trip is the number of a trip that is
+ *   changed, reply the desk's, late says that whoever asked could not see the answer at once */
+
+/** @param {Leg} leg @param {{ rider: number, wish: Wish, trip: number | null }} asked */
+const isSame = (leg, asked) => leg.rider === asked.rider && leg.trip === asked.trip
+    && leg.wish.day === asked.wish.day && leg.wish.from === asked.wish.from && leg.wish.to === asked.wish.to;
+
+/** The last leg of which something holds, or -1.
+ * @param {Leg[]} legs @param {(leg: Leg) => boolean} holds
+ */
+const lastAt = (legs, holds) => legs.reduce((found, leg, at) => (holds(leg) ? at : found), -1);
+
+/** @param {Leg} leg */
+const isOpen = ({ state }) => state === "planned" || state === "sending";
+
+/** What a rider wants anew takes the place of what was seen of the rider before; what is still to be read stays.
+ * @param {Leg[]} legs @param {{ rider: number, trip?: number | null, wanted: { wish: Wish, said: Said }[] }} given @returns {Leg[]}
+ */
+export const afterPlanning = (legs, { rider, trip = null, wanted }) => [...legs.filter((leg) => leg.late || leg.rider !== rider),
+    ...wanted.map(({ wish, said }) => ({ rider, wish, said, trip, state: /** @type {State} */ ("planned"), reply: null, late: false }))];
+
+/** One try of a leg goes out: it may be the second one, with another minute.
+ * @param {Leg[]} legs @param {{ rider: number, trip: number | null, wish: Wish }} asked @returns {Leg[]}
+ */
+export function afterSending(legs, asked) {
+    const at = lastAt(legs, (leg) => isSame(leg, asked) && leg.state !== "booked");
+    if (at < 0) return [...legs, { ...asked, said: null, state: "sending", reply: null, late: false }];
+    return legs.map((leg, index) => (index === at ? { ...leg, ...asked, state: "sending", reply: null } : leg));
+}
+
+/** A try was answered.
+ * @param {Leg[]} legs @param {{ rider: number, trip: number | null, wish: Wish }} asked @param {any} reply @param {boolean} late @returns {Leg[]}
+ */
+export function afterAnswer(legs, asked, reply, late) {
+    const at = lastAt(legs, (leg) => isSame(leg, asked) && leg.state === "sending");
+    return legs.map((leg, index) => (index !== at ? leg
+        : { ...leg, ...asked, state: reply.denied === undefined ? "booked" : "denied", reply: reply.denied === undefined ? reply.value : reply, late: leg.late || late }));
+}
+
+/** The page was loaded anew: what waited for its turn never went out, and whoever asked sees no answer of what did.
+ * @param {Leg[]} legs @returns {Leg[]}
+ */
+export function afterLoading(legs) {
+    const open = new Set(legs.filter(isOpen).map(({ rider }) => rider));
+    return legs.filter(({ rider, late }) => late || open.has(rider)).map((leg) => ({ ...leg, state: leg.state === "planned" ? "unsent" : leg.state, late: true }));
+}
+
+/** All that was to be asked for a rider was asked: what was seen is not kept, and what was left out on purpose is no loss.
+ * @param {Leg[]} legs @param {number} rider @returns {Leg[]}
+ */
+export const afterEnding = (legs, rider) => legs.filter((leg) => leg.rider !== rider || (leg.late && leg.state !== "planned"));
+
+/** What is still to be read, of all riders or of one.
+ * @param {Leg[]} legs @param {number | null} [rider]
+ */
+export const toBeRead = (legs, rider = null) => legs.filter((leg) => leg.late && (rider === null || leg.rider === rider));
+
+/** The list of a rider was read.
+ * @param {Leg[]} legs @param {number} rider
+ */
+export const afterReading = (legs, rider) => legs.filter((leg) => leg.rider !== rider || isOpen(leg));

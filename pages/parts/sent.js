@@ -1,0 +1,134 @@
+// The list of what was sent for riders' trips while nobody could see the answer: the line was broken, the page was loaded anew, or whoever asked
+// was with another rider by then. It is kept by this window, and stands where the booking was until it is read.
+
+import { placeName } from "./agency.js";
+import { between, clock, dayShort } from "./clock.js";
+import * as desk from "./desk.js";
+import { denialOf } from "./denials.js";
+import { button, part } from "./element.js";
+import { dropNote, note } from "./notes.js";
+import { riderLabel } from "./roster.js";
+import { makeScreen } from "./screen.js";
+import { afterAnswer, afterEnding, afterLoading, afterPlanning, afterReading, afterSending, toBeRead } from "./sent-list.js";
+import { t } from "./words.js";
+
+/** @typedef {import("./sent-list.js").Leg} Leg */
+/** @typedef {import("../types").Wish} Wish */
+
+const KEPT = "desk.sent", NEW = "/trips", CHANGE = /^\/trips\/(\d+)\/change$/;
+
+/** @type {{ digest: string | null, legs: Leg[] } | null} */
+let known = null;
+/** The rider of each trip that was asked to be changed from here.
+ * @type {Map<number, number>}
+ */
+const riders = new Map();
+/** @type {Set<() => void>} */
+const readers = new Set();
+
+/** @returns {Leg[]} */
+function legs() {
+    if (known?.digest === desk.digest()) return known.legs;
+    /** @type {any} */
+    let kept = null;
+    try {
+        kept = JSON.parse(sessionStorage.getItem(KEPT) ?? "null");
+    } catch {
+        // (what cannot be read is nothing)
+    }
+    known = { digest: desk.digest(), legs: kept?.digest === desk.digest() && Array.isArray(kept?.legs) ? afterLoading(kept.legs) : [] };
+    return known.legs;
+}
+
+/** @param {Leg[]} next */
+function keep(next) {
+    known = { digest: desk.digest(), legs: next };
+    try {
+        sessionStorage.setItem(KEPT, JSON.stringify(known));
+    } catch {
+        // (a window without room keeps it as long as its page lives)
+    }
+    readers.forEach((act) => act());
+    showNote();
+}
+
+/** Whether whoever asked for a rider's trip is looking at that rider's booking.
+ * @param {number} rider
+ */
+const isSeen = (rider) => [...document.querySelectorAll(`[data-sent="${rider}"]`)].some((it) => it.getClientRects().length > 0);
+
+/** @param {string} path @param {any} fields */
+function askedIn(path, fields) {
+    const changed = CHANGE.exec(path), trip = changed ? Number(changed[1]) : null;
+    if (path !== NEW && trip === null) return null;
+    const { rider = riders.get(trip ?? 0) ?? 0, ...wish } = fields;
+    return { rider: Number(rider), trip, wish: /** @type {Wish} */ (wish) };
+}
+
+/** What is going to be asked for a rider, one after another: what a page that is gone has not sent is told from it.
+ * @param {number} rider @param {{ wish: Wish, said: import("./sent-list.js").Said }[]} wanted @param {number | null} [trip] the trip that is changed
+ */
+export function planned(rider, wanted, trip = null) {
+    if (trip !== null) riders.set(trip, rider);
+    keep(afterPlanning(legs(), { rider, trip, wanted: wanted.map(({ wish, said }) => ({ wish, said: said && { mode: said.mode, minute: said.minute } })) }));
+}
+
+/** All of it was asked.
+ * @param {number} rider
+ */
+export const ended = (rider) => keep(afterEnding(legs(), rider));
+
+/** @param {Leg} leg */
+function words({ rider, wish, said, state, reply, trip }) {
+    const way = { day: dayShort(wish.day), from: placeName(wish.from), to: placeName(wish.to), rider: riderLabel(rider),
+        said: said ? t(`sent.said-${said.mode}`, { time: clock(said.minute) }) : "" };
+    if (state === "booked") return t(trip === null ? "sent.booked" : "sent.changed", { ...way, trip: reply.trip, window: between(reply.window_from, reply.window_to) });
+    return t(state === "denied" ? "sent.denied" : state === "unsent" ? "sent.unsent" : "sent.sending", way);
+}
+
+/** @param {Leg} leg @param {number} at */
+const shown = (leg, at) => part("li", { key: at, class: leg.state }, part("p", {}, words(leg)), leg.state === "denied" && denialOf(leg.reply, "trip"));
+
+/** What is to be read of a rider, where the booking was.
+ * @param {number} rider
+ */
+export function sentFor(rider) {
+    const screen = makeScreen({ state: {}, class: "sent", draw: () => {
+        const mine = toBeRead(legs(), rider), busy = mine.some(({ state }) => state === "sending" || state === "planned");
+        return mine.length > 0 && part("section", { class: "card", "aria-label": t("sent.heading") }, part("h2", {}, t("sent.heading")),
+            part("ul", { class: "legs", role: "status" }, mine.map(shown)),
+            !busy && part("div", { class: "row" }, button(t("sent.read"), () => keep(afterReading(legs(), rider)))));
+    } });
+    screen.element.setAttribute("data-sent-list", String(rider));
+    const redraw = () => {
+        if (screen.element.isConnected) screen.change({});
+        else readers.delete(redraw);
+    };
+    setTimeout(() => readers.add(redraw));
+    return screen.element;
+}
+
+/** Who is with another rider by now is told that there is something to read. */
+function showNote() {
+    const away = [...new Set(toBeRead(legs()).filter(({ rider, state }) => state !== "sending" && state !== "planned" && !isListed(rider)).map(({ rider }) => rider))];
+    if (away.length) note("sent", () => [part("p", {}, t("sent.note")), part("ul", {}, toBeRead(legs()).filter(({ rider }) => away.includes(rider)).map(shown))]);
+    else dropNote("sent");
+}
+
+/** @param {number} rider */
+const isListed = (rider) => [...document.querySelectorAll(`[data-sent-list="${rider}"]`)].some((it) => it.isConnected && !it.closest("[hidden]"));
+
+/** Looks once more whether something is to be read, as where another rider is shown. */
+export const lookAtSent = () => setTimeout(showNote);
+
+/** What the page that was here before has not sent, or has sent without seeing the answer. */
+export const unread = () => toBeRead(legs());
+
+desk.whenSending(({ path, fields }) => {
+    const asked = askedIn(path, fields);
+    if (asked) keep(afterSending(legs(), asked));
+});
+desk.whenWrote(({ path, fields, reply, waited }) => {
+    const asked = askedIn(path, fields);
+    if (asked && reply.denied !== "left") keep(afterAnswer(legs(), asked, reply, waited || !isSeen(asked.rider)));
+});

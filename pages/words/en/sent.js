@@ -1,0 +1,16 @@
+// Words of what was sent while nobody could see the answer.
+
+/** @type {Record<string, import("../../parts/words.js").Text>} */
+export const words = {
+    "sent.heading": "Sent earlier: what came of it",
+    "sent.read": "I have read this",
+    "sent.note": "These trips were asked for earlier. This is what came of them:",
+    "sent.booked": ({ trip, rider, day, window, from, to }) => `Trip ${trip} is booked for ${rider}: ${day}, pickup ${window}, from ${from} to ${to}.`,
+    "sent.changed": ({ trip, rider, day, window, from, to }) => `Trip ${trip} of ${rider} is changed: ${day}, pickup ${window}, from ${from} to ${to}.`,
+    "sent.denied": ({ rider, day, said, from, to }) => `Not booked for ${rider}: ${day}, ${said ? `${said}, ` : ""}from ${from} to ${to}.`,
+    "sent.unsent": ({ rider, day, said, from, to }) => `Not sent for ${rider}: ${day}, ${said ? `${said}, ` : ""}from ${from} to ${to}. The page was loaded again before its turn. Book it again.`,
+    "sent.sending": ({ rider, day, said, from, to }) => `Being sent for ${rider}: ${day}, ${said ? `${said}, ` : ""}from ${from} to ${to}.`,
+    "sent.said-around": ({ time }) => `around ${time}`,
+    "sent.said-not-before": ({ time }) => `not before ${time}`,
+    "sent.said-by": ({ time }) => `be there by ${time}`,
+};

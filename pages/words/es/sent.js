@@ -1,0 +1,16 @@
+// Palabras de lo que se envió mientras nadie podía ver la respuesta.
+
+/** @type {Record<string, import("../../parts/words.js").Text>} */
+export const words = {
+    "sent.heading": "Enviado antes: qué resultó",
+    "sent.read": "Ya lo leí",
+    "sent.note": "Estos viajes se pidieron antes. Esto es lo que resultó:",
+    "sent.booked": ({ trip, rider, day, window, from, to }) => `El viaje ${trip} está reservado para ${rider}: ${day}, recogida ${window}, desde ${from} hasta ${to}.`,
+    "sent.changed": ({ trip, rider, day, window, from, to }) => `El viaje ${trip} de ${rider} se cambió: ${day}, recogida ${window}, desde ${from} hasta ${to}.`,
+    "sent.denied": ({ rider, day, said, from, to }) => `No reservado para ${rider}: ${day}, ${said ? `${said}, ` : ""}desde ${from} hasta ${to}.`,
+    "sent.unsent": ({ rider, day, said, from, to }) => `No enviado para ${rider}: ${day}, ${said ? `${said}, ` : ""}desde ${from} hasta ${to}. La página se cargó de nuevo antes de su turno. Resérvelo otra vez.`,
+    "sent.sending": ({ rider, day, said, from, to }) => `Se está enviando para ${rider}: ${day}, ${said ? `${said}, ` : ""}desde ${from} hasta ${to}.`,
+    "sent.said-around": ({ time }) => `alrededor de las ${time}`,
+    "sent.said-not-before": ({ time }) => `no antes de las ${time}`,
+    "sent.said-by": ({ time }) => `llegar a más tardar a las ${time}`,
+};

@@ -1,0 +1,57 @@
+// What came of each trip that was asked for, whatever happens to the page and the line.
+import assert from "node:assert/strict";
+import test from "node:test";
+import { afterAnswer, afterEnding, afterLoading, afterPlanning, afterReading, afterSending, toBeRead } from "../../pages/parts/sent-list.js";
+
+const wish = (day, from = 1, minute = 600) => ({ day, wish: minute, from, to: 9, by: null, attendant: false, companions: 0 });
+const asked = (day, from, minute, trip = null) => ({ rider: 7, trip, wish: wish(day, from, minute) });
+const planned = (it) => ({ wish: it, said: { mode: "around", minute: it.wish } });
+const states = (legs) => legs.map(({ state }) => state);
+const TEN = Array.from({ length: 10 }, (_, at) => wish(`2025-03-${11 + at}`));
+const ticket = (trip) => ({ value: { trip, window_from: 600, window_to: 630 } });
+
+test("a reload at each moment of ten legs loses none of them", () => {
+    for (let done = 0; done <= 10; done += 1) for (const isUnderWay of [false, true]) {
+        let legs = afterPlanning([], { rider: 7, wanted: TEN.map(planned) });
+        for (let at = 0; at < done; at += 1) legs = afterAnswer(afterSending(legs, { rider: 7, trip: null, wish: TEN[at] }), { rider: 7, trip: null, wish: TEN[at] }, ticket(at), false);
+        if (isUnderWay && done < 10) legs = afterSending(legs, { rider: 7, trip: null, wish: TEN[done] });
+        if (done === 10) legs = afterEnding(legs, 7);
+        legs = afterLoading(JSON.parse(JSON.stringify(legs)));
+        if (isUnderWay && done < 10) legs = afterAnswer(legs, { rider: 7, trip: null, wish: TEN[done] }, ticket(done), true);
+        const told = toBeRead(legs), sent = done + (isUnderWay && done < 10 ? 1 : 0);
+        assert.equal(told.length, done === 10 ? 0 : 10);
+        if (done < 10) assert.deepEqual(states(told), [...Array(sent).fill("booked"), ...Array(10 - sent).fill("unsent")]);
+    }
+});
+
+test("a second try of a leg takes the place of the first one", () => {
+    let legs = afterPlanning([], { rider: 7, wanted: [planned(wish("2025-03-11"))] });
+    legs = afterAnswer(afterSending(legs, asked("2025-03-11", 1, 600)), asked("2025-03-11", 1, 600), { denied: "no vehicle" }, true);
+    assert.deepEqual(states(legs), ["denied"]);
+    legs = afterAnswer(afterSending(legs, asked("2025-03-11", 1, 540)), asked("2025-03-11", 1, 540), ticket(5), false);
+    assert.deepEqual(states(toBeRead(legs)), ["booked"]);
+    assert.equal(legs[0].wish.wish, 540);
+    assert.equal(legs[0].reply.trip, 5);
+});
+
+test("what was seen is not told again, and what was left out on purpose is no loss", () => {
+    let legs = afterPlanning([], { rider: 7, wanted: [wish("2025-03-11"), wish("2025-03-11", 9)].map(planned) });
+    legs = afterAnswer(afterSending(legs, asked("2025-03-11")), asked("2025-03-11"), { denied: "37.125" }, false);
+    legs = afterEnding(legs, 7);
+    assert.deepEqual(afterLoading(legs), []);
+});
+
+test("another rider's list stays, and a list that was read goes", () => {
+    let legs = afterAnswer(afterSending([], asked("2025-03-11")), asked("2025-03-11"), { denied: "no vehicle" }, true);
+    legs = afterPlanning(legs, { rider: 8, wanted: [planned(wish("2025-03-12"))] });
+    assert.equal(toBeRead(legs, 7).length, 1);
+    assert.equal(toBeRead(legs, 8).length, 0);
+    assert.deepEqual(states(afterReading(legs, 7)), ["planned"]);
+    assert.deepEqual(states(afterPlanning(legs, { rider: 7, wanted: [] })), ["denied", "planned"]);
+});
+
+test("a trip that is booked twice is two legs", () => {
+    let legs = afterAnswer(afterSending([], asked("2025-03-11")), asked("2025-03-11"), ticket(1), true);
+    legs = afterAnswer(afterSending(legs, asked("2025-03-11")), asked("2025-03-11"), ticket(2), true);
+    assert.deepEqual(legs.map(({ reply }) => reply.trip), [1, 2]);
+});
