@@ -91,6 +91,8 @@ export function element(described, parent = null) {
 
 /** @param {Element} it @param {Part} described */
 function redraw(it, described) {
+    // (the same description again: nothing in it has changed)
+    if (drawn.get(it) === described) return;
     const before = drawn.get(it) ?? { tag: described.tag, attributes: {}, children: [] };
     drawn.set(it, described);
     const { value, ...first } = described.attributes;

@@ -44,8 +44,25 @@ function parsedOf(text, csv) {
     return parsed;
 }
 
+/** Makes something anew only where one of what it is made of is another one.
+ * @template Made @param {(...from: any[]) => Made} make @returns {(...from: any[]) => Made}
+ */
+function madeOnce(make) {
+    /** @type {{ from: any[], made: Made } | null} */
+    let last = null;
+    return (...from) => {
+        if (!last || last.from.length !== from.length || last.from.some((it, at) => it !== from[at])) last = { from, made: make(...from) };
+        return last.made;
+    };
+}
+
 /** @param {State} state @returns {Known} */
-function knownOf({ day, text, csv, chosen, now, told, onlyNeeds }) {
+const knownOf = ({ day, text, csv, chosen, now, told, onlyNeeds }) => knownFrom(day, text, csv, chosen, now, told, onlyNeeds);
+
+const knownFrom = madeOnce((day, text, csv, chosen, now, told, onlyNeeds) => knownMade({ day, text, csv, chosen, now, told, onlyNeeds }));
+
+/** @param {Pick<State, "day" | "text" | "csv" | "chosen" | "now" | "told" | "onlyNeeds">} state @returns {Known} */
+function knownMade({ day, text, csv, chosen, now, told, onlyNeeds }) {
     const { manifests, rows } = parsedOf(text ?? "", csv), busy = manifests.filter(({ stops }) => stops.length > 0), doings = doingOf(manifests, rows, now);
     const { lates, needs } = attention(manifests, told, doings, now, day === today()), wanted = vansIn(needs);
     const worst = (/** @type {Manifest} */ { vehicle }) => Math.max(lates.get(vehicle)?.delay ?? 0, lates.get(vehicle)?.silent ?? 0);
@@ -140,8 +157,8 @@ function oneVan({ day, marked, original }, { one, doings, dues }, close) {
 // The whole.
 
 /** @param {State} state @param {Known} known @param {{ chosen: (vehicle: number) => void, tip: ReturnType<typeof tipScreen>, toNow: () => void, tabled: () => void, original: (original: boolean) => void }} acts */
-function pictureCard(state, { manifests, busy, shown, idle, one, doings, dues, lates }, { chosen, tip, toNow, tabled, original }) {
-    const { day, text, now, asTable, chosen: selected } = state, stand = tripsThatStand(text ?? ""), isNow = day === today();
+function pictureCard(state, known, { chosen, tip, toNow, tabled, original }) {
+    const { manifests, busy, shown, idle, one, doings, dues, lates } = known, { day, text, now, asTable, chosen: selected } = state, stand = tripsThatStand(text ?? ""), isNow = day === today();
     const labelled = (/** @type {Label | null} */ label, spoken = false) => {
         const stop = label && manifests.find(({ vehicle }) => vehicle === label.vehicle)?.stops[label.at], words = stop ? stopWords(stop, doings) : "";
         tip.show(label, words);
@@ -149,7 +166,8 @@ function pictureCard(state, { manifests, busy, shown, idle, one, doings, dues, l
     };
     return part("div", { class: "card picture-card" },
         busy.length > 0 && part("div", { class: "scroll timeline", id: "picture", tabindex: 0, role: "region", "aria-label": t("dispatcher.picture"), on: { pointerleave: () => labelled(null) } },
-            tip.element, timeline(shown, { chosen, selected, now: isNow ? now : null, room: roomOf(state, Boolean(one)), doings, labelled, lates })),
+            tip.element, rowsOnce(known, selected, isNow ? now : null, roomOf(state, Boolean(one)), () => timeline(shown, { chosen, selected, now: isNow ? now : null,
+                room: roomOf(state, Boolean(one)), doings, labelled, lates }))),
         idle.length > 0 && part("details", { class: "idle" }, part("summary", {}, t("dispatcher.idle", { count: idle.length })),
             part("ul", { class: "row" }, idle.map(({ vehicle }) => part("li", { key: vehicle }, vehicleName(vehicle))))),
         part("div", { class: "row tools" }, part("p", {}, t("dispatcher.stand", { count: stand }), " ", t(manifests.length ? "dispatcher.choose" : "dispatcher.nobody")),
@@ -159,6 +177,18 @@ function pictureCard(state, { manifests, busy, shown, idle, one, doings, dues, l
             isNow && busy.length > 0 && button(t("dispatcher.to-now"), toNow), button(t("dispatcher.as-table"), tabled, { "aria-expanded": String(asTable), "aria-controls": "as-table" }),
             busy.length > 0 && legend()),
         part("div", { id: "as-table", class: asTable ? null : "folded-table" }, (asTable || state.printing) && tableOfDay(t("dispatcher.table-of-day"), manifests, doings)));
+}
+
+/** The rows of the picture, drawn anew where what they show has changed: typing in the search changes none of it.
+ * @type {{ from: any[], made: import("../types").Given } | null}
+ */
+let rowsDrawn = null;
+
+/** @param {Known} known @param {number | null} selected @param {number | null} now @param {number} room @param {() => import("../types").Given} make */
+function rowsOnce(known, selected, now, room, make) {
+    const from = [known, selected, now, room];
+    if (!rowsDrawn || rowsDrawn.from.some((it, at) => it !== from[at])) rowsDrawn = { from, made: make() };
+    return rowsDrawn.made;
 }
 
 /** Moves the picture so that the present is in its first third.
@@ -188,6 +218,8 @@ const firstState = (day) => ({ day, text: null, csv: "", denied: null, chosen: n
     onlyNeeds: false, printing: false, original: false, typed: "", marked: null });
 
 export function dayPicture() {
+    // (what was drawn for another screen acts on that one, and may be in another language)
+    rowsDrawn = null;
     const tip = tipScreen();
     const screen = makeScreen({ state: firstState(theDay()), class: "stack dispatch-wide dispatch-head dispatch-day", draw: (state, { change, kept }) => {
         const known = knownOf(state), vehicle = state.chosen;

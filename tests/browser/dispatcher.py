@@ -391,6 +391,34 @@ def the_day_fills_the_window_and_trips_begin_above_the_fold(at):
         holds(f"the first trip begins at {top}", top < 260)
 
 
+def thread_time(at):
+    """The milliseconds that the main thread has worked."""
+    found = at.browser.devtools("Performance.getMetrics")["metrics"]
+    return 1000 * next(it["value"] for it in found if it["name"] == "TaskDuration")
+
+
+@check
+def a_letter_in_the_search_is_cheap_on_a_day_of_seven_hundred_trips(at):
+    sign_in(at, DAY, "13:00", "trips")
+    with at.browser.screen(1366, 768):
+        at.browser.script(READS_MADE, 36, 700)
+        at.browser.press("Day", "link")
+        at.browser.sees("700 trips on this day.")
+        at.browser.settled(500)
+        at.browser.devtools("Performance.enable", timeDomain="threadTicks")
+        at.browser.script("document.getElementById('day-search').focus()")
+        spent = []
+        for letter in "alvarez":
+            before = thread_time(at)
+            at.browser.keys(letter)
+            at.browser.settled(100)
+            spent.append(round(thread_time(at) - before))
+        at.browser.devtools("Performance.disable")
+    print(f"milliseconds of the main thread for each letter: {spent}")
+    holds("nothing was measured", max(spent) > 0)
+    sign_in(at, DAY, "23:00", "trips")
+
+
 @check
 def the_head_stays_and_no_button_is_cut(at):
     with at.browser.screen(1366, 768):
