@@ -21,7 +21,7 @@ export type Route = { id: number, name?: string, width: number, points: [number,
 export type Vehicle = { id: number, name?: string };
 export type Appeal = { to: string, address: string, telephone: string, days: number };
 export type Agency = { name: string, telephone: string, address: string, zone: string | undefined, first_weekday: number, place_word: string, clock: 12 | 24,
-    languages: string[], wait_minutes: number, lead: number, idle_minutes: number, appeal: Appeal, unproved: boolean, closed: { day: string, name?: string }[] };
+    languages: string[], wait_minutes: number, lead: number, idle_minutes: number, lock_minutes: number, appeal: Appeal, unproved: boolean, manifest_telephone: boolean, board_minutes: number, board_names: boolean, closed: { day: string, name?: string }[] };
 export type Rider = { rider: number, name: string, telephone: string, language: string, home: number | null, usual: number[], aid: string, note: string };
 
 export type Field<Value = any> = { name: string, label?: string, wants: string, control: any, element: HTMLElement,

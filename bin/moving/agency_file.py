@@ -299,8 +299,9 @@ ROUTE_PAIRS = [("first", "last", rising, "first and last go together, and first 
 FIELDS = {
     "name": text, "telephone": telephone, "address": lines, "zone": zone, "first_weekday": whole(1, 7),
     "place_word": text, "clock": clock, "languages": several(language, 1),
-    "wait_minutes": whole(0, 60), "lead": whole(0, 60), "idle_minutes": whole(0, LAST_MINUTE), "appeal": obj(APPEAL),
-    "subscription_share": share, "closed": closed_days, "unproved": yes_or_no,
+    "wait_minutes": whole(0, 60), "lead": whole(0, 60), "idle_minutes": whole(0, LAST_MINUTE),
+    "board_minutes": whole(0, LAST_MINUTE + 1), "board_names": yes_or_no, "manifest_telephone": yes_or_no,
+    "lock_minutes": whole(5, 720), "appeal": obj(APPEAL), "subscription_share": share, "closed": closed_days, "unproved": yes_or_no,
     "retention": obj({it: time_kept(it) for it in lengths.DEFAULTS}),
     "places": records(PLACE, ["id"], PLACE_PAIRS),
     "routes": records(ROUTE, ["id", "width", "points"], ROUTE_PAIRS),

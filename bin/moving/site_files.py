@@ -12,7 +12,8 @@ from moving import agency_file, roster_file, whole_file
 from moving.limits import Wrong
 
 PUBLIC = ("name", "telephone", "address", "zone", "first_weekday", "place_word", "clock", "languages", "wait_minutes",
-          "lead", "idle_minutes", "appeal", "closed", "unproved")
+          "lead", "idle_minutes", "lock_minutes", "board_minutes", "board_names", "manifest_telephone", "appeal", "closed",
+          "unproved")
 # Whoever serves the files is in the folder's group; nobody else reads them.
 FILE_MODE, FOLDER_MODE = 0o640, 0o2750
 FIXED = ("agency.json", "places.json", "staff/places.json", "staff/roster.csv", "drivers/places.json", "drivers/roster.csv")
@@ -28,8 +29,6 @@ def texts_of(agency, roster=None, drivers=None):
         "agency.json": agency_file.text_of({it: agency[it] for it in PUBLIC if agency.get(it, False) is not False}),
         "places.json": agency_file.text_of(hidden),
         "staff/places.json": agency_file.text_of(lists),
-        # A driver has to find the homes of the riders on the manifest.
-        "drivers/places.json": agency_file.text_of({"places": lists["places"]}),
     }
     for rider in sorted({rider for it in lists["places"] for rider in riders_of(it)}):
         own = [{**without_note(it), "private": rider} for it in lists["places"] if rider in riders_of(it)]
@@ -40,6 +39,7 @@ def texts_of(agency, roster=None, drivers=None):
         for it in roster.riders:
             texts[f"own/{it['rider']}/name.json"] = agency_file.text_of({"name": it["name"]})
     if drivers:
+        # The site has no address for it: bin/driver-files takes from it what each van's driver needs.
         texts["drivers/roster.csv"] = roster_file.text_of(drivers.riders, roster_file.DRIVERS_COLUMNS)
     return texts
 

@@ -16,7 +16,7 @@ DESKS_PATHS = re.compile(r"/(callers|policy|places|routes|vehicles|riders|trips|
 TALLY = {f"/tally/{it.name}": re.compile(events.pattern_of(it)) for it in events.EVENTS.values()}
 VEHICLE = re.compile("(?:^|&)vehicle=([0-9]+)")
 OWN = re.compile(r"/own/([1-9][0-9]*)/places\.json")
-OF_VEHICLE = re.compile(r"/drivers/([1-9][0-9]*)/(roster\.csv|places\.json)")
+OF_VEHICLE = re.compile(r"/drivers/([1-9][0-9]*)/(roster\.csv|places\.json|outcomes\.json)")
 # Nobody's number, by which the desk tells what a key may do.
 NOBODY = "/riders/4294967295"
 KINDS = {
@@ -71,9 +71,7 @@ class Handler(BaseHTTPRequestHandler):
         elif own:
             self.send_where(self.judged(f"/riders/{own[1]}/standing/2026-01-01"), site, path[1:])
         elif of_vehicle:
-            self.send_where(
-                self.judged(f"/vehicles/{of_vehicle[1]}/manifest/2026-01-01"), site, f"drivers/{of_vehicle[2]}"
-            )
+            self.send_where(self.judged(f"/vehicles/{of_vehicle[1]}/manifest/2026-01-01"), site, path[1:])
         else:
             self.send_file(self.office.pages, f"{path}index.html"[1:] if path.endswith("/") else path[1:], "no-cache")
 

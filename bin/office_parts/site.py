@@ -7,12 +7,14 @@ import shutil
 import socket
 import subprocess
 import sys
+import threading
 import time
 
 from office_parts import building, proxy
 from office_parts.serving import Trouble, end
 
 SITE, NGINX, TALLY, WAITING = "site", "nginx", "nginx/tally.log", "staff/worklist.html"
+DAY = "staff/today.json"
 # Lines of the site that only TLS has a use for.
 OF_TLS = re.compile(r"^ *(ssl_\w+|http2_\w+|add_header Strict-Transport-Security) .*;\n", re.MULTILINE)
 SSL = re.compile(r"^ *(listen .*ssl|ssl_)", re.MULTILINE)
@@ -40,6 +42,33 @@ def derive(top, folder, is_unproved):
         served = json.load(file)
     if is_unproved and served.get("unproved") is not True:
         building.write_text(public, json.dumps({**served, "unproved": True}, ensure_ascii=False) + "\n")
+
+
+class DriversFiles:
+    """Makes the files of each van's driver, and makes them anew every two minutes, as desk-driver-files.timer does."""
+
+    PAUSE = 120
+
+    def __init__(self, top, folder, key, desk_port):
+        self.env = {**os.environ, "PYTHONPATH": f"{top}/python", "PYTHONDONTWRITEBYTECODE": "1"}
+        self.words = [sys.executable, "-m", "desk_tools.driver_files", f"{folder}/{SITE}"]
+        self.words += ["--url", f"http://127.0.0.1:{desk_port}", "--key", "/dev/stdin"]
+        self.key, self.ended = key, threading.Event()
+        self.make()
+        threading.Thread(target=self.go_on, daemon=True).start()
+
+    def make(self):
+        subprocess.run(self.words, input=self.key, text=True, capture_output=True, env=self.env, check=False)
+
+    def go_on(self):
+        while not self.ended.wait(self.PAUSE):
+            self.make()
+
+    def has_ended(self):
+        return False
+
+    def stop(self):
+        self.ended.set()
 
 
 def list_waiting(top, folder, work):
@@ -119,6 +148,21 @@ class Nginx:
                 if lines:
                     return lines[-1]
         return "it says nothing"
+
+    def stop(self):
+        end(self.process)
+
+
+class Day:
+    """What makes the file of the day out of the log of counts."""
+
+    def __init__(self, top, folder):
+        served = f"{folder}/{SITE}"
+        os.makedirs(f"{served}/staff", exist_ok=True)
+        words = [f"{top}/deploy/today", f"{folder}/{TALLY}", f"{served}/{DAY}", "--agency", f"{served}/agency.json"]
+        self.process = subprocess.Popen(
+            words, stdout=subprocess.DEVNULL, stderr=subprocess.DEVNULL, stdin=subprocess.DEVNULL, start_new_session=True
+        )
 
     def stop(self):
         end(self.process)

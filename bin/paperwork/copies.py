@@ -108,6 +108,16 @@ class Copy:
             raise self.unsound(f"trip {trip} has the status {number!r}")
         return STATUSES[number]
 
+    def correct(self, outcomes):
+        """Lets trips have other outcomes, in this program alone: a view stands before the table, and the file stays."""
+        columns = [name for _, name, *_ in self.rows("PRAGMA main.table_info(trips)")]
+        shown = ["coalesce((SELECT status FROM corrected WHERE trip = id), status) AS status" if it == "status" else f'"{it}"'
+                 for it in columns]
+        self.rows("CREATE TEMP TABLE corrected (trip INTEGER PRIMARY KEY, status INTEGER)")
+        for pair in outcomes.items():
+            self.rows("INSERT INTO corrected VALUES (?, ?)", *pair)
+        self.rows(f"CREATE TEMP VIEW trips AS SELECT {', '.join(shown)} FROM main.trips")
+
     def check_days(self):
         """Each trip is of a day that the desk knows, so that those of all days are all trips."""
         first, last = (number_of(datetime.date(year, 1, 1)) for year in (FIRST_YEAR, LAST_YEAR + 1))

@@ -1,6 +1,6 @@
 """The night's backup in another place, which nobody on this machine can take away again.
 
-/etc/desk/offsite.conf says where: OFFSITE=, a mounted folder, a host by ssh (MACHINE:/FOLDER) or `none yet`; SSH=, how to
+/etc/desk/copies.conf says where: OFFSITE=, a mounted folder, a host by ssh (MACHINE:/FOLDER) or `none yet`; SSH=, how to
 reach it; RECIPIENT=, a public key to which the copies are encrypted.
 """
 import contextlib
@@ -28,10 +28,10 @@ LOOK, LOOKED = 3_600, "/run/desk-elsewhere.json"
 
 
 class Settings:
-    """What offsite.conf says. The environment may give OFFSITE, SSH, RECIPIENT and SCRIPT."""
+    """What copies.conf says. The environment may give OFFSITE, SSH, RECIPIENT and SCRIPT."""
 
     def __init__(self, settings=None):
-        self.path = f"{settings or os.environ.get('SETTINGS') or SETTINGS}/offsite.conf"
+        self.path = f"{settings or os.environ.get('SETTINGS') or SETTINGS}/copies.conf"
         given = {}
         if os.path.exists(self.path):
             with open(self.path, encoding="utf-8") as file:
@@ -144,8 +144,10 @@ def send(desk, settings, backups):
     if settings.place is None:
         return [f"OFFSITE is {rules.NONE_YET}: the backups are on the disk of the desk alone, and are lost with it"]
     place = settings.place.of_agency(desk.agency)
-    there = names_there(settings, place, backups)
-    wanted = rules.to_send(os.listdir(backups) if os.path.isdir(backups) else [], there)
+    there, here = names_there(settings, place, backups), os.listdir(backups) if os.path.isdir(backups) else []
+    if not rules.newest(here, "desk"):
+        return [f"{place.told()} can be reached; {backups} has no backup of a night yet"]
+    wanted = rules.to_send(here, there)
     told = []
     with tempfile.TemporaryDirectory(prefix="desk-elsewhere-", dir="/var/tmp") as folder:
         for it in wanted:

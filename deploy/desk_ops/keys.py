@@ -6,16 +6,17 @@ import sqlite3
 import stat
 import sys
 
+from . import typed  # noqa: F401  (it leads to the package `desk_tools`)
 from .copying import check_folder_of
 from .ending import WRONG_WORDS, Failure
 
 ABOVE = os.path.dirname(os.path.dirname(os.path.realpath(__file__)))
 # The package `moving` is in bin/: of the sources, or of the folder in which the scripts are installed.
 sys.path += [os.path.join(it, "bin") for it in (os.path.dirname(ABOVE), ABOVE)]
+from desk_tools.tables import ROLES  # noqa: E402
 from moving import keys as moving_keys  # noqa: E402
 
 SHORTEST = 16
-ROLES = ("rider", "clerk", "examiner", "officer", "dispatcher", "driver", "admin")
 ADMIN = ROLES.index("admin")
 
 

@@ -17,11 +17,15 @@ from .ending import Failure
 from .places import AGENCY_NAME, SETTINGS
 
 PORT, SHOWN = "8437", ("LoadState", "ActiveState", "Result", "NRestarts", "ExecMainExitTimestamp", "ExecMainStatus")
-OTHER_SETTINGS = ("standby", "watch", "offsite")
+OTHER_SETTINGS = ("standby", "watch", "copies", "offsite")
 MINUTE, HOUR, DAY = 60, 3_600, 86_400
 MOST_RESTARTS, LONGEST_STEP = 3, 15 * MINUTE
 CERTIFICATE_DAYS, BACKUP_AGE, STANDBY_AGE = 21, 25 * HOUR, 20 * MINUTE
 LEAST_FREE, LEAST_SHARE, ENOUGH = 500 << 20, 10, 5 << 30
+# With less than that a desk may find no room for a start; the copies of before an upgrade stay for so many days.
+NO_ROOM, DAYS_OF_COPIES = 16 << 20, 90
+# Where the service of /health and /metrics reads what root saw. It names no person.
+PUBLISHED = "/run/desk-watch.json"
 STORE_FAILED = 503
 
 
@@ -79,13 +83,29 @@ def size_of(folder):
     return sum(os.stat(it).st_size for it in glob.glob(f"{folder}/desk.db*"))
 
 
+def written_in(folder):
+    """When the desk's file or its log was written last."""
+    paths = (it for it in (f"{folder}/desk.db", f"{folder}/desk.db-wal") if os.path.exists(it))
+    return max((os.stat(it).st_mtime for it in paths), default=None)
+
+
+def copies_in(folder):
+    """How many copies of before an upgrade there are, their bytes, and when the oldest was made."""
+    found = [os.stat(it) for it in glob.glob(f"{folder}/desk.db.before-*") if not it.endswith("-wal")]
+    return [len(found), sum(it.st_size for it in found), min((it.st_mtime for it in found), default=None)]
+
+
 def facts(settings=SETTINGS):
     desks = watched(settings)
+    folders = {it.unit: os.environ.get("DATA") or it.folder for it in desks}
     return {
         "moment": time.time(), "uptime": time.clock_gettime(time.CLOCK_BOOTTIME),
         "units": {it.unit: shown(f"{it.unit}.service") for it in desks},
         "backups": {it.unit: newest_in(os.environ.get("BACKUPS") or it.backups) for it in desks},
-        "sizes": {it.unit: size_of(os.environ.get("DATA") or it.folder) for it in desks},
+        "sizes": {unit: size_of(folder) for unit, folder in folders.items()},
+        "written": {unit: written_in(folder) for unit, folder in folders.items()},
+        "copies": {unit: copies_in(folder) for unit, folder in folders.items()},
+        "ports": {it.unit: it.port for it in desks},
         "standby": {it.unit: shown(it.standby) for it in desks} if os.path.exists(f"{settings}/standby.conf") else {},
         "elsewhere": elsewhere.facts(settings, {it.unit: (it.agency, os.environ.get("BACKUPS") or it.backups) for it in desks},
                                      time.time()),
@@ -120,13 +140,19 @@ def troubles_of_answer(desk, patience, wanted):
         yield "down", f"does not answer on {desk.url}: see journalctl -u {desk.unit}"
 
 
-def troubles_of_restarts(unit, seen, state, now, wanted):
-    """A unit that ends again and again. systemd gives it up; it is started again after steps that double."""
+def troubles_of_restarts(unit, seen, state, now, wanted, free=None):
+    """A unit that ends again and again. systemd gives it up; it is started again after steps that double, and at once
+    where its disk was full and has room again. `free` is in bytes."""
     loop = state.setdefault("loops", {}).setdefault(unit, {"counts": [], "step": MINUTE, "next": 0})
     count = int(seen.get("NRestarts") or 0)
     counts = [it for it in loop["counts"] if it[0] > now - HOUR and it[1] <= count]
     loop["counts"] = [*counts, [now, count]]
+    is_full = free is not None and free < NO_ROOM
+    has_room_again = loop.get("full", False) and not is_full
+    loop["full"] = is_full
     if seen.get("ActiveState") == "failed":
+        if has_room_again:
+            loop["next"], loop["step"] = now, MINUTE
         if now >= loop["next"]:
             wanted.append(unit)
             loop["next"], loop["step"] = now + loop["step"], min(2 * loop["step"], LONGEST_STEP)
@@ -208,6 +234,23 @@ def troubles_of_backup(newest, now):
         yield "backup", f"the last backup is of {moment_of(newest)}, more than a day ago"
 
 
+def troubles_of_copies(told, now):
+    """Copies of before an upgrade, which the nightly backup puts away."""
+    count, size, oldest = told
+    if oldest is not None and now - oldest > (DAYS_OF_COPIES + 1) * DAY:
+        yield "copies", (f"{count} copies of before an upgrade ({size >> 20:,} MB), the oldest of {moment_of(oldest)}, were "
+                         f"to be put away after {DAYS_OF_COPIES} days: see journalctl -u desk-backup")
+
+
+def room_in(folder):
+    """The bytes that are free there, or None."""
+    try:
+        found = os.statvfs(folder)
+    except OSError:
+        return None
+    return found.f_frsize * found.f_bavail
+
+
 def troubles_of_standby(unit, seen, state, now):
     """The second machine has the newest copy of the last run that went well."""
     good = state.setdefault("standby", {})
@@ -230,14 +273,16 @@ def troubles(told, state, settings, patience):
         if os.path.exists(desk.fence):
             continue
         unit = desk.unit
-        of_desk = [*troubles_of_restarts(unit, told["units"].get(unit, {}), state, now, wanted),
+        folder = os.environ.get("DATA") or desk.folder
+        of_desk = [*troubles_of_restarts(unit, told["units"].get(unit, {}), state, now, wanted, room_in(folder)),
                    *troubles_of_answer(desk, patience, wanted), *troubles_of_backup(told["backups"].get(unit), now)]
         if told["standby"].get(unit, {}).get("LoadState", "not-found") == "loaded":
             of_desk += troubles_of_standby(unit, told["standby"][unit], state, now)
         of_desk += elsewhere.troubles(unit, told.get("elsewhere", {}), now, BACKUP_AGE)
         if site != "none":
             of_desk += troubles_of_certificate(desk.name, site, now)
-        of_desk += troubles_of_room(os.environ.get("DATA") or desk.folder, told["sizes"].get(unit, 0))
+        of_desk += troubles_of_copies(told.get("copies", {}).get(unit, [0, 0, None]), now)
+        of_desk += troubles_of_room(folder, told["sizes"].get(unit, 0))
         found += [(unit, *it) for it in of_desk]
     found += [("machine", *it) for it in troubles_of_clock(told, state)]
     for folder in ("/var/log", "/var/backups"):
@@ -260,6 +305,21 @@ def send(settings, lines):
                 line.sendmail(value_of(path, "FROM", address), [address], head + text.replace("\n", "\r\n"))
         except OSError as error:
             raise OSError(f"{server} takes no mail: {error}") from None
+
+
+def unspoken(found, state, now, hours=1):
+    """Of (unit, what, sentence) those that were not said within the hour, so that a journal is not filled."""
+    said, kinds = state.get("said", {}), {f"{unit} {what}": (unit, sentence) for unit, what, sentence in found}
+    new = {kind: it for kind, it in kinds.items() if not 0 <= now - said.get(kind, -HOUR) < hours * HOUR}
+    state["said"] = {kind: now if kind in new else said[kind] for kind in kinds}
+    return [f"{unit}: {sentence}" for unit, sentence in new.values()]
+
+
+def publish(told, found, path=None):
+    """As root: what is seen, for the service of /health and /metrics."""
+    path = path or os.environ.get("PUBLISHED") or PUBLISHED
+    put_state(path, {**told, "troubles": [[unit, what] for unit, what, _ in found]})
+    os.chmod(path, 0o644)
 
 
 def start_anew(units, settings):

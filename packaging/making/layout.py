@@ -10,7 +10,7 @@ from desk_parts import sources
 from making import licences, manual, receipt
 
 # What of bin/ only the sources have a use for.
-OF_SOURCES = {"desk", "desk_parts", "gate", "look.program", "meter", "package", "rehearsal"}
+OF_SOURCES = {"apt-repository", "desk", "desk_parts", "gate", "look.program", "meter", "package", "rehearsal"}
 # Where the tree is installed by hand, and where the package has it. The tools of bin/ come first.
 PLACES = [
     ("/usr/local/lib/desk/bin/", "/usr/lib/desk/bin/"),
@@ -22,7 +22,7 @@ OF_PROOF = """ Every function of the program is proved to meet its contract. The
  the proof is in /usr/share/doc/desk/receipt.json."""
 OF_TRIAL = """ This package is for trial: its program need not be proved. Do not use it for
  real trips."""
-SCRIPTS = ["config", "postinst", "prerm", "postrm"]
+SCRIPTS = ["config", "preinst", "postinst", "prerm", "postrm"]
 
 
 class Layout:
@@ -52,10 +52,10 @@ class Layout:
     def pack(self, name, text):
         self.write(f"{name}.gz", gzip.compress(text.encode(), 9, mtime=0))
 
-    def copy_tree(self, source, name):
-        for place, _, files in os.walk(f"{self.top}/{source}"):
-            if "__pycache__" in place:
-                continue
+    def copy_tree(self, source, name, without=None):
+        """A folder of the tree, without its inner folders of one name."""
+        for place, folders, files in os.walk(f"{self.top}/{source}"):
+            folders[:] = [it for it in folders if it not in ("__pycache__", without)]
             for file in sorted(files):
                 inner = os.path.relpath(f"{place}/{file}", f"{self.top}/{source}")
                 is_run = os.stat(f"{place}/{file}").st_mode & stat.S_IXUSR
@@ -94,7 +94,7 @@ def put_tools(layout):
     for name in "desk-setup", "take-over":
         layout.copy(f"packaging/{name}", f"usr/lib/desk/packaging/{name}", 0o755)
     layout.copy_tree("packaging/setting_up", "usr/lib/desk/packaging/setting_up")
-    layout.copy_tree("python/desk_tools", "usr/lib/desk/python/desk_tools")
+    layout.copy_tree("python/desk_tools", "usr/lib/desk/python/desk_tools", without="booted")
     layout.link("usr/sbin/desk-setup", "../lib/desk/packaging/desk-setup")
     layout.copy_tree("pages", "usr/share/desk/pages")
     layout.link("usr/lib/desk/pages", "../../share/desk/pages")

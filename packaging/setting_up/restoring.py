@@ -180,7 +180,7 @@ class Restoring:
                           "in the backup; if that is meant, say --another")
 
     def keys_of_nights(self):
-        for path in sorted(glob.glob(f"{self.machine.folder}/etc/desk/keys/*")):
+        for path in sorted(glob.glob(f"{self.machine.folder}/etc/desk/keys/*standing-orders*")):
             with contextlib.suppress(OSError, UnicodeDecodeError), open(path, encoding="ascii") as file:
                 yield keys.moving_keys.normalized(file.read().rstrip("\n"))
 

@@ -12,8 +12,9 @@ from setting_up.changes import run
 from setting_up.settings import NIGHTLY, Failure
 
 DESK, SITE, CLOCK = "desk.service", "nginx.service", "systemd-time-wait-sync.service"
-ALWAYS = [DESK, "desk-watch.timer", "desk-restart.timer", "desk-journal.timer", "desk-record.service", "desk-retention.timer",
-          "desk-today.service"]
+HEALTH = "desk-health.service"
+ALWAYS = [DESK, HEALTH, "desk-watch.timer", "desk-restart.timer", "desk-journal.timer", "desk-record.service",
+          "desk-retention.timer", "desk-today.service", "desk-driver-files.timer"]
 PORT, SECONDS, SECONDS_OF_SITE, NOBODY = 8437, 120, 30, "no key of anybody"
 
 
@@ -54,19 +55,22 @@ def agency_at(port, name):
 class Services:
     """What runs by itself for one agency."""
 
-    def __init__(self, nightly):
-        timers = {f"desk-{it}.timer": it in nightly.split(", ") for it in NIGHTLY}
+    def __init__(self, settings):
+        timers = {f"desk-{it}.timer": it in settings["nightly"].split(", ") for it in NIGHTLY}
+        timers["desk-acme.timer"] = bool(settings["acme"])
         self.wanted = [*ALWAYS, *[it for it, is_wanted in timers.items() if is_wanted]]
         self.others = [it for it, is_wanted in timers.items() if not is_wanted]
         self.enabled = {it: is_so("is-enabled", it) for it in [*self.wanted, *self.others]}
         self.was_up = is_so("is-active", DESK)
+        self.had_site = is_so("is-enabled", SITE)
 
     def start(self):
         run("systemctl", "daemon-reload")
         run("systemctl", "enable", "--now", *self.wanted)
         if self.others:
             run("systemctl", "disable", "--now", *self.others)
-        run("systemctl", "restart", DESK)
+        # The timers' hours are the agency's, which may be others than before.
+        run("systemctl", "restart", DESK, HEALTH, *[it for it in self.wanted if it.endswith(".timer")])
         # The clock is waited for at a start of the machine, where this machine has the unit for it.
         subprocess.run(["systemctl", "--quiet", "enable", CLOCK], check=False, capture_output=True)
         self.wait_for_desk()
@@ -87,6 +91,7 @@ class Services:
 
     def start_site(self, settings):
         """Until nginx serves this agency's site."""
+        run("systemctl", "enable", SITE)
         run("systemctl", "reload-or-restart", SITE)
         end = time.monotonic() + SECONDS_OF_SITE
         while time.monotonic() < end:
@@ -98,7 +103,7 @@ class Services:
 
     def stop_new(self):
         """Ends and disables what was not enabled before."""
-        new = [it for it, was in self.enabled.items() if not was]
+        new = [it for it, was in {**self.enabled, SITE: self.had_site}.items() if not was]
         if new:
             subprocess.run(["systemctl", "--quiet", "disable", "--now", *new], check=False, capture_output=True)
 

@@ -6,7 +6,9 @@ import sys
 
 SETTINGS, ZONES = "/etc/desk/setup.json", "/usr/share/zoneinfo"
 NAME = re.compile(r"(?=.{1,253}$)[a-z0-9]([a-z0-9-]*[a-z0-9])?(\.[a-z0-9]([a-z0-9-]*[a-z0-9])?)*")
-OWN_PORTS = 80, 8436, 8437
+OWN_PORTS = 80, 8435, 8436, 8437
+NO_ALARM, MAIL = "none yet", re.compile(r"[A-Za-z0-9._%+-]+@[A-Za-z0-9.-]+")
+HOOK = re.compile(r"https?://[A-Za-z0-9._~:/?#@!&=%+,;-]+")
 NO_OFFSITE = "none yet"
 OFFSITE = f"a mounted folder, a host by ssh (MACHINE:/FOLDER), or {NO_OFFSITE}"
 # What may run by itself, and the files without which it does not.
@@ -24,6 +26,7 @@ QUESTIONS = {
     "zone": ("Its zone, such as America/New_York", None),
     "name": ("The site's name on the net, such as desk.example.org", None),
     "port": ("The site's port", "443"),
+    "alarm": ("Who is told when something is wrong: a mail address, an https:// address, or none yet", "none yet"),
     "offsite": (f"Where copies go beside this machine: {OFFSITE}", NO_OFFSITE),
     "nightly": (f"What runs each night: {', '.join(NIGHTLY)}, or none", "backup, worklist"),
 }
@@ -63,6 +66,15 @@ def nightly_in(text):
     return ", ".join(it for it in NIGHTLY if it in words)
 
 
+def alarm_in(text):
+    """Who is told: a mail address, an address on the net that takes lines, or "none yet"."""
+    if text in ("none", NO_ALARM):
+        return NO_ALARM
+    if MAIL.fullmatch(text) or HOOK.fullmatch(text):
+        return text
+    raise Failure(f"{text!r} is no mail address, no address that begins with https://, and not none yet")
+
+
 def judged(name, text):
     """The value of a setting, or a failure that says what is wrong with it."""
     text = text.strip()
@@ -73,9 +85,11 @@ def judged(name, text):
     elif name == "port" and not (
         text.isascii() and text.isdigit() and 1 <= int(text) <= 65_535 and int(text) not in OWN_PORTS
     ):
-        raise Failure(f"{text!r} is no port for the site: 1 to 65535, and not 80, 8436 or 8437, which it has besides")
+        raise Failure(f"{text!r} is no port for the site: 1 to 65535, and not 80 or 8435 to 8437, which it has besides")
     elif name == "agency" and (not text or not text.isprintable() or len(text) > 100):
         raise Failure("the agency's name is one line of 1 to 100 signs")
+    elif name == "alarm":
+        return alarm_in(text)
     elif name == "offsite" and not re.fullmatch(rf"({NO_OFFSITE}|none|([A-Za-z0-9._@-]+:)?/[A-Za-z0-9._/-]+)", text):
         raise Failure(f"{text!r} is not {OFFSITE}")
     return nightly_in(text) if name == "nightly" else text

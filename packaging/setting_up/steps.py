@@ -1,5 +1,6 @@
 """The steps of a setup: the desk's file and its keys, the agency's file, the site, the units' settings."""
 import contextlib
+import glob
 import hashlib
 import json
 import os
@@ -9,16 +10,17 @@ import subprocess
 import sys
 
 from office_parts import mark
+from setting_up import away
 from setting_up.changes import run
-from setting_up.settings import Failure, before, rule_of
+from setting_up.settings import MAIL, NO_ALARM, Failure, before, rule_of
 
 TOP = os.path.dirname(os.path.dirname(os.path.dirname(os.path.realpath(__file__))))
 PROGRAM, FILE, KEYS = "/usr/bin/desk", "/var/lib/desk/desk.db", "/var/lib/desk-setup"
 AGENCY, SERVED, WATCH = "/etc/desk/agency.json", "/var/lib/desk-site", "/etc/desk/watch.conf"
 NGINX, SITE, FILES_OF_NGINX = "/etc/nginx/nginx.conf", "/etc/nginx/conf.d/desk.conf", "/etc/nginx/modules-enabled/90-desk.conf"
+TLS, UNITS, SHIPPED = "/etc/ssl/desk", "/etc/systemd/system", "/lib/systemd/system"
 JAVASCRIPT = "/usr/lib/nginx/modules/ngx_http_js_module.so"
-TLS, UNITS = "/etc/ssl/desk", "/etc/systemd/system"
-CONNECTIONS = 16_384
+CONNECTIONS, TOLD = 16_384, "/var/log/desk/tally.log"
 
 
 def make_file(changes):
@@ -67,6 +69,8 @@ def make_site_files():
     ran = subprocess.run([*words, SERVED], capture_output=True, text=True, check=False)
     if not os.path.exists(f"{SERVED}/agency.json") or ran.returncode > 1:
         raise Failure(f"the site's files were not made: {ran.stderr.strip()}")
+    with open(f"{SERVED}/agency.json", encoding="utf-8") as file:
+        away.put(json.load(file), SERVED)
     print(ran.stderr, end="", file=sys.stderr)
 
 
@@ -89,7 +93,8 @@ def make_certificate(changes, name):
     changes.note(f"{TLS}/key.pem")
     changes.note(f"{TLS}/certificate.pem")
     words = ["req", "-x509", "-newkey", "rsa:2048", "-nodes", "-days", "825", "-subj", f"/CN={name}"]
-    words += ["-addext", f"subjectAltName=DNS:{name}"]
+    words += ["-addext", f"subjectAltName=DNS:{name}", "-addext", "basicConstraints=critical,CA:FALSE"]
+    words += ["-addext", "extendedKeyUsage=serverAuth", "-addext", "keyUsage=critical,digitalSignature,keyEncipherment"]
     run("openssl", *words, "-keyout", f"{TLS}/key.pem", "-out", f"{TLS}/certificate.pem")
     os.chmod(f"{TLS}/key.pem", 0o600)
     return True
@@ -107,6 +112,7 @@ def make_site(changes, settings, lines):
         text = re.sub(r"(listen (?:\[::\]:)?)443\b", rf"\g<1>{settings['port']}", text)
         text = text.replace("https://$server_name$request_uri", f"https://$server_name:{settings['port']}$request_uri")
     make_record()
+    make_log()
     if is_by_hand(SITE, before().get("site")):
         changes.write(f"{SITE}.new", text)
         lines.append(f"{SITE} was changed by hand and stays. Compare it with {SITE}.new, which this version would serve.")
@@ -120,6 +126,15 @@ def make_site(changes, settings, lines):
         changes.write(NGINX, whole.replace(found[0], f"worker_connections {CONNECTIONS};"))
     changes.write(FILES_OF_NGINX, "worker_rlimit_nofile 40000;\n")
     run("nginx", "-t")
+
+
+def make_log():
+    """The log of what the site is told. A driver's note may name a rider, so it is for the site and the group adm."""
+    os.makedirs(os.path.dirname(TOLD), exist_ok=True)
+    with open(TOLD, "ab"):
+        os.chmod(TOLD, 0o640)
+    with contextlib.suppress(LookupError):
+        shutil.chown(TOLD, "www-data", "adm")
 
 
 def make_record():
@@ -139,8 +154,62 @@ def is_by_hand(path, digest):
 
 
 def make_units(changes, settings):
-    """The zone of the desk's unit, the wait for the clock at a start of the machine, and what the watch looks at."""
+    """The zone of the desk's unit and of the timers, the wait for the clock at a start of the machine, and the watch."""
     changes.write(f"{UNITS}/desk.service.d/zone.conf", f"[Service]\nEnvironment=ZONE={rule_of(settings['zone'])}\n")
     changes.write(f"{UNITS}/systemd-time-wait-sync.service.d/desk.conf", "[Service]\nTimeoutStartSec=5min\n")
-    if not os.path.exists(WATCH):
-        changes.write(WATCH, f"NAME={settings['name']}\nSITE=127.0.0.1:{settings['port']}\n")
+    for path in sorted(glob.glob(f"{SHIPPED}/desk-*.timer")):
+        name = os.path.basename(path)
+        if "@" not in name:
+            make_timer(changes, path, f"{UNITS}/{name}.d/zone.conf", settings["zone"])
+    make_watch(changes, settings)
+
+
+def make_timer(changes, path, drop_in, zone):
+    """A timer's hours are those of the agency's clocks, whatever the machine's zone is."""
+    with open(path, encoding="utf-8") as file:
+        hours = [line.strip() for line in file if line.startswith("OnCalendar=")]
+    if hours:
+        lines = "".join(f"{it} {zone}\n" for it in hours)
+        changes.write(drop_in, f"# By desk-setup. For another hour make a file beside this one.\n[Timer]\nOnCalendar=\n{lines}")
+
+
+def make_watch(changes, settings):
+    """What the watch looks at and whom it tells. A file that is there stays, but for another answer to who is told."""
+    text = f"NAME={settings['name']}\nSITE=127.0.0.1:{settings['port']}\n"
+    if os.path.exists(WATCH):
+        with open(WATCH, encoding="utf-8") as file:
+            text = file.read()
+        if settings["alarm"] == before().get("alarm", NO_ALARM):
+            return
+        text = re.sub(r"(?m)^(MAIL|HOOK)=.*\n?", "", text)
+    if MAIL.fullmatch(settings["alarm"]):
+        text += f"MAIL={settings['alarm']}\n"
+    elif settings["alarm"] != NO_ALARM:
+        text += f"HOOK=curl --silent --show-error --fail --max-time 30 --data-binary @- '{settings['alarm']}'\n"
+    changes.write(WATCH, text)
+
+
+def send_test(alarm, lines):
+    """Sends a line to whom the watch tells, where that is somebody new."""
+    if alarm == NO_ALARM:
+        lines.append(f"Nobody is told when something is wrong. desk-setup --alarm you@example.org changes that ({WATCH}).")
+        return
+    ran = subprocess.run([f"{TOP}/deploy/watch", "--test"], capture_output=True, text=True, check=False)
+    if ran.returncode:
+        lines.append(f"{alarm} got no test line: {ran.stderr.strip()}. Mend {WATCH}, and run {TOP}/deploy/watch --test.")
+    else:
+        lines.append(f"{alarm} was sent a test line. If it does not come, nobody is told when something is wrong.")
+
+
+def install_nginx(lines):
+    """nginx and its JavaScript, by apt, where they are not installed. It listens from now on, as a desk is set up."""
+    if shutil.which("nginx") and os.path.exists(JAVASCRIPT):
+        return True
+    words = ["apt-get", "install", "--yes", "--quiet", "nginx", "libnginx-mod-http-js", "openssl"]
+    given = {"env": {**os.environ, "DEBIAN_FRONTEND": "noninteractive"}, "capture_output": True, "text": True}
+    ran = subprocess.run(words, stdin=subprocess.DEVNULL, check=False, **given)
+    if ran.returncode and not shutil.which("nginx"):
+        lines.append("nginx is not installed, and apt-get could not install it: there is no site. Install it, and run "
+                     "desk-setup again.")
+        return False
+    return True

@@ -15,6 +15,7 @@ import { LANGUAGES, t } from "./words.js";
 /** @type {Kind[]} */
 export const KINDS = ["places", "routes", "vehicles"];
 const ADDED = "desk.agency", STAFF = ["clerk", "examiner", "officer", "dispatcher"], DEFAULT_CLOCK = 12, DEFAULT_WAIT = 5, DEFAULT_LEAD = 15, DEFAULT_IDLE = 30, LONGEST_WAIT = 5_000;
+const DEFAULT_LOCK = 240, LEAST_LOCK = 5, LONGEST_LOCK = 720;
 
 /** @typedef {[string, Record<string, any>]} Trouble a key of words and its values */
 /** What was wrong in each file that was read.
@@ -92,7 +93,8 @@ function recordsIn(kind, given, faults) {
 const SETTINGS = { name: isText, telephone: isText, address: isText, zone: (it) => isText(it) && isZone(it), first_weekday: (it) => within(it, 1, 7),
     place_word: (it) => isText(it) && it !== "", clock: (it) => it === 12 || it === 24,
     languages: (it) => Array.isArray(it) && it.some((one) => LANGUAGES.includes(one)), wait_minutes: (it) => within(it, 0, 120), lead: (it) => within(it, 0, 60),
-    idle_minutes: (it) => within(it, 0, 1440), appeal: isObject, unproved: isYesNo,
+    idle_minutes: (it) => within(it, 0, 1440), lock_minutes: (it) => within(it, LEAST_LOCK, LONGEST_LOCK), appeal: isObject, unproved: isYesNo,
+    manifest_telephone: isYesNo, board_names: isYesNo, board_minutes: (it) => within(it, 0, 1440),
     closed: (it) => Array.isArray(it) && it.every((one) => isObject(one) && isDay(one.day) && (one.name === undefined || isText(one.name))) };
 
 /** The settings with what is assumed of what is not there.
@@ -103,7 +105,8 @@ export function agency() {
         days: (days) => within(days, 1, 366) }).right;
     return { name: it.name || t("common.agency"), telephone: it.telephone ?? "", address: it.address ?? "", zone: it.zone, first_weekday: it.first_weekday ?? 7,
         place_word: it.place_word ?? t("common.place"), clock: it.clock ?? DEFAULT_CLOCK, languages: it.languages ?? LANGUAGES,
-        wait_minutes: it.wait_minutes ?? DEFAULT_WAIT, lead: it.lead ?? DEFAULT_LEAD, idle_minutes: it.idle_minutes ?? DEFAULT_IDLE, unproved: it.unproved === true,
+        wait_minutes: it.wait_minutes ?? DEFAULT_WAIT, lead: it.lead ?? DEFAULT_LEAD, idle_minutes: it.idle_minutes ?? DEFAULT_IDLE, lock_minutes: it.lock_minutes ?? DEFAULT_LOCK,
+        unproved: it.unproved === true, manifest_telephone: it.manifest_telephone === true, board_minutes: it.board_minutes ?? 0, board_names: it.board_names !== false,
         closed: it.closed ?? [],
         appeal: { to: "", address: "", telephone: "", days: APPEAL_DAYS, ...appeal } };
 }

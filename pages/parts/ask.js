@@ -31,9 +31,10 @@ export async function asked({ question, detail, yes, no = t("common.no-go-back")
 
 /** Lets one choose; null where nothing was chosen. A key that begins a choice's text chooses it where no other begins so.
  * @template Value
- * @param {{ question: string, detail?: import("../types").Given, choices: [Value, string, string?][], none?: string }} given a choice may have a key
+ * @param {{ question: string, detail?: import("../types").Given, choices: [Value, string, string?][], none?: string, careful?: boolean }} given a choice
+ *     may have a key; careful: the focus is on the answer that changes nothing
  * @returns {Promise<Value | null>} */
-export async function choose({ question, detail, choices, none = t("common.no-go-back") }) {
+export async function choose({ question, detail, choices, none = t("common.no-go-back"), careful = false }) {
     const keyed = (/** @type {KeyboardEvent} */ event) => {
         const at = choices.findIndex(([, , key]) => key && key === event.key.toLowerCase());
         if (at < 0 || event.ctrlKey || event.altKey || event.metaKey) return;
@@ -42,7 +43,7 @@ export async function choose({ question, detail, choices, none = t("common.no-go
         dialog?.close(String(at));
     };
     const answer = await dialogOf(question, detail, (close) => [...choices.map(([, text], at) => button(text, () => close(String(at)),
-        { class: "main", autofocus: at === 0, on: { click: () => close(String(at)), keydown: keyed } })),
-    button(none, () => close(""), { on: { click: () => close(""), keydown: keyed } })]);
+        { class: careful && (at > 0 || choices.length === 1) ? null : "main", autofocus: at === 0 && !careful, on: { click: () => close(String(at)), keydown: keyed } })),
+    button(none, () => close(""), { autofocus: careful, on: { click: () => close(""), keydown: keyed } })]);
     return answer === "" || !(Number(answer) in choices) ? null : choices[Number(answer)][0];
 }

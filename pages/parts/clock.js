@@ -64,15 +64,16 @@ export const serverNow = () => Date.now() + ahead;
  */
 let written = null;
 
-function parts() {
-    const now = serverNow(), second = Math.floor(now / 1000);
+/** @param {number} [at] milliseconds of the server's clock */
+function parts(at = serverNow()) {
+    const second = Math.floor(at / 1000);
     if (written?.zone !== zone || !written) {
         written = { zone, second: NaN, parts: {}, format: new Intl.DateTimeFormat("en-CA", { timeZone: zone, hourCycle: "h23", year: "numeric", month: "2-digit", day: "2-digit",
             hour: "2-digit", minute: "2-digit", second: "2-digit" }) };
     }
     if (written.second !== second) {
         written.second = second;
-        written.parts = Object.fromEntries(written.format.formatToParts(new Date(now)).map(({ type, value }) => [type, value]));
+        written.parts = Object.fromEntries(written.format.formatToParts(new Date(at)).map(({ type, value }) => [type, value]));
     }
     return written.parts;
 }
@@ -82,11 +83,14 @@ export function today() {
     return `${year}-${month}-${day}`;
 }
 
-/** Now by the agency's clocks: YYYY-MM-DDTHH:MM:SS. */
-export function momentNow() {
-    const { year, month, day, hour, minute, second } = parts();
+/** A moment by the agency's clocks, YYYY-MM-DDTHH:MM:SS: now, or of these milliseconds of the server's clock.
+ * @param {number} [at] */
+export function momentAt(at) {
+    const { year, month, day, hour, minute, second } = parts(at);
     return `${year}-${month}-${day}T${hour}:${minute}:${second}`;
 }
+
+export const momentNow = () => momentAt();
 
 export function minuteNow() {
     const { hour, minute } = parts();

@@ -2,6 +2,7 @@
 
 import { agency, forgetPlaces, hasAgency, loadAgency, loadPlaces, troubles } from "./agency.js";
 import { asked } from "./ask.js";
+import { plus, today } from "./clock.js";
 import * as desk from "./desk.js";
 import { denialOf } from "./denials.js";
 import { button, drawInto, found, make, part, say } from "./element.js";
@@ -18,7 +19,7 @@ import { chooseLanguage, language, LANGUAGE_NAMES, languageFor, t, useWords } fr
 /** @typedef {import("./screens.js").Screen} Screen */
 
 const SCREEN = "desk.screen", STAYS = [SCREEN, "desk.language", "desk.agency", "desk.ahead", "desk.entered"], LOOKED = 5_000, MINUTE = 60_000;
-const HURRY = 5_000, NEVER_IDLE = ["driver"], SEARCHES = ["clerk", "examiner", "officer"], USES = ["pointerdown", "keydown", "wheel", "touchstart", "touchmove"];
+const HURRY = 5_000, NEVER_IDLE = ["driver"], BOARD = "#dispatcher/day", SEARCHES = ["clerk", "examiner", "officer"], USES = ["pointerdown", "keydown", "wheel", "touchstart", "touchmove"];
 
 /** How often something else was shown: who waited for a screen that was left draws nothing. */
 let shows = 0;
@@ -86,8 +87,9 @@ function showTroubles(screen) {
 /** What of the counts could not be kept is one line for those who can do something about it.
  * @param {import("./tally.js").Trouble} trouble */
 function showCounts({ refused, loose }) {
-    const isStaff = [...STAFF, "admin"].includes(wanted().screen?.id ?? ""), what = refused.map(({ kind, refused: why }) => ({ kind, why }));
-    if (refused.length && isStaff) note("counts", t("common.counts-refused", { what }));
+    const isStaff = [...STAFF, "admin"].includes(wanted().screen?.id ?? ""), what = [...new Map(refused.map(({ kind, refused: why }) => [`${kind} ${why}`,
+        { kind, why }])).values()];
+    if (refused.length && isStaff) note("counts", t("common.counts-refused", { count: refused.length, what }));
     else dropNote("counts");
     if (loose && isStaff) note("counts-loose", t("common.counts-loose", { count: loose }));
     else dropNote("counts-loose");
@@ -298,9 +300,26 @@ async function signOut(words) {
     say(words);
 }
 
+/** A day on a wall stays where the agency says so: nothing can be done on it, and whoever touches it is signed out.
+ * @param {boolean} isOn
+ */
+function showBoard(isOn) {
+    document.body.classList.toggle("board", isOn);
+    document.body.classList.toggle("nameless", isOn && !agency().board_names);
+    for (const it of [found("main"), found("parts"), ...document.querySelectorAll(".top")]) /** @type {HTMLElement} */ (it).inert = isOn;
+}
+
+/** A screen has found that nobody has the key any more, and what was read with it is gone.
+ * @param {any} event */
+function keyGone({ detail }) {
+    detail.left = signOut(detail.said).then(() => note("key", detail.shown));
+}
+
 /** Who does nothing for long is signed out, and is told a minute before. */
 async function lookIdle() {
-    const minutes = agency().idle_minutes, idle = Date.now() - active;
+    const { idle_minutes: limit, board_minutes: board } = agency(), idle = Date.now() - active;
+    const isBoard = location.hash === BOARD && board > limit && limit > 0, minutes = isBoard ? board : limit;
+    showBoard(isBoard && desk.signedIn() && idle >= limit * MINUTE);
     if (!desk.signedIn() || !minutes || NEVER_IDLE.includes(wanted().screen?.id ?? "") || line.isWaiting()) return;
     if (idle >= minutes * MINUTE) {
         await signOut(t("signing.idle-out", { minutes }));
@@ -311,8 +330,16 @@ async function lookIdle() {
     }
 }
 
-function isActive() {
+/** @param {Event} event */
+function isActive({ type }) {
+    const isBoard = document.body.classList.contains("board");
+    // (a board that draws itself anew moves itself)
+    if (isBoard && type === "scroll") return;
     active = Date.now();
+    if (isBoard) {
+        showBoard(false);
+        signOut(t("signing.signed-out"));
+    }
     if (dropNote("idle-soon")) say("");
 }
 
@@ -324,6 +351,22 @@ async function finish() {
     if (reply && !unread?.().length) note("finished", () => (reply.denied ? [part("p", {}, t("common.was-denied")), denialOf(reply)] : t("common.was-done")));
 }
 
+/** Asks at once for what the screen takes that will be shown, while the agency's file is on its way. */
+function askAhead() {
+    const screen = wanted().screen ?? screenOf(kept(SCREEN) ?? "");
+    for (const name of screen?.first ?? []) document.head.append(make("link", { rel: "modulepreload", href: name }));
+    if (screen?.first) useStyles(screen.styles[0]);
+}
+
+askAhead();
+/** A phone that a driver has used drops manifests that are two days old, whoever opens these pages on it. */
+async function forgetManifests() {
+    const stores = await globalThis.indexedDB?.databases?.().catch(() => []) ?? [];
+    if (!stores.some(({ name }) => name === "desk")) return;
+    const { forgetDaysBefore } = await import("./manifest-copies.js");
+    await forgetDaysBefore(plus(today(), -1));
+}
+
 whenRefused(showCounts);
 desk.whenOthersWrote(() => note("others", () => t("common.others-wrote")));
 keepNotes();
@@ -331,6 +374,7 @@ await Promise.all([loadAgency(), desk.comeBack()]);
 await chooseLanguage(languageFor(agency().languages));
 await useWords("common", "denials", "fields", "signing");
 window.addEventListener("hashchange", () => show());
+window.addEventListener("desk.key-gone", keyGone);
 window.addEventListener("keydown", slash);
 // (a page that moves by itself, as where a note comes, is used by nobody)
 for (const event of USES) window.addEventListener(event, isActive, { passive: true, capture: true });
@@ -341,3 +385,4 @@ found("skip").addEventListener("click", (event) => {
 setInterval(lookIdle, LOOKED);
 await show();
 if (desk.signedIn()) finish();
+forgetManifests().catch(() => {});

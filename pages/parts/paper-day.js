@@ -1,5 +1,5 @@
-// What the dispatcher prints: manifests for drivers without a phone, the day sheet, and whom to call. They are made of the desk's own text, and
-// each of its lines is on the paper as it is.
+// What the dispatcher prints: manifests for drivers without a phone, the day sheet, and whom to call. They are made of the desk's own text, which
+// stands as it is on pages of its own where one asks for it.
 
 import { agency, placeName, placeNote, vehicleName } from "./agency.js";
 import { between, clock, dayInWords } from "./clock.js";
@@ -14,7 +14,7 @@ import { t } from "./words.js";
 /** @typedef {import("./texts.js").Stop} Stop */
 /** @typedef {Map<number, number>} Dues the cents that are due for each trip */
 
-const COLUMNS = 7, LINES = 6;
+const COLUMNS = 7, LINES = 5;
 
 /** @param {number} cents */
 const dollars = (cents) => `$${(cents / 100).toFixed(2)}`;
@@ -35,31 +35,36 @@ function linesOf({ lines, stops }) {
 /** @param {Stop} stop */
 const whatWords = ({ what, trip }) => (what === "DEPOT" ? t("dispatcher.depot") : t(`dispatcher.paper-${what}`, { trip }));
 
-/** Who it is, what the roster notes of who comes aboard, and where.
+/** Who it is, what the roster says of who comes aboard, and where. A drop is one line: its rider is aboard, and is known.
  * @param {Stop} stop
  */
 function whoAndWhere(stop) {
     if (stop.what === "DEPOT") return [part("strong", {}, whatWords(stop)), ` ${placeWords(stop.place)}`];
-    const note = stop.what === "PICK" ? riderOf(Number(stop.rider))?.note ?? "" : "";
-    return [part("strong", {}, whatWords(stop)), ` ${riderLabel(Number(stop.rider))}`, note && ` (${note})`, part("br"), placeWords(stop.place)];
+    if (stop.what === "DROP") return [part("strong", {}, whatWords(stop)), ` ${riderLabel(Number(stop.rider))}, ${placeName(stop.place)}`];
+    const rider = riderOf(Number(stop.rider)), more = [rider?.aid, rider?.note, agency().manifest_telephone && rider?.telephone].filter(Boolean).join("; ");
+    return [part("strong", {}, whatWords(stop)), ` ${riderLabel(Number(stop.rider))}`, more && ` (${more})`, part("br"), placeWords(stop.place)];
 }
 
 /** @param {Stop} stop @param {Dues} dues */
 function partyAndFare({ what, trip, people, wheelchairs }, dues) {
-    if (what === "DEPOT") return [];
+    if (what !== "PICK") return [];
     const due = dues.get(Number(trip));
-    return [t("dispatcher.people", { count: people, wheelchairs }), what === "PICK" && due !== undefined && [part("br"), t("dispatcher.fare", { due: dollars(due) })]];
+    return [t("dispatcher.people", { count: people, wheelchairs }), due !== undefined && [part("br"), t("dispatcher.fare", { due: dollars(due) })]];
 }
 
-/** A line of the desk, and above it what a driver has to know and to write.
+/** What a driver has to know of a stop, and to write. A line of another form stands as the desk wrote it.
  * @param {string} line @param {Stop | null} stop @param {Dues} dues
  */
 function stopRows(line, stop, dues) {
-    const own = part("tr", { class: "own-line" }, part("td", { colspan: COLUMNS }, line));
-    if (!stop) return part("tbody", {}, own);
+    if (!stop) return part("tbody", {}, part("tr", {}, part("td", { colspan: COLUMNS }, line)));
     const cells = [[part("strong", {}, clock(stop.at)), stop.window && [part("br"), between(...stop.window)]], whoAndWhere(stop), partyAndFare(stop, dues)];
-    return part("tbody", {}, part("tr", {}, cells.map((cell) => part("td", {}, cell)), ["", "", "", ""].map(() => part("td", { class: "blank" }))), own);
+    return part("tbody", {}, part("tr", {}, cells.map((cell) => part("td", {}, cell)), ["", "", "", ""].map(() => part("td", { class: "blank" }))));
 }
+
+/** The desk's own text, on pages of its own.
+ * @param {string[]} texts
+ */
+const ownPages = (texts) => texts.map((text) => part("pre", { class: "own-text" }, text));
 
 const blank = (/** @type {string} */ name) => part("span", { class: "fill" }, t(name), " ", part("span", { class: "line" }));
 
@@ -71,13 +76,14 @@ function manifestPaper(manifest, dues) {
     // (the first row of the head is on each page of a long manifest)
     const title = part("h2", {}, t("dispatcher.manifest-of", { vehicle: vehicleName(manifest.vehicle), day: dayInWords(manifest.day) }));
     const blanks = ["driver", "signature", "odometer-out", "odometer-in", "fares"].map((name) => [blank(`dispatcher.fill-${name}`), " "]);
-    return part("section", { class: "van" }, part("p", { class: "own-head" }, part("span", {}, manifest.lines[0]), " ", [agency().name, agency().telephone].filter(Boolean).join(", ")),
+    return part("section", { class: "van" }, part("p", { class: "own-head" }, [agency().name, agency().telephone].filter(Boolean).join(", ")),
         part("p", { class: "signatures" }, blanks), part("table", { class: "manifest" }, part("colgroup", {}, heads.map(() => part("col"))),
             part("thead", {}, part("tr", {}, part("th", { class: "title", colspan: COLUMNS }, title)), part("tr", {}, heads)), linesOf(manifest).map(([line, stop]) => stopRows(line, stop, dues))));
 }
 
-/** @param {Manifest[]} manifests @param {Dues} dues */
-export const printManifests = (manifests, dues) => printParts("", manifests.map((manifest) => manifestPaper(manifest, dues)), { class: "manifests" });
+/** @param {Manifest[]} manifests @param {Dues} dues @param {{ original?: boolean }} options original: with the desk's own text */
+export const printManifests = (manifests, dues, { original = false } = {}) => printParts("", [manifests.map((manifest) => manifestPaper(manifest, dues)),
+    original && ownPages(manifests.map(({ text }) => text))], { class: "manifests" });
 
 // The day sheet.
 
@@ -85,20 +91,19 @@ export const printManifests = (manifests, dues) => printParts("", manifests.map(
 function sheetRows(manifest) {
     const named = (/** @type {Stop} */ stop) => [clock(stop.at), stop.rider === undefined ? t("dispatcher.depot") : riderLabel(stop.rider), placeName(stop.place),
         stop.window ? between(...stop.window) : "", String(aboardAt(stop))];
-    const row = (/** @type {string} */ line, /** @type {Stop | null} */ stop) => part("tr", {}, (stop ? named(stop) : ["", "", "", "", ""]).map((cell) => part("td", {}, cell)),
-        part("td", { class: "own-line" }, line));
-    return part("tbody", {}, part("tr", { class: "van-row" }, part("th", { colspan: LINES - 1, scope: "rowgroup" }, vehicleName(manifest.vehicle)),
-        part("td", { class: "own-line" }, manifest.lines[0])), linesOf(manifest).map(([line, stop]) => row(line, stop)));
+    const row = (/** @type {string} */ line, /** @type {Stop | null} */ stop) => part("tr", {}, stop ? named(stop).map((cell) => part("td", {}, cell)) : part("td", { colspan: LINES }, line));
+    return part("tbody", {}, part("tr", { class: "van-row" }, part("th", { colspan: LINES, scope: "rowgroup" }, vehicleName(manifest.vehicle))),
+        linesOf(manifest).map(([line, stop]) => row(line, stop)));
 }
 
 /** The day sheet as a table, on as many pages as it needs.
- * @param {string} day @param {Manifest[]} manifests @param {string} text the desk's own, whose last line says how many trips stand
+ * @param {string} day @param {Manifest[]} manifests @param {string} text the desk's own, whose last line says how many trips stand @param {{ original?: boolean }} options
  */
-export function printDaySheet(day, manifests, text) {
-    const heads = ["time", "rider", "where", "promised", "aboard", "own-line"].map((name) => part("th", { scope: "col" }, t(`dispatcher.head-${name}`)));
+export function printDaySheet(day, manifests, text, { original = false } = {}) {
+    const heads = ["time", "rider", "where", "promised", "aboard"].map((name) => part("th", { scope: "col" }, t(`dispatcher.head-${name}`)));
     const last = /^TRIPS \d+$/m.exec(text)?.[0] ?? "";
     printParts(t("dispatcher.sheet-of", { day: dayInWords(day) }), [part("table", { class: "day-sheet" }, part("thead", {}, part("tr", {}, heads)),
-        manifests.map(sheetRows)), part("p", { class: "own-line" }, last)], { class: "sheets" });
+        manifests.map(sheetRows)), part("p", {}, last), original && ownPages([text])], { class: "sheets" });
 }
 
 // Whom to call.

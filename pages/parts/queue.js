@@ -20,7 +20,8 @@ import { t, useWords } from "./words.js";
  * @property {State} state
  * @property {Write | null} write
  * @property {string | null} denied the name of the desk's denial
- * @property {string | null} tally the path of what the site's log is yet to be told
+ * @property {string[] | string | null} tally the paths of what the site's log is yet to be told (an earlier version kept one)
+ * @property {number} [held] milliseconds from the tap on for which the write stays here, so that it can be undone
  * @property {number} since the moment of the tap, in milliseconds of the server's clock
  * @typedef {Omit<Entry, "order">} Fresh
  */
@@ -29,6 +30,8 @@ const NAME = "desk", VERSION = 1, ENTRIES = "entries", COPIES = "copies", CHANNE
 const PAUSES = [1000, 2000, 4000, 8000, 15_000], HIGHEST_STEP = 2 ** 30;
 /** A tally waits so long, so that a tap that is taken back is not counted. */
 const HELD = 60_000;
+/** What is held is looked at again so often. */
+const LOOKED = 5_000;
 /** Days after which what waits for nothing is dropped. */
 const KEPT = 3 * 86_400_000;
 
@@ -117,10 +120,18 @@ export async function keep(entry) {
     sendAll();
 }
 
+/** Drops an entry that is still held here; whether it is gone.
+ * @param {number} order */
+async function unheld(order) {
+    let gone = false;
+    await changed(order, (entry) => ((gone = heldFor(entry) > 0) ? null : entry));
+    return gone;
+}
+
 /** Drops an entry, unless it is being sent at this moment; whether it is gone.
  * @param {number} order @returns {Promise<boolean>} */
 export async function takeBack(order) {
-    const gone = await desk.inTurn(async (/** @type {Lock | null} */ turn) => {
+    const gone = await unheld(order) || await desk.inTurn(async (/** @type {Lock | null} */ turn) => {
         let left = false;
         if (turn) await changed(order, (entry) => (left = entry.state !== "kept" && entry.state !== "waiting") ? entry : null);
         return Boolean(turn) && !left;
@@ -142,11 +153,11 @@ export async function putAside(order) {
  * @type {Map<number, { write?: Write, state?: State, denied?: string | null }>} */
 const unwritten = new Map();
 
-/** @type {{ denied?: string } | null} */
+/** @type {{ denied?: string, digest: string | null } | null} */
 let stopped = null;
 
-/** Why nothing is sent any more: the key was taken away. */
-export const whyStopped = () => stopped;
+/** Why nothing is sent any more: the key that is signed in with was taken away. */
+export const whyStopped = () => (stopped && stopped.digest === desk.digest() ? stopped : null);
 
 /** @param {Entry} entry @param {{ write?: Write, state?: State, denied?: string | null }} patch @returns {Promise<Entry>} */
 async function marked(entry, patch) {
@@ -159,12 +170,19 @@ async function marked(entry, patch) {
     return { ...entry, ...patch };
 }
 
-/** What waits first, as far as this page knows.
- * @returns {Promise<(Entry & { write: Write }) | null>} */
-async function firstWaiting() {
+/** Milliseconds for which an entry is still held here.
+ * @param {Entry} entry */
+export const heldFor = ({ state, held = 0, since }) => (state === "waiting" ? Math.max(0, since + held - serverNow()) : 0);
+
+/** What waits, as far as this page knows.
+ * @returns {Promise<(Entry & { write: Write })[]>} */
+async function allWaiting() {
     const all = (await entries()).map((entry) => ({ ...entry, ...unwritten.get(entry.order) }));
-    return /** @type {any} */ (all.find(({ state, write }) => state === "waiting" && write)) ?? null;
+    return /** @type {any} */ (all.filter(({ state, write }) => state === "waiting" && write));
 }
+
+/** What waits first and is not held. */
+const firstWaiting = async () => (await allWaiting()).find((entry) => !heldFor(entry)) ?? null;
 
 /** One try of the write. 409 means that another window or device has used a higher number: this write then gets a higher one. What is queued
  * here the desk takes once by itself, so a write whose reply was lost may go out again with another number: a second one is desk.over.
@@ -190,7 +208,7 @@ async function sendFirst() {
         if (desk.digest() !== digest) return "end";
         if ("silent" in reply) return "later";
         if (reply.denied === "desk.key") {
-            stopped = reply;
+            stopped = { denied: reply.denied, digest };
             return "end";
         }
         const lost = reply.denied === "desk.over" && write.tries > 1;
@@ -227,6 +245,7 @@ export async function sendAll() {
             if (next === "later") await pause(tries);
             tries = next === "later" ? tries + 1 : 0;
         }
+        await lookAgain();
     } catch {
         // (a database that is gone has nothing to send)
     } finally {
@@ -234,27 +253,43 @@ export async function sendAll() {
     }
 }
 
+/** @type {ReturnType<typeof setTimeout> | undefined} */
+let looking;
+
+/** Sends what is held once its time is over. */
+async function lookAgain() {
+    const times = stopped ? [] : (await allWaiting()).map(heldFor).filter(Boolean);
+    clearTimeout(looking);
+    if (times.length) looking = setTimeout(sendAll, Math.min(LOOKED, ...times));
+}
+
 /** Counts what is old enough to be told to the site. */
 export async function sendTallies() {
     if (!desk.digest()) return;
     for (const entry of await entries()) {
         if (!entry.tally || entry.since > serverNow() - HELD) continue;
-        if (await countPath(entry.tally)) await changed(entry.order, (now) => ({ ...now, tally: null }));
+        let isKept = true;
+        for (const path of [entry.tally].flat()) isKept = await countPath(path) && isKept;
+        if (isKept) await changed(entry.order, (now) => ({ ...now, tally: null }));
     }
 }
+
+/** Drops each record of a store of which isOver says so.
+ * @param {string} name @param {(value: any) => boolean} isOver */
+const dropped = (name, isOver) => within(name, "readwrite", (store) => {
+    const request = store.openCursor();
+    request.onsuccess = () => {
+        const at = request.result;
+        if (!at) return;
+        if (isOver(at.value)) at.delete();
+        at.continue();
+    };
+});
 
 /** Drops what is some days old and waits for nothing. */
 export async function prune() {
     const oldest = serverNow() - KEPT;
-    await within(ENTRIES, "readwrite", (store) => {
-        const request = store.openCursor();
-        request.onsuccess = () => {
-            const at = request.result;
-            if (!at) return;
-            if (at.value.since < oldest && at.value.state !== "waiting") at.delete();
-            at.continue();
-        };
-    });
+    await dropped(ENTRIES, ({ since, state }) => since < oldest && state !== "waiting");
 }
 
 window.addEventListener("online", () => sendAll());
@@ -295,6 +330,34 @@ export async function forgetHere(digest) {
     } catch {
         // (there is no database, so there is no copy)
     }
+}
+
+/** Drops copies of every key.
+ * @param {(name: string) => boolean} isOver whether the copy of this name is needed no more */
+export const forgetCopies = (isOver) => dropped(COPIES, ({ name }) => isOver(name)).catch(() => {});
+
+/** A key that nobody has any more: its copies go, and of its log all but what waits.
+ * @param {string} digest @returns {Promise<Entry[]>} what waits */
+export async function forgetKey(digest) {
+    await forgetHere(digest);
+    try {
+        await dropped(ENTRIES, (entry) => entry.digest === digest && entry.state !== "waiting");
+        tell();
+        return await within(ENTRIES, "readonly", (store) => store.index("digest").getAll(digest));
+    } catch {
+        return [];
+    }
+}
+
+/** Drops what waited for a key, once somebody was told of it.
+ * @param {string} digest */
+export const dropWaiting = (digest) => dropped(ENTRIES, (entry) => entry.digest === digest).catch(() => {});
+
+/** Changes what an entry says of its tap.
+ * @param {number} order @param {Record<string, any>} patch @param {string[]} [told] paths that the site's log is told as well */
+export async function annotate(order, patch, told = []) {
+    await changed(order, (entry) => ({ ...entry, tap: { ...entry.tap, ...patch }, tally: told.length ? [entry.tally ?? [], told].flat(2) : entry.tally }));
+    tell();
 }
 
 /** Asks whoever signs out while something waits. */

@@ -9,6 +9,7 @@ import { HIGHEST_ID } from "./limits.js";
 import { readAll } from "./reads.js";
 import { findRiders, folded, isTelephone, riderOf, rosterSize } from "./roster.js";
 import { makeScreen } from "./screen.js";
+import { vehicleMeant, vehiclesFor as vehiclesIn } from "./vehicle-number.js";
 import { t } from "./words.js";
 
 /** @typedef {"rider" | "vehicle"} What */
@@ -28,43 +29,58 @@ function numberIn(typed) {
 }
 
 /** The number that is meant: digits that are a telephone number are searched as one.
- * @param {What} what @param {string} typed
+ * @param {string} typed
  */
-function plainNumber(what, typed) {
+function plainNumber(typed) {
     const number = numberIn(typed);
-    return number !== null && what === "rider" && !riderOf(number) && isTelephone(typed) ? null : number;
+    return number !== null && !riderOf(number) && isTelephone(typed) ? null : number;
 }
 
 /** @param {string} typed */
 const ridersFor = (typed) => findRiders(typed, 12).map(({ rider, name, telephone, note }) => ({ id: rider, text: `${name} (${rider})`,
     note: [telephone, note].filter(Boolean).join(" · ") }));
 
+const named = () => vehicles().map(({ id, name }) => ({ id, name: folded(name ?? "") }));
+
 /** @param {string} typed */
-const vehiclesFor = (typed) => vehicles().filter(({ id, name }) => folded(`${name ?? ""} ${id}`).includes(folded(typed.trim())))
-    .map(({ id }) => ({ id, text: `${vehicleName(id)} (${id})` }));
+const vehiclesFor = (typed) => vehiclesIn(folded(typed.trim()), named()).map(({ id }) => ({ id, text: vehicleText(id) }));
+
+/** A van as it stands in the field: its name and its number.
+ * @param {number} id */
+const vehicleText = (id) => (vehicles().some((it) => it.id === id && it.name) ? `${vehicleName(id)} (${id})` : String(id));
+
+/** The rider that is meant.
+ * @param {string} typed */
+function riderMeant(typed) {
+    const number = plainNumber(typed);
+    if (number !== null || !typed.trim()) return number;
+    const found = ridersFor(typed);
+    return found.length === 1 ? found[0].id : null;
+}
+
+/** @type {Record<What, { search: (typed: string) => import("./combo.js").Choice[], meant: (typed: string) => number | null, textOf: (id: number) => string, wants: (typed: string) => string }>} */
+const KINDS = {
+    rider: { search: ridersFor, meant: riderMeant, textOf: String,
+        wants: (typed) => t(typed.trim() && rosterSize() ? (isTelephone(typed) ? "fields.telephone-none" : "fields.rider-none") : "fields.id", { most: HIGHEST_ID }) },
+    vehicle: { search: vehiclesFor, meant: (typed) => vehicleMeant(folded(typed.trim()), named(), HIGHEST_ID), textOf: vehicleText,
+        wants: (typed) => t(typed.trim() && vehiclesFor(typed).length > 1 ? "fields.vehicle-which" : "fields.vehicle-none") },
+};
 
 /** A field for a number, which is found by a name too.
  * @param {What} what @param {string} label @param {() => void} chosen
  */
 function subjectField(what, label, chosen) {
-    const search = what === "rider" ? ridersFor : vehiclesFor;
-    const meant = (/** @type {string} */ typed) => {
-        const number = plainNumber(what, typed);
-        if (number !== null || !typed.trim()) return number;
-        const found = search(typed);
-        return found.length === 1 ? found[0].id : null;
-    };
-    const field = comboField(what, label, { search, meant, textOf: String, chosen, sends: true, marks: (typed) => plainNumber(what, typed) === null,
-        hint: what === "rider" && rosterSize() ? t("fields.rider-hint") : undefined,
-        wants: (typed) => t(typed.trim() && rosterSize() ? (isTelephone(typed) ? "fields.telephone-none" : "fields.rider-none") : "fields.id", { most: HIGHEST_ID }) });
-    field.control.setAttribute("data-search", "");
+    const field = comboField(what, label, { ...KINDS[what], chosen, sends: true, marks: (typed) => (what === "rider" ? plainNumber(typed) === null : !/^[\d\s]+$/.test(typed)),
+        hint: what === "rider" && rosterSize() ? t("fields.rider-hint") : undefined });
+    if (what === "rider") field.control.setAttribute("data-search", "");
     return field;
 }
 
 /** A field for the number, and below it what draw(number) gives of the number that was chosen. Where one person has one number, the field is
  * folded away once it is known. focus names the element that has the focus once a number was chosen.
- * @param {{ what: What, label: string, action: string, draw: (id: number) => any, folded?: boolean, focus?: string }} given */
-export function withSubject({ what, label, action, draw, folded: folds = false, focus = `${what}-below` }) {
+ * @param {{ what: What, label: string, action: string, draw: (id: number) => any, folded?: boolean, focus?: string, change?: string }} given
+ *     change: what the folded field says where what is below tells whose it is */
+export function withSubject({ what, label, action, draw, folded: folds = false, focus = `${what}-below`, change: other = "" }) {
     /** @type {any} */
     let tools = null;
     const field = subjectField(what, label, () => tools?.change({ typed: field.control.value.trim() }));
@@ -73,16 +89,16 @@ export function withSubject({ what, label, action, draw, folded: folds = false, 
         field.write(id);
         // (who asks again wants to know how it is now)
         if (tools.state().shown === id) readAll();
-        tools.change({ shown: id, typed: String(id), open: false }, { focus });
+        tools.change({ shown: id, typed: textOf(id), open: false }, { focus });
     } });
-    const first = subjectOf(what);
+    const first = subjectOf(what), { textOf, meant } = KINDS[what];
     if (first) field.write(first);
     const screen = makeScreen({
-        state: { shown: first, typed: String(first ?? ""), open: !first },
+        state: { shown: first, typed: first ? textOf(first) : "", open: !first },
         draw: ({ shown, typed, open }, { kept, change }) => {
             tools = { change, state: () => screen.state };
-            const same = shown !== null && String(shown) === typed;
-            const summary = part("summary", {}, shown === null ? t("fields.type-number") : `${label}: ${shown}`);
+            const same = shown !== null && meant(typed) === shown;
+            const summary = part("summary", {}, shown === null ? t("fields.type-number") : other || `${label}: ${textOf(shown)}`);
             return [folds ? part("details", { class: "folded", open: open || !same, on: { toggle: (event) => change({ open: event.target.open }) } }, summary, ask)
                 : part("div", { class: "card asked" }, ask),
             shown !== null && !same && part("p", { class: "note", role: "status" }, t("fields.other-number", { typed: typed || "…", action })),

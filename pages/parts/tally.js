@@ -155,6 +155,14 @@ export function whenRefused(act) {
     tell = act;
 }
 
+/** Drops what a key that nobody has any more wrote in its own words; what is left has numbers alone.
+ * @param {string} digest */
+export async function forgetTexts(digest) {
+    for (const event of await waiting()) {
+        if (event.digest === digest && Object.values(EVENTS[event.kind]).some(({ kind }) => kind === "text")) await drop(event.id);
+    }
+}
+
 /** Another key has other rights: what was not taken is tried with it. */
 export function beginAnew() {
     tried.clear();

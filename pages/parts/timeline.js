@@ -4,6 +4,7 @@
 import { placeName, vehicleName } from "./agency.js";
 import { between, clock } from "./clock.js";
 import { button, part, table } from "./element.js";
+import { LEAST_LATE } from "./lateness.js";
 import { riderLabel } from "./roster.js";
 import { aboardAt } from "./texts.js";
 import { t } from "./words.js";
@@ -15,11 +16,11 @@ import { t } from "./words.js";
 /** @typedef {Map<number, Doing>} Doings how each trip is doing */
 /** @typedef {(minute: number) => number} Across how far across the picture a minute is */
 /** @typedef {{ chosen: (vehicle: number) => void, selected: number | null, now: number | null, room: number, doings: Doings,
- *   labelled: (label: Label | null, spoken?: boolean) => void }} Options now is the minute of a line for the present; labelled follows the
+ *   labelled: (label: Label | null, spoken?: boolean) => void, lates?: Map<number, import("./lateness.js").Late> }} Options now is the minute of a line for the present; labelled follows the
  *   stop that is pointed at, spoken where the arrow keys came to it */
 /** @typedef {{ vehicle: number, at: number, x: number }} Label at is the stop's place in its row */
 
-const HEIGHT = 64, LANE = 40, HOUR = 60, HOUR_WIDE = 64, EDGE = 32, APART = 36, TOLD = ["ridden", "missed-rider", "missed-operator"];
+const HEIGHT = 36, LANE = 26, HOUR = 60, HOUR_WIDE = 64, EDGE = 32, SEAT = 3, MOST_HIGH = 12, TOLD = ["ridden", "missed-rider", "missed-operator"];
 
 /** The first and the last whole hour that the day needs.
  * @param {Manifest[]} manifests @returns {[number, number]}
@@ -52,64 +53,54 @@ function axis(hours, across, width, now) {
 
 /** @type {Record<string, (x: number) => string>} */
 const PATHS = {
-    PICK: (x) => `M${x} ${LANE - 8}l6 9h-12z`, DROP: (x) => `M${x} ${LANE + 8}l6 -9h-12z`, DEPOT: (x) => `M${x - 4} ${LANE - 4}h8v8h-8z`,
-    ridden: (x) => `M${x - 6} ${LANE}l4 5l8 -10`, "missed-rider": (x) => `M${x - 5} ${LANE - 5}l10 10m0 -10l-10 10`,
-    "missed-operator": (x) => `M${x - 5} ${LANE - 5}l10 10m0 -10l-10 10m-8 -5h13`,
+    PICK: (x) => `M${x} ${LANE - 6}l5 8h-10z`, DROP: (x) => `M${x} ${LANE + 6}l5 -8h-10z`, DEPOT: (x) => `M${x - 4} ${LANE - 4}h8v8h-8z`,
+    ridden: (x) => `M${x - 5} ${LANE}l3 4l7 -8`, "missed-rider": (x) => `M${x - 4} ${LANE - 4}l8 8m0 -8l-8 8`,
+    "missed-operator": (x) => `M${x - 4} ${LANE - 4}l8 8m0 -8l-8 8m-7 -4h12`,
 };
 /** @type {Record<string, string>} */
 const CLASSES = { PICK: "pickup", DROP: "drop", DEPOT: "depot" };
 
 /** A pickup points up, a drop points down, a depot is a square; a ridden trip is ticked at its drop, a missed one is crossed out at both ends.
- * said: how late it is stands beside it.
- * @param {Stop} stop @param {Across} across @param {Doings} doings @param {number} at @param {boolean} said
+ * @param {Stop} stop @param {Across} across @param {Doings} doings @param {number} at
  */
-function stopShape(stop, across, doings, at, said) {
-    const x = across(stop.at), doing = doings.get(Number(stop.trip)), state = doing?.state ?? "to-come";
+function stopShape(stop, across, doings, at) {
+    const x = across(stop.at), state = doings.get(Number(stop.trip))?.state ?? "to-come";
     const shape = state === "ridden" && stop.what === "PICK" ? "PICK" : TOLD.includes(state) ? state : stop.what;
     const told = TOLD.includes(state) ? ` told ${state}` : "";
-    return part("g", { class: "stop", "data-stop": at }, part("rect", { class: "touch", x: x - 9, y: LANE - 12, width: 18, height: 24 }),
+    return part("g", { class: "stop", "data-stop": at }, part("rect", { class: "touch", x: x - 9, y: LANE - 12, width: 18, height: 22 }),
         part("path", { class: `${CLASSES[stop.what]}${told}`, d: PATHS[shape](x) }),
-        state === "no-word" && stop.what === "DROP" && [part("circle", { class: "no-word", cx: x, cy: LANE + 3, r: 10 }),
-            said && part("text", { class: "no-word", x: x + 12, y: LANE - 4 }, Number.isFinite(doing?.minutes) ? `+${doing?.minutes}` : "?")]);
+        state === "no-word" && stop.what === "DROP" && part("circle", { class: "no-word", cx: x, cy: LANE + 1, r: 8 }));
 }
 
-/** The stops without word beside which there is room to say how late they are.
- * @param {Stop[]} stops @param {Across} across @param {Doings} doings
- */
-function saidAt(stops, across, doings) {
-    let last = -APART;
-    return new Set(stops.filter((stop) => {
-        const late = stop.what === "DROP" && doings.get(Number(stop.trip))?.state === "no-word" && across(stop.at) >= last + APART;
-        if (late) last = across(stop.at);
-        return late;
-    }));
-}
-
-/** The way from a stop to the next, as thick as the vehicle is full, with the number aboard where there is room for it.
+/** The way from a stop to the next, as high as the vehicle is full.
  * @param {Stop} stop @param {Stop} next @param {Across} across
  */
 function legShape(stop, next, across) {
-    const wide = across(next.at) - across(stop.at), aboard = aboardAt(stop);
-    return [part("line", { class: aboard ? "leg loaded" : "leg", x1: across(stop.at), x2: across(next.at), y1: LANE, y2: LANE,
-        "stroke-width": aboard ? Math.min(9, 2 + aboard) : 1.5 }),
-    aboard > 0 && wide > 26 && part("text", { class: "load", x: across(stop.at) + wide / 2, y: LANE + 20, "text-anchor": "middle" }, String(aboard))];
+    const from = across(stop.at), wide = across(next.at) - from, high = Math.min(MOST_HIGH, SEAT * aboardAt(stop));
+    return [part("line", { class: "leg", x1: from, x2: from + wide, y1: HEIGHT - 2, y2: HEIGHT - 2, "stroke-width": 1.5 }),
+        high > 0 && part("rect", { class: "load", x: from, y: HEIGHT - 2 - high, width: Math.max(1, wide), height: high })];
 }
 
 /** Promised windows overlap, so each second one is lower.
- * @param {Stop} stop @param {Across} across @param {boolean} low
+ * @param {Stop} stop @param {Across} across @param {boolean} low @param {boolean} [isRisk]
  */
-function windowShape({ window, at }, across, low) {
-    const y = low ? 16 : 5;
-    return window ? [part("rect", { class: "window", x: across(window[0]), y, width: Math.max(3, across(window[1]) - across(window[0])), height: 8, rx: 2 }),
-        part("line", { class: "planned", x1: across(at), x2: across(at), y1: y - 2, y2: y + 10 })] : [];
+function windowShape({ window, at }, across, low, isRisk = false) {
+    const y = low ? 10 : 3;
+    return window ? [part("rect", { class: isRisk ? "window risk" : "window", x: across(window[0]), y, width: Math.max(3, across(window[1]) - across(window[0])), height: 6, rx: 2 }),
+        part("line", { class: "planned", x1: across(at), x2: across(at), y1: y - 1, y2: y + 7 })] : [];
 }
 
 // Words.
 
+/** So many minutes, in hours from an hour on; without a bound it is nothing.
+ * @param {number} minutes
+ */
+export const longTime = (minutes) => (minutes < HOUR ? t("dispatcher.minutes", { minutes }) : t("dispatcher.hours", { hours: Math.floor(minutes / HOUR), minutes: minutes % HOUR }));
+
 /** How a trip is doing, in words.
  * @param {Doing | undefined} doing
  */
-export const doingWords = (doing) => (doing ? t(`dispatcher.state-${doing.state}`, { minutes: doing.minutes }) : "");
+export const doingWords = (doing) => (doing ? t(`dispatcher.state-${doing.state}`, { time: Number.isFinite(doing.minutes) && doing.minutes > 0 ? longTime(doing.minutes) : "" }) : "");
 
 /** @param {Stop} stop */
 export const aboardWords = ({ load, chairs }) => (chairs === undefined ? String(load) : t("dispatcher.aboard-both", { load, chairs }));
@@ -121,7 +112,7 @@ export function stopWords(stop, doings) {
     if (stop.what === "DEPOT") return t("dispatcher.label-depot", { time: clock(stop.at), place: placeName(stop.place) });
     return [t(`dispatcher.label-${stop.what}`, { time: clock(stop.at), place: placeName(stop.place), rider: riderLabel(Number(stop.rider)), trip: stop.trip }),
         stop.window && t("dispatcher.label-window", { window: between(...stop.window) }), t("dispatcher.label-aboard", { aboard: aboardWords(stop) }),
-        doingWords(doings.get(Number(stop.trip)))].filter(Boolean).join(". ");
+        doingWords(doings.get(Number(stop.trip)))].filter(Boolean).map((it) => String(it).replace(/^./, (letter) => letter.toUpperCase())).join(".\n");
 }
 
 /** What a dispatcher has to look at in a row: trips without word, and missed ones.
@@ -139,7 +130,7 @@ export function rowFacts({ stops }, doings) {
 function rowWords(manifest, doings) {
     const { trips, ended, silent, longest } = rowFacts(manifest, doings), { stops } = manifest;
     return [t("dispatcher.row", { vehicle: vehicleName(manifest.vehicle), trips, ended, from: clock(stops[0].at), to: clock(stops[stops.length - 1].at) }),
-        silent > 0 && t("dispatcher.row-silent", { count: silent, minutes: longest }), t("dispatcher.row-keys")].filter(Boolean).join(" ");
+        silent > 0 && t("dispatcher.row-silent", { count: silent, time: Number.isFinite(longest) ? longTime(longest) : "" }), t("dispatcher.row-keys")].filter(Boolean).join(" ");
 }
 
 // Rows.
@@ -167,34 +158,43 @@ function pointing({ vehicle, stops }, across, labelled) {
     } };
 }
 
-/** @param {Manifest} manifest @param {[number, number]} hours @param {Across} across @param {number} width @param {Options} options */
-function row(manifest, hours, across, width, { chosen, selected, now, doings, labelled }) {
-    const { vehicle, stops } = manifest, { silent, missed, trips, ended } = rowFacts(manifest, doings);
-    const lines = wholeHours(hours).map((hour) => part("line", { class: "hour", x1: across(hour * HOUR), x2: across(hour * HOUR), y1: 0, y2: HEIGHT }));
-    const windows = stops.filter(({ window }) => window).flatMap((stop, at) => windowShape(stop, across, at % 2 === 1));
-    const said = saidAt(stops, across, doings), choose = () => chosen(vehicle), isChosen = vehicle === selected;
-    return part("div", { class: isChosen ? "lane-row chosen" : "lane-row", key: `row-${vehicle}`, "data-row": vehicle },
-        button([isChosen && part("span", { "aria-hidden": "true" }, "▸ "), vehicleName(vehicle), part("small", {}, t("dispatcher.row-short", { trips, ended }),
-            silent > 0 && part("span", { class: "silent" }, ` ${t("dispatcher.silent-short", { count: silent })}`),
-            missed > 0 && ` ${t("dispatcher.missed-short", { count: missed })}`)], choose,
-        { "data-vehicle": vehicle, "aria-pressed": String(isChosen), id: `vehicle-${vehicle}` }),
-        part("div", { class: "lane", tabindex: 0, role: "img", "aria-label": rowWords(manifest, doings), on: { ...pointing(manifest, across, labelled), click: choose } },
-            part("svg", { width, height: HEIGHT, "aria-hidden": "true" }, lines, stops.slice(1).map((next, at) => legShape(stops[at], next, across)), windows,
-                stops.map((stop, at) => stopShape(stop, across, doings, at, said.has(stop))), nowLine(now, across, HEIGHT))));
+/** What a row's head says first: late, no update, or how many trips have ended.
+ * @param {Manifest} manifest @param {Options} options
+ */
+function headWords(manifest, { doings, lates }) {
+    const { silent, missed, trips, ended, longest } = rowFacts(manifest, doings), late = lates?.get(manifest.vehicle);
+    return [late && late.delay >= LEAST_LATE ? part("span", { class: "late" }, t("dispatcher.late-short", { minutes: late.delay }))
+        : late && late.silent > 0 ? part("span", { class: "silent" }, t("dispatcher.no-update-short", { time: longTime(late.silent) })) : t("dispatcher.row-short", { trips, ended }),
+    silent > 0 && part("span", { class: "silent" }, ` ${t("dispatcher.silent-short", { count: silent, time: Number.isFinite(longest) ? longTime(longest) : "" })}`),
+    missed > 0 && ` ${t("dispatcher.missed-short", { count: missed })}`];
 }
 
-const SAMPLE = { line: "", at: 9, place: 0, load: 0, people: 0, wheelchairs: 0 };
+/** @param {Manifest} manifest @param {[number, number]} hours @param {Across} across @param {number} width @param {Options} options */
+function row(manifest, hours, across, width, options) {
+    const { chosen, selected, now, doings, labelled, lates } = options, { vehicle, stops } = manifest, risks = new Set(lates?.get(vehicle)?.risks.map(({ trip }) => trip));
+    const lines = wholeHours(hours).map((hour) => part("line", { class: "hour", x1: across(hour * HOUR), x2: across(hour * HOUR), y1: 0, y2: HEIGHT }));
+    const windows = stops.filter(({ window }) => window).flatMap((stop, at) => windowShape(stop, across, at % 2 === 1, risks.has(Number(stop.trip))));
+    const choose = () => chosen(vehicle), isChosen = vehicle === selected;
+    return part("div", { class: isChosen ? "lane-row chosen" : "lane-row", key: `row-${vehicle}`, "data-row": vehicle },
+        button([part("span", { class: "van-name" }, isChosen && part("span", { "aria-hidden": "true" }, "▸ "), vehicleName(vehicle)), part("small", {}, headWords(manifest, options))], choose,
+            { "data-vehicle": vehicle, "aria-pressed": String(isChosen), id: `vehicle-${vehicle}` }),
+        part("div", { class: "lane", tabindex: 0, role: "img", "aria-label": rowWords(manifest, doings), on: { ...pointing(manifest, across, labelled), click: choose } },
+            part("svg", { width, height: HEIGHT, "aria-hidden": "true" }, lines, stops.slice(1).map((next, at) => legShape(stops[at], next, across)), windows,
+                stops.map((stop, at) => stopShape(stop, across, doings, at)), nowLine(now, across, HEIGHT))));
+}
+
+const SAMPLE = { line: "", at: 12, place: 0, load: 0, people: 0, wheelchairs: 0 };
 
 /** @param {"PICK" | "DROP" | "DEPOT"} what @param {import("./texts.js").State} [state] */
-const sample = (what, state = "to-come") => part("svg", { width: 18, height: 20, viewBox: `0 ${LANE - 10} 18 20`, "aria-hidden": "true" },
-    stopShape({ ...SAMPLE, what, trip: 1 }, (at) => at, new Map([[1, { state, minutes: 0 }]]), 0, false));
+const sample = (what, state = "to-come") => part("svg", { width: 24, height: 20, viewBox: `0 ${LANE - 10} 24 20`, "aria-hidden": "true" },
+    stopShape({ ...SAMPLE, what, trip: 1 }, (at) => at, new Map([[1, { state, minutes: 0 }]]), 0));
 
-export const legend = () => part("ul", { class: "legend" },
+export const legend = () => part("details", { class: "signs" }, part("summary", {}, t("dispatcher.legend")), part("ul", { class: "legend" },
     /** @type {[string, Part][]} */ ([["pickup", sample("PICK")], ["drop", sample("DROP")], ["depot", sample("DEPOT")],
         ["window", part("svg", { width: 30, height: 18, viewBox: "0 0 30 18", "aria-hidden": "true" }, windowShape({ ...SAMPLE, what: "PICK", window: [3, 27], at: 12 }, (at) => at, false))],
         ["ridden", sample("DROP", "ridden")], ["missed-rider", sample("DROP", "missed-rider")], ["missed-operator", sample("DROP", "missed-operator")],
         ["no-word", sample("DROP", "no-word")]]).map(([name, shape]) => part("li", {}, shape, t(`dispatcher.legend-${name}`))),
-    part("li", {}, t("dispatcher.legend-load")));
+    part("li", {}, t("dispatcher.legend-load"))));
 
 /** The rows of the manifests that have stops, below the hours. The frame is the caller's.
  * @param {Manifest[]} manifests @param {Options} options

@@ -1,21 +1,27 @@
-// Keys of callers. A caller that is there is replaced only after a question, and whoever is signed in keeps the role of an admin.
+// Keys of callers. A caller that is there is replaced only after a question, and whoever is signed in keeps the role of an admin. A key is canceled
+// by putting the digest of a random one that nobody is told.
 
 import { agency, vehicleName } from "../parts/agency.js";
-import { dayInWords, today } from "../parts/clock.js";
+import { asked } from "../parts/ask.js";
+import { dayShort, dayInWords, today } from "../parts/clock.js";
+import { denialOf } from "../parts/denials.js";
 import * as desk from "../parts/desk.js";
-import { button, part, table } from "../parts/element.js";
+import { button, element, part, table } from "../parts/element.js";
 import { choiceField, form, idField, numberField, textField } from "../parts/fields.js";
 import { grouped } from "../parts/key.js";
 import { HIGHEST_ID } from "../parts/limits.js";
 import { printParts } from "../parts/paper.js";
 import { squareOf } from "../parts/qr.js";
+import { cellsOf } from "../parts/roster.js";
 import { makeScreen } from "../parts/screen.js";
 import { t } from "../parts/words.js";
+import { callersIn, digitsOf, joined, nextNumber, ROLES, rowsOf } from "./admin-callers.js";
 import { keepNote, notes } from "./admin-notes.js";
+import { saveCsv } from "./dispatcher-files.js";
 
-/** @typedef {{ id: number, role: string, subject: number, day: string, name?: string }} Caller */
+/** @typedef {import("./admin-callers.js").Caller} Caller */
 
-const FIRST_ADMIN = 1, MOST_NAME = 100, WITH_SUBJECT = ["rider", "driver"], ROLES = ["rider", "clerk", "examiner", "officer", "dispatcher", "driver", "admin"];
+const FIRST_ADMIN = 1, WITH_SUBJECT = ["rider", "driver"], FILE = "callers.csv", LONGEST_NAME = 100;
 
 const roleName = (/** @type {string} */ role) => t(`signing.${role}`);
 
@@ -28,8 +34,32 @@ function whose({ role, subject }) {
 /** @returns {Caller[]} */
 const given = () => notes().callers ?? [];
 
+/** @param {Caller[]} callers */
+const keepCallers = (callers) => keepNote("callers", callers);
+
 /** @param {Caller} caller */
-const keepCaller = (caller) => keepNote("callers", [...given().filter(({ id }) => id !== caller.id), caller].sort((a, b) => a.id - b.id));
+const keepCaller = (caller) => keepCallers([...given().filter(({ id }) => id !== caller.id), caller].sort((a, b) => a.id - b.id));
+
+/** "Ana Lopez, Clerk", or the role alone.
+ * @param {Caller} caller */
+const nameAndRole = (caller) => [caller.name, whose(caller)].filter(Boolean).join(", ");
+
+/** A name as it may be typed; empty is none.
+ * @param {string} text */
+const nameOf = (text) => (text.length <= LONGEST_NAME ? text : null);
+
+/** Cancels a key. Where it turns out to be the own one, the new one is shown: without an admin's key nobody could make any.
+ * @param {Caller} caller @returns {Promise<{ reply?: import("../types").Denied | import("../types").Left, ownKey?: string } | null>} null where it was not wanted */
+async function cancelKey(caller) {
+    const { id, role, subject, name } = caller;
+    if (!await asked({ question: t("admin.ask-cancel", { id, who: nameAndRole(caller) }), detail: t("admin.ask-cancel-detail"), yes: t("admin.yes-cancel", { id }),
+        danger: true })) return null;
+    const key = desk.newKey(), digest = await desk.digestOf(key), reply = await desk.putCaller({ id, role, subject, digest, ...(name ? { name } : {}) }, key);
+    if (reply.denied !== undefined) return { reply };
+    const isOwn = desk.digest() === digest;
+    keepCaller({ ...caller, ...(isOwn ? { day: today(), digits: digitsOf(digest) } : { until: today(), digits: "" }) });
+    return isOwn ? { ownKey: key } : {};
+}
 
 /** What is asked before a key is made. The desk tells nobody which numbers are taken.
  * @param {any} values
@@ -37,8 +67,8 @@ const keepCaller = (caller) => keepNote("callers", [...given().filter(({ id }) =
 function question({ id, role, subject }) {
     const before = given().find((it) => it.id === id), who = whose({ role, subject });
     if (id === FIRST_ADMIN) return { question: t("admin.ask-first"), detail: t("admin.ask-first-detail"), yes: t("admin.yes-first"), danger: true };
-    if (!before) return { question: t("admin.ask-new", { id, who }), detail: t("admin.ask-new-detail", { id }), yes: t("admin.yes-new", { id, who }) };
-    return { question: t("admin.ask-taken", { id, who: whose(before), day: dayInWords(before.day) }), detail: t("admin.ask-taken-detail", { who }),
+    if (!before || before.until) return { question: t("admin.ask-new", { id, who }), detail: t("admin.ask-new-detail", { id }), yes: t("admin.yes-new", { id, who }) };
+    return { question: t("admin.ask-taken", { id, who: nameAndRole(before), day: dayInWords(before.day) }), detail: t("admin.ask-taken-detail", { who }),
         yes: t("admin.yes-taken", { id }), danger: true };
 }
 
@@ -53,7 +83,7 @@ function faultOf({ id, role, subject }) {
 /** The card that is given to the one whose key it is.
  * @param {string} key @param {any} caller
  */
-const cardOf = (key, caller) => [part("p", {}, agency().name), part("p", {}, whose(caller)), part("p", { class: "key" }, grouped(key)), squareOf(key, t("admin.square")),
+const cardOf = (key, caller) => [part("p", {}, agency().name), part("p", {}, nameAndRole(caller)), part("p", { class: "key" }, grouped(key)), squareOf(key, t("admin.square")),
     part("p", {}, t("admin.card-how")), part("p", {}, t("admin.card-scan")), part("p", {}, location.origin), part("p", {}, t("admin.card-lost", { telephone: agency().telephone }))];
 
 /** @param {string} key @param {any} caller @param {boolean} copied @param {() => void} copiedNow @param {() => void} hide */
@@ -69,32 +99,78 @@ function keyShown(key, caller, copied, copiedNow, hide) {
             button(t("admin.copy"), copy), button(t("admin.hide"), hide), part("span", { role: "status" }, copied && t("admin.copied"))));
 }
 
+/** @param {Caller} caller */
+const stateOf = ({ day, until }) => (until ? t("admin.canceled-on", { day: dayShort(until) }) : day ? dayInWords(day) : "");
+
+/** A field for the name in a row, kept as it is left.
+ * @param {Caller} caller */
+const nameField = (caller) => part("input", { type: "text", value: caller.name ?? "", maxlength: LONGEST_NAME, "aria-label": t("admin.name-of", { id: caller.id }), autocomplete: "off",
+    on: { change: (event) => keepCaller({ .../** @type {Caller} */ (given().find(({ id }) => id === caller.id) ?? caller), name: event.target.value.trim() }) } });
+
+/** The list of keys that were given, with what can be done with each.
+ * @param {(caller: Caller) => void} cancel */
+const listOf = (cancel) => (given().length ? table(t("admin.given"), [{ head: t("admin.caller"), cell: ({ id }) => String(id) },
+    { head: t("admin.name"), cell: nameField }, { head: t("admin.whose"), cell: whose }, { head: t("admin.since"), cell: stateOf },
+    { head: t("admin.key-head"), cell: (caller) => caller.id !== FIRST_ADMIN && !caller.until && button(t("admin.cancel-key"), () => cancel(caller),
+        { class: "small", "aria-label": t("admin.cancel-key-of", { id: caller.id, who: nameAndRole(caller) }) }) }],
+given(), { rowKey: ({ id }) => id }) : part("p", {}, t("admin.none-given")));
+
 export function callers() {
     /** @type {any} */
+    let number = null;
+    /** @type {any} */
+    let person = null;
+    const offerNext = () => number.write(nextNumber(given()) ?? "");
+    /** @type {any} */
     const screen = makeScreen({
-        state: { key: "", caller: /** @type {any} */ (null), copied: false, at: 0 },
-        draw: ({ key, caller, copied }, { kept, change }) => [
+        state: { key: "", caller: /** @type {any} */ (null), copied: false, at: 0, said: /** @type {import("../types").Given} */ (null) },
+        draw: ({ key, caller, copied, said }, { kept, change }) => [
             part("section", { class: "card" }, part("h2", {}, t("admin.keys-of-callers")), part("p", { class: "hint" }, t("admin.keys-hint")), kept("form", makeForm),
                 part("div", { role: "status" }, key && keyShown(key, caller, copied, () => change({ copied: true }), () => change({ key: "", caller: null })))),
-            part("section", { class: "card" }, part("h2", {}, t("admin.given")), part("p", { class: "hint" }, t("admin.given-hint")),
-                given().length ? table(t("admin.given"), [{ head: t("admin.caller"), cell: ({ id }) => String(id) }, { head: t("admin.name"), cell: ({ name }) => name ?? "" }, { head: t("admin.whose"), cell: whose },
-                    { head: t("admin.since"), cell: ({ day }) => dayInWords(day) }], given(), { rowKey: ({ id }) => id }) : part("p", {}, t("admin.none-given")))],
+            part("section", { class: "card" }, part("h2", {}, t("admin.given")), part("p", { class: "hint" }, t("admin.given-hint")), listOf(cancel),
+                part("div", { class: "row" }, given().length > 0 && button(t("admin.save-callers"), () => saveCsv(FILE, rowsOf(given()))), kept("file", chooser)),
+                part("div", { role: "status", id: "callers-said" }, said))],
     });
+    /** @param {Caller} caller */
+    async function cancel(caller) {
+        const told = await cancelKey(caller);
+        if (!told) return;
+        const said = told.reply ? denialOf(told.reply, "caller") : part("p", { class: "good" }, t(told.ownKey ? "admin.was-own" : "admin.canceled", { id: caller.id }));
+        screen.change({ said, at: screen.state.at + 1, ...(told.ownKey ? { key: told.ownKey, caller, copied: false } : {}) },
+            { focus: told.ownKey ? "new-key" : "callers-said" });
+    }
+    function chooser() { return element(part("div", { class: "field" }, part("label", { for: "callers-file" }, t("admin.load-callers")),
+        part("input", { type: "file", id: "callers-file", accept: ".csv,text/csv", on: { change: async (event) => {
+            const [file] = event.target.files;
+            if (!file) return;
+            const { callers: found, wrong, isList } = callersIn(cellsOf((await file.text()).replace(/^\ufeff/, "")));
+            event.target.value = "";
+            if (isList) keepCallers(joined(given(), found));
+            offerNext();
+            screen.change({ at: screen.state.at + 1, said: part("p", { class: isList && !wrong.length ? "good" : "denial" }, t(isList ? "admin.callers-loaded" : "admin.no-callers",
+                { count: found.length, rows: wrong.join(", ") })) }, { focus: "callers-said" });
+        } } }))); }
     function makeForm() {
         const roles = /** @type {[string, string][]} */ (ROLES.map((role) => [role, roleName(role)]));
-        return form({ name: t("admin.a-caller"), action: t("admin.make-key"), purpose: "caller", check: faultOf, ask: question, begun: () => screen.change({ key: "", copied: false }),
-            fields: [idField("id", t("admin.caller-number"), { hint: t("admin.caller-hint") }),
-                textField("name", t("admin.name"), { optional: true, judge: (text) => (text.length <= MOST_NAME ? text : null), hint: t("admin.caller-name-hint"), wants: t("admin.caller-name-wants") }), choiceField("role", t("admin.role"), roles, { empty: t("admin.choose") }),
+        number = idField("id", t("admin.caller-number"), { hint: t("admin.caller-hint") });
+        person = textField("name", t("admin.name"), { optional: true, hint: t("admin.caller-name-hint"), judge: nameOf, wants: t("admin.caller-name-wants") });
+        offerNext();
+        return form({ name: t("admin.a-caller"), action: t("admin.make-key"), purpose: "caller", check: faultOf, ask: question,
+            begun: () => screen.change({ key: "", copied: false, said: null }),
+            fields: [number, person, choiceField("role", t("admin.role"), roles, { empty: t("admin.choose") }),
                 numberField("subject", t("admin.subject"), 1, HIGHEST_ID, { optional: true, hint: t("admin.subject-hint"), wants: t("admin.subject-wants") })],
             // The desk passes over the name; the site's record keeps it beside the number.
             send: async ({ id, name, role, subject }) => {
-                const key = desk.newKey(), caller = { id, role, subject: subject ?? 0, digest: await desk.digestOf(key), ...(name ? { name } : {}) };
+                const key = desk.newKey(), digest = await desk.digestOf(key), caller = { id, role, subject: subject ?? 0, digest, ...(name ? { name } : {}) };
                 const reply = await desk.putCaller(caller, key);
-                return reply.denied === undefined ? { value: key } : reply;
+                return reply.denied === undefined ? { value: { key, digits: digitsOf(digest) } } : reply;
             },
-            done: (key, { id, name, role, subject }) => {
-                keepCaller({ id, role, subject: subject ?? 0, day: today(), ...(name ? { name } : {}) });
-                screen.change({ key, caller: { id, role, subject } }, { focus: "new-key" });
+            done: ({ key, digits }, { id, name, role, subject }) => {
+                const before = given().find((it) => it.id === id), caller = { id, name: name ?? before?.name ?? "", role, subject: subject ?? 0, day: today(), until: "", digits };
+                keepCaller(caller);
+                offerNext();
+                person.write("");
+                screen.change({ key, caller, at: screen.state.at + 1 }, { focus: "new-key" });
             } });
     }
     return screen.element;

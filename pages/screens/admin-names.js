@@ -52,7 +52,8 @@ function settingsFields() {
         choiceField("first_weekday", t("admin.of-first_weekday"), [[7, t("admin.sunday")], [1, t("admin.monday")], [6, t("admin.saturday")]]), text("place_word", { hint: t("admin.place_word-hint") }),
         choiceField("clock", t("admin.of-clock"), [[12, t("admin.clock-12")], [24, t("admin.clock-24")]]), choiceField("languages", t("admin.of-languages"), languages),
         numberField("wait_minutes", t("admin.of-wait_minutes"), 0, 60),
-        numberField("lead", t("admin.of-lead"), 0, 60, { hint: t("admin.lead-hint") }), numberField("idle_minutes", t("admin.of-idle_minutes"), 0, 1439)];
+        numberField("lead", t("admin.of-lead"), 0, 60, { hint: t("admin.lead-hint") }), numberField("idle_minutes", t("admin.of-idle_minutes"), 0, 1439),
+        numberField("lock_minutes", t("admin.of-lock_minutes"), 5, 720)];
     const ofAppeal = [text("to"), text("appeal_address", { long: true, rows: 3 }), text("appeal_telephone")];
     fields.forEach((it) => it.write(settings[it.name]));
     [appeal.to, appeal.address, appeal.telephone].forEach((value, at) => ofAppeal[at].write(value));

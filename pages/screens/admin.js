@@ -12,6 +12,7 @@ import { counted, t } from "../parts/words.js";
 import { callers } from "./admin-keys.js";
 import { names } from "./admin-names.js";
 import { keepNote, notes } from "./admin-notes.js";
+import { record } from "./record.js";
 
 /** @typedef {import("../types").Field} Field */
 /** @typedef {[number, number]} Point */
@@ -170,4 +171,4 @@ function routes() {
 }
 
 export const admin = () => [{ id: "callers", name: t("admin.keys"), draw: callers }, { id: "policy", name: t("admin.policy"), draw: policy },
-    { id: "places", name: t("admin.places"), draw: places }, { id: "routes", name: t("admin.lines"), draw: routes }, { id: "names", name: t("admin.names"), draw: names }];
+    { id: "places", name: t("admin.places"), draw: places }, { id: "routes", name: t("admin.lines"), draw: routes }, { id: "names", name: t("admin.names"), draw: names }, record("admin")];

@@ -88,78 +88,82 @@ async function firstTaken({ rider, trip }, leg, requests) {
     return told;
 }
 
+/** Tells the site that what a rider said was denied, once: what is asked for again is the same denial.
+ * @param {Set<string>} counted what was told of this form @param {Leg} leg @param {string | null} rule
+ */
+function countDenial(counted, { wish, said: { mode, minute } }, rule) {
+    const what = [wish.day, wish.from, wish.to, mode, minute].join(" ");
+    if (rule === null || counted.has(what)) return;
+    counted.add(what);
+    count("denials", { day: wish.day, minute, rule, mode });
+}
+
+/** What the record has of a leg once its plan has ended; what was booked or offered is kept beside it.
+ * @param {Leg} leg @param {Step} step @param {Trip | null} old @returns {Partial<Leg>}
+ */
+function afterPlan(leg, step, old) {
+    if (step.is === "ask") return {};
+    if (step.is === "denied") return { denied: /** @type {Denied} */ (step.reason.reply) };
+    const { request, reply } = step.answer, ticket = /** @type {Ticket} */ (reply.value), wish = { ...leg.wish, wish: request.wish, by: request.by };
+    if (step.is === "kept") {
+        tellBooked(leg, ticket);
+        return { ticket, denied: null, wish };
+    }
+    keepOffer(ticket.trip, { said: leg.said, old, counted: countedRule(leg.said, step) !== null });
+    return { offer: ticket, denied: null, wish };
+}
+
 /** Asks for legs one after another and keeps what came of each in the record. A denial that somebody saw is counted once for what the rider said.
  * @param {Given} given
  */
 export function askerOf(given) {
-    const { change, state, trip, booked } = given;
-    /** @type {Set<string>} */
-    const counted = new Set();
+    const { change, state, trip, booked } = given, counted = new Set();
     const set = (/** @type {string} */ key, /** @type {Partial<Leg>} */ patch) =>
         change((/** @type {State} */ { legs }) => ({ legs: legs.map((leg) => (leg.key === key ? { ...leg, ...patch } : leg)) }));
     const find = (/** @type {string | null} */ key) => state().legs.find((leg) => leg.key === key);
-
-    const countDenial = (/** @type {Leg} */ { wish, said: { mode, minute } }, /** @type {string | null} */ rule) => {
-        const what = [wish.day, wish.from, wish.to, mode, minute].join(" ");
-        if (rule === null || counted.has(what)) return;
-        counted.add(what);
-        count("denials", { day: wish.day, minute, rule, mode });
-    };
-    const one = async (/** @type {Leg} */ leg) => {
-        const step = await carriedOut(given, leg), rule = countedRule(leg.said, step);
-        countDenial(leg, rule);
-        if (step.is === "kept") {
-            const ticket = /** @type {Ticket} */ (step.answer.reply.value);
-            tellBooked(leg, ticket);
-            set(leg.key, { ticket, denied: null, wish: { ...leg.wish, wish: step.answer.request.wish, by: step.answer.request.by } });
-        } else if (step.is === "offered") {
-            const offer = /** @type {Ticket} */ (step.answer.reply.value);
-            keepOffer(offer.trip, { said: leg.said, old: trip, counted: rule !== null });
-            set(leg.key, { offer, denied: null, wish: { ...leg.wish, wish: step.answer.request.wish, by: step.answer.request.by } });
-        } else if (step.is === "denied") {
-            const denied = /** @type {Denied} */ (step.reason.reply);
-            set(leg.key, { denied });
-            return denied.denied;
-        }
-        return "";
-    };
+    const isNext = (/** @type {Leg | undefined} */ leg) => leg && !leg.ticket && !leg.denied && !leg.offer && !leg.refused && (!leg.waitsFor || find(leg.waitsFor)?.ticket);
     const rest = async () => {
         for (const { key } of state().legs) {
             const leg = find(key);
-            if (!leg || leg.ticket || leg.denied || leg.offer || leg.refused || (leg.waitsFor && !find(leg.waitsFor)?.ticket)) continue;
-            if (ENDS.includes(await one(leg))) break;
+            if (!leg || !isNext(leg)) continue;
+            const step = await carriedOut(given, leg), patch = afterPlan(leg, step, trip);
+            countDenial(counted, leg, countedRule(leg.said, step));
+            set(key, patch);
+            if (patch.denied && ENDS.includes(patch.denied.denied)) break;
         }
         change({ busy: false });
         if (state().legs.some(({ ticket }) => ticket)) booked();
     };
-    const tryOthers = async (/** @type {Leg} */ leg, /** @type {Side} */ side) => {
+    /** Does something for a leg, goes on with what waited for it, and puts the focus on it. */
+    const carryOn = async (/** @type {Leg} */ leg, /** @type {() => Promise<Partial<Leg>>} */ act) => {
         if (state().busy) return;
         change({ busy: true });
+        set(leg.key, await act());
+        await rest();
+        change({}, { focus: `leg-${leg.key}` });
+    };
+    const tryOthers = (/** @type {Leg} */ leg, /** @type {Side} */ side) => carryOn(leg, async () => {
         const told = await firstTaken(given, leg, otherRequests(leg.said, side));
-        if (told && "ticket" in told) {
-            tellBooked(leg, told.ticket);
-            set(leg.key, { ticket: told.ticket, denied: null, other: true });
-        } else set(leg.key, { ...(told && { denied: told.denied }), other: true });
-        await rest();
-        change({}, { focus: `leg-${leg.key}` });
-    };
-    /** The rider's answer to an offer. */
-    const answer = async (/** @type {Leg} */ leg, /** @type {boolean} */ yes) => {
-        const { offer } = leg;
-        if (!offer || state().busy) return;
-        change({ busy: true });
-        if (yes) {
-            tellBooked(leg, offer);
-            set(leg.key, { ticket: offer, offer: null });
-        } else {
-            const denied = await givenUp(offer.trip, trip);
-            set(leg.key, denied ? { denied } : { offer: null, refused: offer });
-        }
-        await rest();
-        if (!yes) booked();
-        change({}, { focus: `leg-${leg.key}` });
-    };
+        if (!told || "denied" in told) return { ...told, other: true };
+        tellBooked(leg, told.ticket);
+        return { ticket: told.ticket, denied: null, other: true };
+    });
+    const answer = (/** @type {Leg} */ leg, /** @type {boolean} */ yes) => carryOn(leg, () => afterAnswer(leg, yes, trip).finally(() => { if (!yes) booked(); }));
     return { rest, tryOthers, answer };
+}
+
+/** What the record has of a leg once the rider has answered its offer.
+ * @param {Leg} leg @param {boolean} yes @param {Trip | null} old @returns {Promise<Partial<Leg>>}
+ */
+async function afterAnswer(leg, yes, old) {
+    const { offer } = leg;
+    if (!offer) return {};
+    if (yes) {
+        tellBooked(leg, offer);
+        return { ticket: offer, offer: null };
+    }
+    const denied = await givenUp(offer.trip, old);
+    return denied ? { denied } : { offer: null, refused: offer };
 }
 
 /** Gives an offer up, as the agency's and not as the rider's cancellation; of a change the trip is put back to what it was. What the desk denied of it,

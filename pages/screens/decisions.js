@@ -4,6 +4,7 @@ import { withSubject } from "../parts/subject.js";
 import { t } from "../parts/words.js";
 import { entryForms, lettersFor, ofResident, standingOf } from "./cases.js";
 import { suspensionFor } from "./notice.js";
+import { record } from "./record.js";
 import { waitingOf, worklist } from "./worklist.js";
 
 /** A rider's case, with what may be decided.
@@ -26,4 +27,5 @@ export const examiner = () => [
 export const officer = () => [
     { id: "appeals", name: t("cases.appeals"), draw: caseWith(["heard", "appeal-granted", "appeal-denied", "overturn"]) },
     { id: "suspensions", name: t("cases.suspensions"), draw: caseWith(["notice-heard", "suspend"]) },
-    { id: "waits", name: t("cases.waits"), draw: () => worklist("officer") }];
+    { id: "waits", name: t("cases.waits"), draw: () => worklist("officer") },
+    record("officer")];

@@ -5,6 +5,9 @@ import { button, element, part } from "../parts/element.js";
 import { dayField } from "../parts/fields.js";
 import { t } from "../parts/words.js";
 
+/** The trip at whose stop the day is opened, from another part of the screen. */
+export const STOP = "desk.subject.stop";
+
 /** @type {string | null} */
 let shown = null;
 

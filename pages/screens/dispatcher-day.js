@@ -1,38 +1,95 @@
 // The day as a picture: who is where, what was promised, how it goes, and the manifest of one vehicle beside it.
 
 import { placeName, vehicleName } from "../parts/agency.js";
-import { between, clock, dayInWords, today } from "../parts/clock.js";
+import { between, clock, dayInWords, minuteNow, today } from "../parts/clock.js";
 import * as desk from "../parts/desk.js";
 import { denialOf } from "../parts/denials.js";
 import { button, part, say } from "../parts/element.js";
 import { printDaySheet, printManifests } from "../parts/paper-day.js";
-import { riderLabel } from "../parts/roster.js";
+import { folded, riderLabel, riderName, riderOf } from "../parts/roster.js";
 import { makeScreen } from "../parts/screen.js";
 import { doingOf, manifestsIn, rowsIn, tripsThatStand } from "../parts/texts.js";
 import { doingWords, hoursOf, legend, scaleOf, stopWords, tableOfDay, timeline } from "../parts/timeline.js";
+import { fits, searchText } from "../parts/trip-search.js";
 import { t } from "../parts/words.js";
-import { dayBar, nowOn, theDay } from "./dispatcher-bar.js";
+import { attention, attentionBar, readTold, readUnplaced, vansIn } from "./dispatcher-attention.js";
+import { dayBar, nowOn, STOP, theDay } from "./dispatcher-bar.js";
 
 /** @typedef {import("../parts/texts.js").Manifest} Manifest */
 /** @typedef {import("../parts/texts.js").Row} Row */
 /** @typedef {import("../parts/timeline.js").Label} Label */
 /** @typedef {import("../parts/timeline.js").Doings} Doings */
-/** @typedef {{ day: string, text: string | null, csv: string, denied: any, chosen: number | null, now: number, ended: boolean, asTable: boolean, wide: number }} State */
-/** @typedef {{ manifests: Manifest[], busy: Manifest[], idle: Manifest[], one: Manifest | undefined, doings: Doings, dues: Map<number, number> }} Known */
+/** @typedef {import("../parts/lateness.js").Told} Told */
+/** @typedef {{ day: string, text: string | null, csv: string, denied: any, chosen: number | null, now: number, ended: boolean, asTable: boolean, wide: number, told: Told | null,
+ *   unplaced: number, onlyNeeds: boolean, printing: boolean, original: boolean, typed: string, marked: number | null }} State marked is the trip whose stop is shown in the manifest */
+/** @typedef {{ manifests: Manifest[], busy: Manifest[], shown: Manifest[], idle: Manifest[], one: Manifest | undefined, doings: Doings, dues: Map<number, number>,
+ *   lates: Map<number, import("../parts/lateness.js").Late>, needs: import("./dispatcher-attention.js").Attention }} Known shown are the rows, in their order */
 
-const RENEWED = 15_000, NAMES_WIDE = 176, NAMES_NARROW = 104, NARROW = 640, BESIDE = 1_200, ONE_WIDE = 452, PADDING = 62, LEAST_ROOM = 320, TIP_WIDE = 260, TIP_BELOW = 62;
+const RENEWED = 15_000, NAMES_WIDE = 176, NAMES_NARROW = 104, NARROW = 640, BESIDE = 1_200, ONE_WIDE = 452, PADDING = 62, LEAST_ROOM = 320, TIP_WIDE = 260, TIP_BELOW = 34,
+    MOST_FOUND = 10;
 
 /** How wide the picture is between the names and the manifest.
  * @param {State} state @param {boolean} hasOne
  */
 const roomOf = ({ wide }, hasOne) => Math.max(LEAST_ROOM, wide - PADDING - (wide < NARROW ? NAMES_NARROW : NAMES_WIDE) - (hasOne && wide >= BESIDE ? ONE_WIDE : 0));
 
-/** @param {State} state @returns {Known} */
-function knownOf({ text, csv, chosen, now }) {
-    const manifests = manifestsIn(text ?? ""), rows = csv ? rowsIn(csv) : [], busy = manifests.filter(({ stops }) => stops.length > 0);
-    return { manifests, busy, idle: manifests.filter(({ stops }) => stops.length === 0), one: manifests.find(({ vehicle }) => vehicle === chosen),
-        doings: doingOf(manifests, rows, now), dues: new Map(rows.map(({ trip, due }) => [trip, due])) };
+/** What was read last, by its texts: each is read once.
+ * @type {{ text: string, csv: string, manifests: Manifest[], rows: Row[] }}
+ */
+let parsed = { text: "", csv: "", manifests: [], rows: [] };
+
+/** @param {string} text @param {string} csv */
+function parsedOf(text, csv) {
+    if (parsed.text !== text || parsed.csv !== csv) parsed = { text, csv, manifests: manifestsIn(text), rows: csv ? rowsIn(csv) : [] };
+    return parsed;
 }
+
+/** @param {State} state @returns {Known} */
+function knownOf({ day, text, csv, chosen, now, told, onlyNeeds }) {
+    const { manifests, rows } = parsedOf(text ?? "", csv), busy = manifests.filter(({ stops }) => stops.length > 0), doings = doingOf(manifests, rows, now);
+    const { lates, needs } = attention(manifests, told, doings, now, day === today()), wanted = vansIn(needs);
+    const worst = (/** @type {Manifest} */ { vehicle }) => Math.max(lates.get(vehicle)?.delay ?? 0, lates.get(vehicle)?.silent ?? 0);
+    const shown = onlyNeeds ? busy.filter(({ vehicle }) => wanted.has(vehicle)).sort((a, b) => worst(b) - worst(a) || a.vehicle - b.vehicle) : busy;
+    return { manifests, busy, shown, idle: manifests.filter(({ stops }) => stops.length === 0), one: manifests.find(({ vehicle }) => vehicle === chosen),
+        doings, dues: new Map(rows.map(({ trip, due }) => [trip, due])), lates, needs };
+}
+
+// One search over the day's trips.
+
+/** What is searched of each pickup of a day, made once for its manifests.
+ * @type {{ manifests: Manifest[], entries: { vehicle: number, stop: import("../parts/texts.js").Stop, text: string }[] }}
+ */
+let searched = { manifests: [], entries: [] };
+
+/** @param {Manifest[]} manifests */
+function entriesOf(manifests) {
+    if (searched.manifests === manifests) return searched.entries;
+    const entries = manifests.flatMap(({ vehicle, stops }) => stops.filter(({ what }) => what === "PICK").map((stop) => {
+        const drop = stops.find(({ what, trip }) => what === "DROP" && trip === stop.trip), rider = Number(stop.rider);
+        return { vehicle, stop, text: searchText([riderName(rider), rider, riderOf(rider)?.telephone, vehicleName(vehicle), vehicle, stop.trip, placeName(stop.place), drop && placeName(drop.place)], folded) };
+    }));
+    searched = { manifests, entries };
+    return entries;
+}
+
+/** @param {State} state @param {Known} known @param {(vehicle: number, trip: number) => void} go */
+function foundList({ typed }, { manifests }, go) {
+    const wanted = folded(typed.trim());
+    if (!wanted) return null;
+    const all = entriesOf(manifests).filter(({ text }) => fits(text, wanted)).sort((a, b) => a.stop.at - b.stop.at), now = minuteNow();
+    const near = [...all.filter(({ stop }) => stop.at >= now - 60), ...all.filter(({ stop }) => stop.at < now - 60)];
+    return part("div", { class: "found", role: "status" }, all.length === 0 ? part("p", {}, t("dispatcher.search-none")) : part("ul", { "aria-label": t("dispatcher.search-list") },
+        near.slice(0, MOST_FOUND).map(({ vehicle, stop }) => part("li", { key: stop.trip }, button(t("dispatcher.found-trip", { planned: clock(stop.at), rider: riderLabel(Number(stop.rider)),
+            window: stop.window ? between(...stop.window) : "", vehicle: vehicleName(vehicle), trip: stop.trip, telephone: riderOf(Number(stop.rider))?.telephone ?? "" }),
+        () => go(vehicle, Number(stop.trip)), { class: "small" })))), all.length > MOST_FOUND && part("p", { class: "hint" }, t("dispatcher.search-more", { count: all.length - MOST_FOUND })));
+}
+
+/** @param {State} state @param {Known} known @param {{ go: (vehicle: number, trip?: number) => void, search: (typed: string) => void, filter: (only: boolean) => void }} acts */
+const searchRow = (state, known, { go, search, filter }) => part("div", { class: "search-row" }, part("div", { class: "search" },
+    part("label", { for: "day-search" }, t("dispatcher.search")), part("input", { id: "day-search", type: "search", autocomplete: "off", value: state.typed, "aria-describedby": "day-search-hint",
+        on: { input: (event) => search(event.target.value), keydown: (event) => { if (event.key === "Escape") search(""); } } }),
+    part("small", { id: "day-search-hint" }, t("dispatcher.search-hint")), foundList(state, known, go)),
+part("label", { class: "tick" }, part("input", { type: "checkbox", checked: state.onlyNeeds, on: { change: (event) => filter(event.target.checked) } }), t("dispatcher.only-needs")));
 
 // The label of a stop, at the stop.
 
@@ -55,83 +112,127 @@ function tipScreen() {
 
 // The manifest of one vehicle.
 
-/** @param {Manifest} manifest @param {Doings} doings */
-const stopsOf = ({ stops }, doings) => part("ol", { class: "van-stops" }, stops.map((stop, at) => part("li", { key: at }, part("span", { class: "when" }, clock(stop.at)),
+/** @param {number} rider */
+const telephoneOf = (rider) => {
+    const telephone = riderOf(rider)?.telephone;
+    return telephone ? part("a", { href: `tel:${telephone.replace(/[^\d+]/g, "")}` }, telephone) : null;
+};
+
+/** @param {Manifest} manifest @param {Doings} doings @param {number | null} marked */
+const stopsOf = ({ vehicle, stops }, doings, marked) => part("ol", { class: "van-stops", id: `stops-${vehicle}` }, stops.map((stop, at) => part("li", { key: at, "data-minute": stop.at,
+    "data-trip": stop.what === "PICK" ? stop.trip : null, class: marked !== null && stop.trip === marked ? "marked" : null }, part("span", { class: "when" }, clock(stop.at)),
     part("div", {}, part("p", {}, part("strong", {}, stop.what === "DEPOT" ? t("dispatcher.depot") : t(`dispatcher.paper-${stop.what}`, { trip: stop.trip })), " ",
         stop.rider !== undefined && riderLabel(stop.rider)), part("p", {}, placeName(stop.place)),
     stop.trip !== undefined && part("p", { class: "hint" }, [stop.window && t("dispatcher.promised", { window: between(...stop.window) }),
-        t("dispatcher.people", { count: stop.people, wheelchairs: stop.wheelchairs }), doingWords(doings.get(stop.trip))].filter(Boolean).join(" · "))))));
+        t("dispatcher.people", { count: stop.people, wheelchairs: stop.wheelchairs }), doingWords(doings.get(stop.trip))].filter(Boolean).join(" · "),
+        stop.what === "PICK" && [" ", telephoneOf(Number(stop.rider))])))));
 
 /** @param {State} state @param {Known} known @param {() => void} close */
-function oneVan({ day }, { one, doings, dues }, close) {
+function oneVan({ day, marked, original }, { one, doings, dues }, close) {
     if (!one) return null;
     const heading = t("dispatcher.manifest-of", { vehicle: vehicleName(one.vehicle), day: dayInWords(day) });
     return part("section", { class: "card one-van", key: `one-${one.vehicle}`, "aria-labelledby": "one-van" }, part("h3", { id: "one-van", tabindex: -1 }, heading),
-        part("div", { class: "row" }, one.stops.length > 0 && button(t("dispatcher.print-manifest"), () => printManifests([one], dues)), button(t("dispatcher.close"), close)),
-        one.stops.length ? stopsOf(one, doings) : part("p", {}, t("dispatcher.no-stops")),
+        part("div", { class: "row" }, one.stops.length > 0 && button(t("dispatcher.print-manifest"), () => printManifests([one], dues, { original })), button(t("dispatcher.close"), close)),
+        one.stops.length ? stopsOf(one, doings, marked) : part("p", {}, t("dispatcher.no-stops")),
         part("details", {}, part("summary", {}, t("dispatcher.own-text")), part("pre", { tabindex: 0, role: "region", "aria-label": t("dispatcher.own-text") }, one.text)));
 }
 
 // The whole.
 
-/** @param {State} state @param {Known} known @param {{ chosen: (vehicle: number) => void, tip: ReturnType<typeof tipScreen>, toNow: () => void, tabled: () => void }} acts */
-function pictureCard(state, { manifests, busy, idle, one, doings, dues }, { chosen, tip, toNow, tabled }) {
+/** @param {State} state @param {Known} known @param {{ chosen: (vehicle: number) => void, tip: ReturnType<typeof tipScreen>, toNow: () => void, tabled: () => void, original: (original: boolean) => void }} acts */
+function pictureCard(state, { manifests, busy, shown, idle, one, doings, dues, lates }, { chosen, tip, toNow, tabled, original }) {
     const { day, text, now, asTable, chosen: selected } = state, stand = tripsThatStand(text ?? ""), isNow = day === today();
     const labelled = (/** @type {Label | null} */ label, spoken = false) => {
         const stop = label && manifests.find(({ vehicle }) => vehicle === label.vehicle)?.stops[label.at], words = stop ? stopWords(stop, doings) : "";
         tip.show(label, words);
         if (spoken) say(words);
     };
-    return part("div", { class: "card picture-card" }, part("p", {}, t("dispatcher.stand", { count: stand }), " ", t(manifests.length ? "dispatcher.choose" : "dispatcher.nobody")),
+    return part("div", { class: "card picture-card" },
         busy.length > 0 && part("div", { class: "scroll timeline", id: "picture", tabindex: 0, role: "region", "aria-label": t("dispatcher.picture"), on: { pointerleave: () => labelled(null) } },
-            tip.element, timeline(manifests, { chosen, selected, now: isNow ? now : null, room: roomOf(state, Boolean(one)), doings, labelled })),
-        busy.length > 0 && legend(),
+            tip.element, timeline(shown, { chosen, selected, now: isNow ? now : null, room: roomOf(state, Boolean(one)), doings, labelled, lates })),
         idle.length > 0 && part("details", { class: "idle" }, part("summary", {}, t("dispatcher.idle", { count: idle.length })),
             part("ul", { class: "row" }, idle.map(({ vehicle }) => part("li", { key: vehicle }, vehicleName(vehicle))))),
-        part("div", { class: "row" }, button(t("dispatcher.print-sheet"), () => printDaySheet(day, manifests, text ?? "")),
-            busy.length > 0 && button(t("dispatcher.print-manifests", { count: busy.length }), () => printManifests(busy, dues)),
-            isNow && busy.length > 0 && button(t("dispatcher.to-now"), toNow), button(t("dispatcher.as-table"), tabled, { "aria-expanded": String(asTable), "aria-controls": "as-table" })),
-        part("div", { id: "as-table", class: asTable ? null : "folded-table" }, tableOfDay(t("dispatcher.table-of-day"), manifests, doings)));
+        part("div", { class: "row tools" }, part("p", {}, t("dispatcher.stand", { count: stand }), " ", t(manifests.length ? "dispatcher.choose" : "dispatcher.nobody")),
+            button(t("dispatcher.print-sheet"), () => printDaySheet(day, manifests, text ?? "", { original: state.original })),
+            busy.length > 0 && button(t("dispatcher.print-manifests", { count: busy.length }), () => printManifests(busy, dues, { original: state.original })),
+            part("label", { class: "tick" }, part("input", { type: "checkbox", checked: state.original, on: { change: (event) => original(event.target.checked) } }), t("dispatcher.with-original")),
+            isNow && busy.length > 0 && button(t("dispatcher.to-now"), toNow), button(t("dispatcher.as-table"), tabled, { "aria-expanded": String(asTable), "aria-controls": "as-table" }),
+            busy.length > 0 && legend()),
+        part("div", { id: "as-table", class: asTable ? null : "folded-table" }, (asTable || state.printing) && tableOfDay(t("dispatcher.table-of-day"), manifests, doings)));
 }
 
 /** Moves the picture so that the present is in its first third.
  * @param {State} state
  */
 function moveToNow(state) {
-    const frame = document.getElementById("picture"), { one, manifests } = knownOf(state);
+    const frame = document.getElementById("picture"), { one, shown: manifests } = knownOf(state);
     if (!frame || !Number.isFinite(state.now)) return;
     frame.scrollLeft = scaleOf(hoursOf(manifests), roomOf(state, Boolean(one))).across(state.now) - frame.clientWidth / 3;
 }
 
+/** Opens the manifest beside the picture at a trip's pickup, or at what comes next, and brings the van's row into view.
+ * @param {State} state @param {number} vehicle @param {number} [trip]
+ */
+function openAt({ now }, vehicle, trip) {
+    const list = document.getElementById(`stops-${vehicle}`), stops = /** @type {HTMLElement[]} */ ([...list?.children ?? []]);
+    const stop = stops.find((it) => (trip ? it.dataset.trip === String(trip) : Number(it.dataset.minute) >= now - 10));
+    if (list && stop) list.scrollTop = stop.offsetTop;
+    const frame = document.getElementById("picture"), row = frame?.querySelector(`[data-row="${vehicle}"]`), hours = frame?.querySelector(".hours");
+    if (!frame || !(row instanceof HTMLElement) || !hours) return;
+    const above = hours.clientHeight, top = row.offsetTop - above, bottom = row.offsetTop + row.offsetHeight - frame.clientHeight;
+    frame.scrollTop = Math.max(bottom, Math.min(top, frame.scrollTop));
+}
+
 /** @param {string} day @returns {State} */
-const firstState = (day) => ({ day, text: null, csv: "", denied: null, chosen: null, now: nowOn(day), ended: false, asTable: false, wide: window.innerWidth });
+const firstState = (day) => ({ day, text: null, csv: "", denied: null, chosen: null, now: nowOn(day), ended: false, asTable: false, wide: window.innerWidth, told: null, unplaced: 0,
+    onlyNeeds: false, printing: false, original: false, typed: "", marked: null });
 
 export function dayPicture() {
     const tip = tipScreen();
-    const screen = makeScreen({ state: firstState(theDay()), class: "stack dispatch-wide dispatch-day", draw: (state, { change, kept }) => {
+    const screen = makeScreen({ state: firstState(theDay()), class: "stack dispatch-wide dispatch-head dispatch-day", draw: (state, { change, kept }) => {
         const known = knownOf(state), vehicle = state.chosen;
-        const close = () => change({ chosen: null }, { focus: `vehicle-${vehicle}` });
-        const chosen = (/** @type {number} */ it) => (it === state.chosen ? close() : change({ chosen: it }, { focus: "one-van" }));
+        const close = () => change({ chosen: null, marked: null }, { focus: `vehicle-${vehicle}` });
+        const show = (/** @type {number} */ it, /** @type {number | undefined} */ trip) => {
+            change({ chosen: it, marked: trip ?? null, typed: "", onlyNeeds: state.onlyNeeds && known.shown.some((row) => row.vehicle === it) }, { focus: "one-van" });
+            openAt(screen.state, it, trip);
+        };
+        const chosen = (/** @type {number} */ it) => (it === state.chosen ? close() : show(it, undefined));
+        const finding = { go: show, search: (/** @type {string} */ typed) => change({ typed }), filter: (/** @type {boolean} */ onlyNeeds) => change({ onlyNeeds }) };
         const go = (/** @type {string} */ day) => {
             change({ ...firstState(day), asTable: state.asTable, chosen: state.chosen, wide: state.wide });
             renew();
         };
-        const acts = { chosen, tip, toNow: () => moveToNow(screen.state), tabled: () => change(({ asTable }) => ({ asTable: !asTable })) };
+        const acts = { chosen, tip, toNow: () => moveToNow(screen.state), original: (/** @type {boolean} */ original) => change({ original }), tabled: () => {
+            change(({ asTable }) => ({ asTable: !asTable }));
+            fill();
+        } };
         return [dayBar({ ...state, go, kept }), state.denied ? denialOf(state.denied) : state.text === null ? part("p", {}, t("dispatcher.reading"))
-            : part("div", { class: known.one ? "day-view with-one" : "day-view" }, pictureCard(state, known, acts), oneVan(state, known, close))];
+            : [part("div", { class: "finding" }, attentionBar(known.needs, { told: state.told, unplaced: state.unplaced, isToday: state.day === today(), go: show }), searchRow(state, known, finding)),
+                part("div", { class: known.one ? "day-view with-one" : "day-view" }, pictureCard(state, known, acts), oneVan(state, known, close))]];
     } });
+    const fill = () => screen.element.classList.toggle("dispatch-fill", !screen.state.asTable);
+    fill();
     async function renew() {
-        const { day, text: before } = screen.state, [sheet, trips] = await Promise.all([desk.sheet(day), desk.tripsOn(day)]);
+        const { day, text: before } = screen.state, [sheet, trips, told, unplaced] = await Promise.all([desk.sheet(day), desk.tripsOn(day), readTold(day), readUnplaced()]);
         if (screen.state.day !== day || sheet.denied === "left" || trips.denied === "left") return;
         if (sheet.denied !== undefined) return screen.change({ denied: sheet });
-        screen.change({ text: sheet.value, csv: trips.value ?? "", denied: null, now: nowOn(day) });
+        screen.change({ text: sheet.value, csv: trips.value ?? "", denied: null, now: nowOn(day), told, unplaced });
         if (before === null) moveToNow(screen.state);
+        const trip = Number(sessionStorage.getItem(STOP)) || null, manifest = trip && knownOf(screen.state).busy.find(({ stops }) => stops.some((stop) => stop.trip === trip));
+        sessionStorage.removeItem(STOP);
+        if (!trip || !manifest) return;
+        screen.change({ chosen: manifest.vehicle, marked: trip }, { focus: "one-van" });
+        openAt(screen.state, manifest.vehicle, trip);
     }
     const measured = new ResizeObserver(([entry]) => {
         const wide = Math.round(entry.contentRect.width);
         if (wide && wide !== screen.state.wide) screen.change({ wide });
     });
     measured.observe(screen.element);
+    // (the table is made where it is shown, and for paper)
+    for (const [name, printing] of /** @type {[string, boolean][]} */ ([["beforeprint", true], ["afterprint", false]])) {
+        window.addEventListener(name, () => { if (screen.element.isConnected) screen.change({ printing }); });
+    }
     screen.every(RENEWED, renew);
     screen.onNewDay(() => {
         screen.change(({ day }) => ({ ended: true, now: nowOn(day) }));

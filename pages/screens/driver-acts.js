@@ -1,16 +1,20 @@
-// What the driver taps: kept by this phone, and where it is an outcome sent to the desk from there.
+// What the driver taps: kept by this phone, and where it is an outcome sent to the desk from there. A tap has its own moment, and one that comes
+// while another is under way waits for its turn.
 
 import { agency } from "../parts/agency.js";
-import { asked } from "../parts/ask.js";
+import { asked, choose } from "../parts/ask.js";
 import { clock, momentNow, serverNow } from "../parts/clock.js";
 import { part, say } from "../parts/element.js";
 import { keep, putAside, takeBack, tellOnce } from "../parts/queue.js";
-import { stopPath } from "../parts/tally.js";
+import { makeTurns } from "../parts/turns.js";
 import { t } from "../parts/words.js";
-import { isOutcome, skipped, waitAt } from "./driver-day.js";
+import { choicesAt, evidenceOf, isOutcome, skipped } from "./driver-day.js";
+import { evidenceList } from "./driver-evidence.js";
+import { askNote } from "./driver-note.js";
 import { placeNameAt, whoAt } from "./driver-read.js";
 import { LOOSE, namesOf, sheetName, shownDay } from "./driver-state.js";
 import { didWords, stopWords, TITLE } from "./driver-stop.js";
+import { noShowTold, noteTold, stopTold } from "./driver-told.js";
 
 /** @typedef {import("../parts/queue.js").Entry} Entry */
 /** @typedef {import("./driver-day.js").Shown} Shown */
@@ -19,38 +23,65 @@ import { didWords, stopWords, TITLE } from "./driver-stop.js";
 /** @typedef {Parameters<typeof keep>[0]} Tapped */
 /** @typedef {{ readonly state: State, change: (patch: Partial<State>, options?: { focus?: string }) => void }} Screen */
 
-/** What the site's log is told of a tap.
- * @type {Record<What, string>} */
-const EVENTS = { arrived: "arrived", aboard: "aboard", ridden: "dropped", left: "left", "missed-rider": "no-show-rider", "missed-operator": "no-show-agency" };
+/** Milliseconds for which a no-show stays on this phone, so that it can be undone. */
+const HELD = 60_000;
 
-/** A tap that was told later than it happened is no time of a drop.
- * @param {State} state @param {Shown} stop @param {What} what @returns {Tapped} */
-function tapOf({ vehicle, day }, { name, trip = 0, rider = 0, isNext }, what) {
-    const at = momentNow(), write = isOutcome(what) ? { path: `/trips/${trip}/outcome`, fields: { outcome: what }, number: 0, tries: 0 } : null;
-    const counts = trip > 0 && (what !== "ridden" || isNext);
-    return { sheet: sheetName(vehicle, day), tap: { stop: name, trip, rider, what, at }, state: write ? "waiting" : "kept", write,
-        tally: counts ? stopPath({ vehicle, trip, event: EVENTS[what], at }) : null };
+/** What the site's log is told of a tap. One that was told later than it happened is no time of a drop.
+ * @param {State} state @param {Shown} stop @param {What} what @param {string} at */
+function toldOf({ vehicle, day }, stop, what, at) {
+    const { trip = 0, isNext } = stop;
+    if (!trip || (what === "ridden" && !isNext)) return null;
+    const evidence = what === "missed-rider" ? noShowTold({ vehicle, day, trip, at }, evidenceOf(stop, agency().wait_minutes, day, at)) : [];
+    return [stopTold({ vehicle, trip, what, at }), ...evidence];
+}
+
+/** @param {State} state @param {Shown} stop @param {What} what @param {string} at @returns {Tapped} */
+function tapOf(state, stop, what, at) {
+    const { name, trip = 0, rider = 0 } = stop;
+    const write = isOutcome(what) ? { path: `/trips/${trip}/outcome`, fields: { outcome: what }, number: 0, tries: 0 } : null;
+    return { sheet: sheetName(state.vehicle, state.day), tap: { stop: name, trip, rider, what, at }, state: write ? "waiting" : "kept", write,
+        held: what === "missed-rider" ? HELD : 0, tally: toldOf(state, stop, what, at) };
+}
+
+/** What a no-show becomes once the driver has read what makes it doubtful: null where it is not told.
+ * @param {State} state @param {Shown} stop @param {string} at @returns {Promise<What | null>} */
+async function weighed(state, stop, at) {
+    const minutes = agency().wait_minutes, evidence = evidenceOf(stop, minutes, state.day, at), { doubt } = evidence;
+    if (!doubt) return "missed-rider";
+    /** @type {[What, string][]} */
+    const choices = [["missed-rider", t("driver.no-show-still")]];
+    if (doubt === "late") choices.unshift(["missed-operator", t("driver.missed-operator")]);
+    return choose({ question: t("driver.question-missed-rider", { who: whoAt(Number(stop.rider), namesOf(state)) }), careful: true,
+        detail: [evidenceList(evidence, minutes), part("p", { class: "note" }, t(`driver.doubt-${doubt}`, { minutes }))], choices, none: t("driver.keep-waiting") });
 }
 
 /** Asks before an outcome, which cannot be taken back once the desk has it.
- * @param {State} state @param {Shown} stop @param {What} what */
-function sure(state, stop, what) {
-    const wait = waitAt(stop, agency().wait_minutes, momentNow()), isEarly = what === "missed-rider" && stop.what === "PICK" && wait?.left !== 0;
+ * @param {State} state @param {Shown} stop @param {What} what @param {string} at */
+function sure(state, stop, what, at) {
+    const minutes = agency().wait_minutes, evidence = evidenceOf(stop, minutes, state.day, at);
     return asked({ question: t(`driver.question-${what}`, { who: whoAt(Number(stop.rider), namesOf(state)) }),
-        detail: [isEarly && part("p", { class: "note" }, t("driver.wait-not-over")),
-            part("p", {}, `${t("driver.trip", { trip: stop.trip })}. ${t(`driver.says-${what}`)} ${t("driver.final")}`)], yes: t(`driver.yes-${what}`) });
+        detail: [what === "missed-rider" && evidenceList(evidence, minutes), part("p", {}, `${t("driver.trip", { trip: stop.trip })}. ${t(`driver.says-${what}`)} `,
+            t(what === "missed-rider" ? "driver.final-later" : "driver.final"))], yes: t(`driver.yes-${what}`) });
+}
+
+/** What is told of a tap after all questions: null where nothing is.
+ * @param {State} state @param {Shown} stop @param {What} what @param {string} at @returns {Promise<What | null>} */
+async function decided(state, stop, what, at) {
+    const meant = what === "missed-rider" ? await weighed(state, stop, at) : what;
+    if (meant === null || !isOutcome(meant)) return meant;
+    return await sure(state, stop, meant, at) ? meant : null;
 }
 
 /** Where this phone has no room: a tap is remembered while the page lives, and an outcome is sent at once or not told at all.
- * @param {Screen} screen @param {Shown} stop @param {Tapped} tap */
+ * @param {Screen} screen @param {string} stop @param {Tapped} tap */
 async function loosely(screen, stop, tap) {
     const reply = tap.write ? await tellOnce(tap.write) : {};
     if (reply.silent) {
-        screen.change({ noRoom: stop.name }, { focus: "driver-told" });
+        screen.change({ noRoom: stop }, { focus: "driver-told" });
         return false;
     }
     const denied = reply.denied ?? null, state = denied ? "denied" : tap.write ? "done" : "kept", { loose } = screen.state;
-    screen.change({ loose: [...loose, { ...tap, state, denied, digest: "", since: serverNow(), order: LOOSE + serverNow() }], noRoom: null });
+    screen.change({ loose: [...loose, { ...tap, held: 0, state, denied, digest: "", since: serverNow(), order: LOOSE + serverNow() }], noRoom: null });
     return true;
 }
 
@@ -65,31 +96,46 @@ function moved(screen, stop) {
     if (to && isDone) say(t("driver.said-next", { time: clock(to.at), stop: stopWords(to, names), place: placeNameAt(to.place, names) }));
 }
 
+/** What is kept by this phone: taps, and notes of the day.
+ * @param {Screen} screen @param {() => Promise<void>} relog @param {ReturnType<typeof makeTurns>} turn */
+function tapsOf(screen, relog, turn) {
+    /** @param {Shown} tapped @param {What} what */
+    const tap = (tapped, what) => {
+        const at = momentNow(), { day } = screen.state;
+        return turn(async () => {
+            const { state } = screen, stop = (state.day === day && shownDay(state).stops.find(({ name }) => name === tapped.name)) || tapped;
+            // (the second of two taps at the same button has nothing to tell)
+            if (!choicesAt(stop, state.day <= state.today).includes(what)) return;
+            const told = await decided(state, stop, what, at);
+            if (told === null) return;
+            const it = tapOf({ ...state, day }, stop, told, at);
+            if (!await keep(it).then(() => true, () => loosely(screen, stop.name, it))) return;
+            await relog();
+            moved(screen, stop);
+        });
+    };
+
+    /** A note of the day on a trip, or on the van.
+     * @param {Shown | null} stop */
+    const note = (stop) => turn(async () => {
+        const { state } = screen, { vehicle, day } = state, trip = stop?.trip ?? 0, text = await askNote(stop ? stopWords(stop, namesOf(state)) : "");
+        if (!text) return;
+        const at = momentNow(), tapped = { stop: stop?.name ?? "van", trip, rider: stop?.rider ?? 0, what: "note", at, text };
+        /** @type {Tapped} */
+        const it = { sheet: sheetName(vehicle, day), tap: tapped, state: "kept", write: null, tally: [noteTold({ vehicle, day, trip, text, at })] };
+        await keep(it).catch(() => loosely(screen, tapped.stop, it));
+        await relog();
+        say(t("driver.noted"));
+    });
+    return { tap, note };
+}
+
 /** @param {Screen} screen @param {() => Promise<void>} relog reads the log anew */
 export function actsOf(screen, relog) {
-    let busy = false;
-    const next = () => screen.change({ opened: null }, { focus: TITLE });
-
-    /** One after the other: a second tap meanwhile does nothing.
-     * @param {() => Promise<unknown>} act */
-    async function alone(act) {
-        if (busy) return;
-        busy = true;
-        await act().finally(() => { busy = false; });
-    }
-
-    /** @param {Shown} stop @param {What} what */
-    const tap = (stop, what) => alone(async () => {
-        const { state } = screen;
-        if (isOutcome(what) && !await sure(state, stop, what)) return;
-        const it = tapOf(state, stop, what);
-        if (!await keep(it).then(() => true, () => loosely(screen, stop, it))) return;
-        await relog();
-        moved(screen, stop);
-    });
+    const turn = makeTurns(), next = () => screen.change({ opened: null }, { focus: TITLE });
 
     /** @param {Entry} entry */
-    const takenBack = (entry) => alone(async () => {
+    const takenBack = (entry) => turn(async () => {
         if (entry.order >= LOOSE) screen.change({ loose: screen.state.loose.filter((it) => it !== entry) });
         else {
             if (entry.write?.tries && !await asked({ question: t("driver.back-question"), detail: t("driver.back-detail"), yes: t("driver.back-yes") })) return;
@@ -97,25 +143,28 @@ export function actsOf(screen, relog) {
             await relog();
             if (!isGone) return say(t("driver.back-too-late"));
         }
-        next();
+        if (entry.tap.what !== "note") next();
         say(t("driver.taken-back", { what: didWords(entry.tap.what) }));
     });
 
     /** @param {Shown} stop */
-    const startHere = (stop) => alone(async () => {
-        const { state } = screen, before = skipped(shownDay(state).stops, stop.name);
-        if (before.length && !await asked({ question: t("driver.start-question"), detail: t("driver.start-detail", { count: before.length }),
-            yes: t("driver.start-yes") })) return;
-        for (const it of before) {
-            const passed = { ...tapOf(state, it, "left"), tally: null };
-            await keep(passed).catch(() => loosely(screen, it, passed));
-        }
-        await relog();
-        next();
-    });
+    const startHere = (stop) => {
+        const at = momentNow();
+        return turn(async () => {
+            const { state } = screen, before = skipped(shownDay(state).stops, stop.name);
+            if (before.length && !await asked({ question: t("driver.start-question"), detail: t("driver.start-detail", { count: before.length }),
+                yes: t("driver.start-yes") })) return;
+            for (const it of before) {
+                const passed = { ...tapOf(state, it, "left", at), tally: null };
+                await keep(passed).catch(() => loosely(screen, it.name, passed));
+            }
+            await relog();
+            next();
+        });
+    };
 
     /** @param {Entry} entry */
-    const aside = (entry) => alone(async () => {
+    const aside = (entry) => turn(async () => {
         const seen = { ...entry, tap: { ...entry.tap, seen: true } };
         if (entry.order >= LOOSE) screen.change({ loose: screen.state.loose.map((it) => (it === entry ? seen : it)) });
         else await putAside(entry.order).catch(() => {});
@@ -123,6 +172,6 @@ export function actsOf(screen, relog) {
         screen.change({}, { focus: TITLE });
     });
 
-    return { tap, takeBack: takenBack, startHere, aside, toNext: next, seenGone: () => screen.change({ gone: "" }, { focus: TITLE }),
-        open: (/** @type {string} */ name) => screen.change({ opened: name }, { focus: TITLE }) };
+    return { ...tapsOf(screen, relog, turn), takeBack: takenBack, startHere, aside, toNext: next,
+        seenGone: () => screen.change({ gone: "" }, { focus: TITLE }), open: (/** @type {string} */ name) => screen.change({ opened: name }, { focus: TITLE }) };
 }

@@ -6,16 +6,22 @@
 
 /** @typedef {import("../parts/queue.js").Entry} Entry */
 /**
+ * @typedef {[number, number]} Window minutes of the day
  * @typedef {{ at: number, what: "DEPOT" | "PICK" | "DROP", place: number, load: number, chairs?: number, trip?: number, rider?: number,
  *     window?: [number, number] }} Stop
- * @typedef {"arrived" | "aboard" | "ridden" | "missed-rider" | "missed-operator" | "left"} What
- * @typedef {{ stop: string, trip: number, rider: number, what: What, at: string, seen?: boolean }} Tap at is the moment, YYYY-MM-DDTHH:MM:SS
- * @typedef {Stop & { name: string, done: boolean, isNext: boolean, party: { people: number, chairs: number }, arrived: Entry | null, aboard: Entry | null,
- *     outcome: Entry | null, denied: Entry | null, taps: Entry[] }} Shown
+ * @typedef {"arrived" | "aboard" | "ridden" | "missed-rider" | "missed-operator" | "left" | "note"} What
+ * @typedef {{ stop: string, trip: number, rider: number, what: What, at: string, seen?: boolean, text?: string, onRecord?: string }} Tap at is the
+ *     moment, YYYY-MM-DDTHH:MM:SS; onRecord is the outcome that the desk has where it is another one
+ * @typedef {Stop & { name: string, done: boolean, isNext: boolean, party: { people: number, chairs: number }, promise: Window | null,
+ *     arrived: Entry | null, came: Entry | null, aboard: Entry | null, outcome: Entry | null, denied: Entry | null, taps: Entry[] }} Shown promise and
+ *     came are the window of the trip's pickup and the arrival there, at its drop as well
+ * @typedef {"late" | "early" | "not-arrived" | "wait"} Doubt
+ * @typedef {{ promise: Window | null, arrived: number | null, waited: number, doubt: Doubt | null }} Evidence of a no-show: the minute of the
+ *     arrival, and how many seconds were waited within the window
  */
 
 export const OUTCOMES = /** @type {const} */ (["ridden", "missed-rider", "missed-operator"]);
-const MINUTE = 60;
+const MINUTE = 60, DAY = 1440;
 
 /** @param {string} what */
 export const isOutcome = (what) => /** @type {readonly string[]} */ (OUTCOMES).includes(what);
@@ -37,6 +43,13 @@ function partyOf(stop, before) {
 /** @param {Entry[]} log @param {(tap: Tap) => boolean} isIt */
 const lastOf = (log, isIt) => log.filter(({ tap }) => isIt(tap)).at(-1) ?? null;
 
+/** What is known of a trip's pickup: its window, and when the van arrived there.
+ * @param {Stop[]} stops @param {Entry[]} ofTrip @param {number | undefined} trip */
+function pickupOf(stops, ofTrip, trip) {
+    const pickup = trip === undefined ? undefined : stops.find((it) => it.what === "PICK" && it.trip === trip);
+    return { promise: pickup?.window ?? null, came: lastOf(ofTrip, ({ what, stop }) => what === "arrived" && stop === `PICK ${trip}`) };
+}
+
 /** The stops of a day with all that is to be shown of each, and which of them is next (-1: none).
  * @param {Stop[]} stops @param {Entry[]} log of this vehicle and day, in its order */
 export function dayOf(stops, log) {
@@ -46,7 +59,7 @@ export function dayOf(stops, log) {
         const told = lastOf(ofTrip, ({ what }) => isOutcome(what)), aboard = lastOf(ofTrip, ({ what }) => what === "aboard");
         const outcome = told?.state === "denied" ? null : told, passed = mine.some(({ tap }) => tap.what === "left");
         const done = stop.what === "DEPOT" ? passed : Boolean(told || (stop.what === "PICK" ? aboard || passed : passed && !aboard));
-        return { ...stop, name, done, isNext: false, party: partyOf(stop, stops[at - 1]), arrived: lastOf(mine, ({ what }) => what === "arrived"),
+        return { ...stop, ...pickupOf(stops, ofTrip, stop.trip), name, done, isNext: false, party: partyOf(stop, stops[at - 1]), arrived: lastOf(mine, ({ what }) => what === "arrived"),
             aboard, outcome, denied: told?.state === "denied" ? told : null, taps: mine };
     });
     const next = shown.findIndex(({ done }) => !done);
@@ -58,10 +71,14 @@ export function dayOf(stops, log) {
  * @param {Shown[]} stops */
 export const stillAboard = (stops) => stops.filter(({ what, aboard, done }) => what === "DROP" && aboard && !done);
 
-/** What is left to do on a day that is over: drops of riders aboard, what waits, and what was denied and not read.
- * @param {Shown[]} stops @param {Entry[]} log */
-export const leftOpen = (stops, log) => stillAboard(stops).length + log.filter(({ state, tap }) => state === "waiting"
-    || (state === "denied" && !tap.seen)).length;
+/** What is left to do on a day that is over: riders aboard of whom nothing was told, what waits, and what was denied and not read. It goes by the
+ * taps alone, since the manifest of a day that is over may be gone.
+ * @param {Entry[]} log */
+export function leftOpen(log) {
+    const told = new Set(log.filter(({ tap }) => isOutcome(tap.what)).map(({ tap }) => tap.trip));
+    const aboard = new Set(log.filter(({ tap }) => tap.what === "aboard" && !told.has(tap.trip)).map(({ tap }) => tap.trip));
+    return aboard.size + log.filter(({ state, tap }) => state === "waiting" || (state === "denied" && !tap.seen)).length;
+}
 
 /** What can be taken back: taps that are on this phone alone, or still wait.
  * @param {Entry | null | undefined} entry */
@@ -70,17 +87,19 @@ export const canTakeBack = (entry) => entry?.state === "kept" || entry?.state ==
 /** Denials after which the same trip is sure to be denied again. */
 const FINAL = ["desk.over", "desk.caller", "desk.unknown"];
 
-/** What can be tapped at a stop, in the order of the buttons.
- * @param {Shown} stop @param {boolean} hasCome whether its day has come
+/** What can be tapped at a stop, in the order of the buttons. Where the van came after the window, the agency's fault is offered first.
+ * @param {Shown} stop @param {boolean} hasCome whether its day has come @param {boolean} [isLate]
  * @returns {What[]} */
-export function choicesAt(stop, hasCome) {
+export function choicesAt(stop, hasCome, isLate = false) {
     const { what, done, arrived, aboard, outcome, denied } = stop;
     if (!hasCome) return [];
     if (what === "DEPOT") return done ? [] : ["left"];
     if (outcome || FINAL.includes(denied?.denied ?? "") || (what === "PICK" && aboard)) return [];
+    /** @type {What[]} */
+    const missed = isLate ? ["missed-operator", "missed-rider"] : ["missed-rider", "missed-operator"];
     /** @type {(What | false)[]} */
-    const choices = what === "PICK" ? [!arrived && !done && "arrived", "aboard", "missed-rider", "missed-operator", !done && "left"]
-        : aboard ? ["ridden"] : ["ridden", "missed-rider", "missed-operator", !done && "left"];
+    const choices = what === "PICK" ? [!arrived && !done && "arrived", "aboard", ...missed, !done && "left"]
+        : aboard ? ["ridden"] : ["ridden", ...missed, !done && "left"];
     return choices.filter((choice) => choice !== false).map((choice) => /** @type {What} */ (choice));
 }
 
@@ -91,11 +110,22 @@ const secondsOf = (moment) => {
     return (hours * MINUTE + minutes) * MINUTE + seconds;
 };
 
+/** The minute of a moment, counted from the midnight with which a day begins: after it, 1440 and more.
+ * @param {string} moment @param {string} day */
+export const minuteOn = (moment, day) => Math.round((Date.parse(moment.slice(0, 10)) - Date.parse(day)) / 86_400_000) * DAY
+    + Math.floor(secondsOf(moment) / MINUTE);
+
 /** Minutes that are missing until a stop's planned time; below 0 it is late.
  * @param {Stop} stop @param {string} day @param {string} now */
-export function minutesUntil(stop, day, now) {
-    const days = Math.round((Date.parse(day) - Date.parse(now.slice(0, 10))) / 86_400_000);
-    return days * 24 * MINUTE + stop.at - Math.floor(secondsOf(now) / MINUTE);
+export const minutesUntil = (stop, day, now) => stop.at - minuteOn(now, day);
+
+/** By how many minutes the van is behind its plan: by the last stop that was tapped, or by the next one, whose time is past. 0: it is not.
+ * @param {Shown[]} stops @param {Entry[]} log @param {string} day @param {string} now */
+export function behindBy(stops, log, day, now) {
+    const next = stops.find(({ isNext }) => isNext), was = log.filter(({ tap }) => ["arrived", "aboard", "ridden"].includes(tap.what)).at(-1)?.tap;
+    if (!next) return 0;
+    const last = was && stops.find(({ name }) => name === was.stop), told = last && was ? minuteOn(was.at, day) - last.at : 0;
+    return Math.max(0, told, -minutesUntil(next, day, now));
 }
 
 /** The wait at a pickup, from the arrival on, but not before the promised window begins: a rider need not be ready earlier.
@@ -106,6 +136,19 @@ export function waitAt(stop, minutes, now) {
     const begins = Math.max(secondsOf(at), (stop.window?.[0] ?? 0) * MINUTE);
     if (now.slice(0, 10) > at.slice(0, 10)) return { begins, left: 0 };
     return { begins, left: Math.max(0, begins + minutes * MINUTE - secondsOf(now)) };
+}
+
+/** What speaks for a no-show at this moment, and what makes it doubtful: the van came after the promised window, or the window has not begun, or nobody
+ * tapped the arrival, or the wait is not over.
+ * @param {Shown} stop @param {number} minutes the agency's wait @param {string} day @param {string} now @returns {Evidence} */
+export function evidenceOf({ promise, came, what }, minutes, day, now) {
+    const arrived = came ? minuteOn(came.tap.at, day) : null, minute = minuteOn(now, day);
+    const from = came ? Math.max(minuteOn(came.tap.at, day) * MINUTE + secondsOf(came.tap.at) % MINUTE, (promise?.[0] ?? 0) * MINUTE) : null;
+    const waited = from === null ? 0 : Math.max(0, minute * MINUTE + secondsOf(now) % MINUTE - from);
+    // (at a drop the moment tells nothing of when the van was at the pickup)
+    const there = arrived ?? (what === "PICK" ? minute : 0), isLate = promise !== null && there > promise[1];
+    const doubt = isLate ? "late" : promise && minute < promise[0] ? "early" : arrived === null ? "not-arrived" : waited < minutes * MINUTE ? "wait" : null;
+    return { promise, arrived, waited, doubt };
 }
 
 /** The earlier stops that count as passed where the driver goes on from a later one: not the drops of riders aboard.

@@ -1,9 +1,10 @@
 // What the driver's phone reads, and its copy of it: the manifest of a day with the names of its places and riders. The copy is there without
-// a line, for the key alone that read it, until it signs out.
+// a line, for the key alone that read it, until it signs out, the day is over, or the phone locks.
 
 import { placeOf, placeWord } from "../parts/agency.js";
 import { momentNow } from "../parts/clock.js";
 import * as desk from "../parts/desk.js";
+import { copyName } from "../parts/manifest-copies.js";
 import { copyOf, keepCopy } from "../parts/queue.js";
 import { cellsOf, riderOf } from "../parts/roster.js";
 import { manifestsIn, rowsIn } from "../parts/texts.js";
@@ -14,13 +15,11 @@ import { t } from "../parts/words.js";
  * @typedef {{ name: string, note: string }} RiderNames
  * @typedef {{ places: Record<string, PlaceNames>, riders: Record<string, RiderNames>, fares: Record<string, number> }} Names
  * @typedef {{ text: string, stops: import("./driver-day.js").Stop[], readAt: string, names: Names }} Read
+ * @typedef {Record<string, string>} Records how trips ended, as the desk has it
  */
 
 /** @type {Names} */
 export const NO_NAMES = { places: {}, riders: {}, fares: {} };
-
-/** @param {number} vehicle @param {string} day */
-const copyName = (vehicle, day) => `manifest ${vehicle} ${day}`;
 
 /** @param {string} text */
 const stopsIn = (text) => /** @type {import("./driver-day.js").Stop[]} */ (manifestsIn(text)[0]?.stops ?? []);
@@ -73,30 +72,43 @@ async function ridersOf(vehicle) {
 }
 
 /** Keys that may not read the export; a driver's may not. */
-const withoutFares = new Set();
+const withoutExport = new Set();
 
-/** What is due for each trip, where the key may know it.
- * @param {string} day @returns {Promise<Record<string, number>>} */
-async function faresOf(day) {
-    if (withoutFares.has(desk.digest())) return {};
-    const reply = await desk.readOnce(`/days/${day}/trips.csv`);
-    if (reply.denied) withoutFares.add(desk.digest());
-    return reply.value === undefined ? {} : Object.fromEntries(rowsIn(reply.value).map((/** @type {any} */ { trip, due }) => [trip, due]));
+/** What is due for each trip and how it ended, where the key may know it.
+ * @param {string} day @returns {Promise<{ fares: Record<string, number>, records: Records }>} */
+async function exportOf(day) {
+    if (withoutExport.has(desk.digest())) return { fares: {}, records: {} };
+    const reply = await desk.readOnce(`/days/${day}/trips.csv`), rows = reply.value === undefined ? [] : rowsIn(reply.value);
+    if (reply.denied) withoutExport.add(desk.digest());
+    const ended = rows.filter(({ status }) => status !== "booked");
+    return { fares: Object.fromEntries(rows.map(({ trip, due }) => [trip, due])), records: Object.fromEntries(ended.map(({ trip, status }) => [trip, status])) };
+}
+
+/** How the trips of a vehicle ended, as the site's file for its driver has it.
+ * @param {number} vehicle @returns {Promise<Records>} */
+async function recordsOf(vehicle) {
+    try {
+        return JSON.parse(await driversFile(vehicle, "outcomes.json")).outcomes ?? {};
+    } catch {
+        return {};
+    }
 }
 
 /** Reads a day once, and keeps a copy of it: what was read, or why not.
  * @param {number} vehicle @param {string} day @param {Names} before names that are known already
- * @returns {Promise<Read | { denied: string } | { silent: string }>} */
-export async function readDay(vehicle, day, before) {
+ * @param {boolean} isDisputed whether somebody has to know how a trip ended
+ * @returns {Promise<(Read & { records: Records }) | { denied: string } | { silent: string }>} */
+export async function readDay(vehicle, day, before, isDisputed) {
     const reply = await desk.readOnce(`/vehicles/${vehicle}/manifest/${day}`);
     if (reply.silent) return { silent: reply.silent };
     if (reply.denied) return { denied: reply.denied };
-    const stops = stopsIn(reply.value), [places, riders, fares] = await Promise.all([allPlaces(vehicle), ridersOf(vehicle), faresOf(day)]);
+    const stops = stopsIn(reply.value), [places, riders, { fares, records }, ended] = await Promise.all([allPlaces(vehicle), ridersOf(vehicle), exportOf(day),
+        isDisputed ? recordsOf(vehicle) : {}]);
     const names = { places: { ...before.places, ...placesOf(stops, places) }, riders: { ...before.riders, ...riders }, fares: { ...before.fares, ...fares } };
     const read = { text: reply.value, readAt: momentNow(), names };
     // (a phone without room for a copy shows what it read all the same)
     await keepCopy(copyName(vehicle, day), read).catch(() => {});
-    return { ...read, stops };
+    return { ...read, stops, records: { ...ended, ...records } };
 }
 
 /** @param {number} id @param {Names} names */

@@ -1,7 +1,8 @@
 // What the driver's phone shows, as one record, and what follows from it.
 
 import { momentNow, serverNow, today } from "../parts/clock.js";
-import { dayOf } from "./driver-day.js";
+import { heldFor } from "../parts/queue.js";
+import { behindBy, dayOf } from "./driver-day.js";
 import { NO_NAMES } from "./driver-read.js";
 
 /** @typedef {import("../parts/queue.js").Entry} Entry */
@@ -22,6 +23,8 @@ import { NO_NAMES } from "./driver-read.js";
  * @property {{ day: string, count: number } | null} before a day that is over and not closed
  * @property {boolean} begun whether a new day began while this was shown
  * @property {number} waits how many outcomes have waited for a while
+ * @property {boolean} locked whether nothing is shown, since the desk has not answered for so long
+ * @property {string} opensUntil the moment until which it is shown without a line; empty where nothing has answered yet
  */
 
 /** Something that waits for so many milliseconds is said to wait. */
@@ -34,7 +37,7 @@ export const sheetName = (vehicle, day) => `${vehicle} ${day}`;
 
 /** @param {number} vehicle @param {string} day @returns {State} */
 export const stateOf = (vehicle, day) => ({ vehicle, day, today: today(), now: momentNow(), read: null, kept: [], loose: [], opened: null, denied: null,
-    silent: false, noRoom: null, gone: "", before: null, begun: false, waits: 0 });
+    silent: false, noRoom: null, gone: "", before: null, begun: false, waits: 0, locked: false, opensUntil: "" });
 
 /** @param {State} state */
 export const allOf = ({ kept, loose }) => [...kept, ...loose];
@@ -50,10 +53,22 @@ export const shownDay = (state) => dayOf(state.read?.stops ?? [], logOf(state));
 /** @param {State} state */
 export const namesOf = (state) => state.read?.names ?? NO_NAMES;
 
-/** Denials that nobody has read.
- * @param {State} state */
-export const deniedIn = (state) => allOf(state).filter((entry) => entry.state === "denied" && !entry.tap.seen);
+/** Whether the desk has another outcome than the one that was told here.
+ * @param {Entry} entry */
+export const isOther = ({ tap }) => Boolean(tap.onRecord) && tap.onRecord !== tap.what;
 
-/** What has waited for a while: not what is under way.
+/** Denials that nobody has read, and outcomes of which the desk turned out to have another one.
+ * @param {State} state */
+export const deniedIn = (state) => allOf(state).filter((entry) => (entry.state === "denied" || isOther(entry)) && !entry.tap.seen);
+
+/** What has waited for a while: not what is under way, and not what is held here so that it can be undone.
  * @param {Entry[]} kept */
-export const waitingIn = (kept) => kept.filter(({ state, since }) => state === "waiting" && serverNow() - since > SETTLES);
+export const waitingIn = (kept) => kept.filter((entry) => entry.state === "waiting" && !heldFor(entry) && serverNow() - entry.since > SETTLES);
+
+/** What is held here so that it can be undone.
+ * @param {Entry[]} kept */
+export const heldIn = (kept) => kept.filter((entry) => heldFor(entry) > 0);
+
+/** Minutes by which the van is behind its plan; 0 on a day that is not today.
+ * @param {State} state */
+export const behind = (state) => (state.day === state.today ? behindBy(shownDay(state).stops, logOf(state), state.day, state.now) : 0);

@@ -2,20 +2,25 @@
 // it, and the manifest last read is there without a line. The day is the server's, and a new one is gone to by itself.
 
 import { agency, vehicleName } from "../parts/agency.js";
-import { clock, dayInWords, momentNow, plus, today } from "../parts/clock.js";
+import { clock, dayInWords, momentAt, momentNow, plus, serverNow, today } from "../parts/clock.js";
+import * as desk from "../parts/desk.js";
 import { make, part, say } from "../parts/element.js";
+import { forgetAllDays, forgetDaysBefore } from "../parts/manifest-copies.js";
 import { sheetOf } from "../parts/paper.js";
-import { entries, onChange, prune, sendAll, sendTallies } from "../parts/queue.js";
+import { annotate, entries, isKnownHere, onChange, prune, sendAll, sendTallies, whyStopped } from "../parts/queue.js";
 import { makeScreen } from "../parts/screen.js";
 import { keepSubject, subjectOf, withSubject } from "../parts/subject.js";
 import { t } from "../parts/words.js";
 import { actsOf } from "./driver-acts.js";
-import { dayOf, leftOpen, waitAt } from "./driver-day.js";
+import { leftOpen, waitAt } from "./driver-day.js";
 import { keepFiles } from "./driver-files.js";
+import { forgetAndLeave } from "./driver-gone.js";
 import { footOf, headOf, listOf, noticesOf } from "./driver-list.js";
+import { lockOfPhone } from "./driver-lock.js";
 import { keepVehicle, keptDay, keptVehicle, NO_NAMES, readDay, whoAt } from "./driver-read.js";
-import { logOf, namesOf, shownDay, stateOf, waitingIn } from "./driver-state.js";
+import { behind, heldIn, logOf, namesOf, shownDay, stateOf, waitingIn } from "./driver-state.js";
 import { stopCard, TITLE } from "./driver-stop.js";
+import { disagreementTold } from "./driver-told.js";
 
 /** @typedef {import("./driver-state.js").State} State */
 /** @typedef {import("./driver-read.js").Read} Read */
@@ -37,72 +42,135 @@ const waitsAt = (state, now) => shownDay(state).stops.map((stop) => waitAt(stop,
 /** @param {State} state @param {ReturnType<typeof actsOf> & { show: (day: string) => void }} acts */
 function drawn(state, acts) {
     const { stops, next } = shownDay(state), shown = stops.find(({ name }) => name === state.opened) ?? stops[next], { read, day, today: now } = state;
-    const about = { day, now: state.now, names: namesOf(state), hasCome: day <= now, isOver: day < now, noRoom: state.noRoom };
+    const about = { day, now: state.now, names: namesOf(state), hasCome: day <= now, isOver: day < now, noRoom: state.noRoom,
+        behind: behind(state) };
     const none = read && part("section", { class: "card driver-stop", key: "none" },
         part("h2", { id: TITLE, tabindex: -1 }, t(stops.length ? "driver.all-passed" : "driver.no-stops")));
+    if (state.locked) return [headOf(state, acts), noticesOf(state, acts), footOf(state, acts)];
     return [headOf(state, acts), noticesOf(state, acts), shown ? stopCard(shown, about, acts) : none, footOf(state, acts), listOf(state, acts),
         read && part("details", { class: "card", key: "printed" }, part("summary", {}, t("driver.printed")),
             sheetOf(t("driver.printed-of", { vehicle: vehicleName(state.vehicle), day: dayInWords(day) }), read.text))];
 }
 
+/** Outcomes that the desk denied since it has one already, and of which it is not known yet which.
+ * @param {State} state */
+const disputed = (state) => logOf(state).filter(({ denied, tap }) => denied === "desk.over" && (tap.onRecord ?? "unknown") === "unknown");
+
+/** Compares what was told here with what the desk has, keeps that, and tells the site's log where they differ. Where it is not known what the desk
+ * has, a denied outcome counts as one that differs: somebody has to look.
+ * @param {State} state @param {import("./driver-read.js").Records} records */
+async function compare(state, records) {
+    for (const { order, state: how, tap } of disputed(state)) {
+        const onRecord = records[tap.trip] ?? (how === "denied" ? "unknown" : undefined);
+        if (!onRecord || onRecord === tap.onRecord) continue;
+        const differs = onRecord !== tap.what && !tap.onRecord;
+        await annotate(order, { onRecord }, differs ? [disagreementTold({ vehicle: state.vehicle, trip: tap.trip, record: onRecord, told: tap.what,
+            at: tap.at })] : []).catch(() => {});
+    }
+}
+
+/** Forgets the days that are over, but for those that are not closed.
+ * @param {State} state */
+function forgetOld(state) {
+    const sheets = [...new Set(state.kept.map(({ sheet }) => sheet))];
+    return forgetDaysBefore(today(), sheets.filter((it) => leftOpen(state.kept.filter(({ sheet }) => sheet === it)) > 0));
+}
+
 /** Reads the manifest that is shown, and the log.
- * @param {ReturnType<typeof makeScreen<State>>} screen */
-function readerOf(screen) {
+ * @param {ReturnType<typeof makeScreen<State>>} screen @param {ReturnType<typeof lockOfPhone>} lock */
+function readerOf(screen, lock) {
     let isAsking = false;
+    /** Nobody has this key any more: nothing of it stays to be seen. */
+    const forget = () => {
+        const { vehicle, day } = screen.state;
+        screen.change(stateOf(vehicle, day));
+        return forgetAndLeave();
+    };
+    /** @param {Extract<Awaited<ReturnType<typeof readDay>>, Read>} told */
+    const take = ({ records, ...told }) => {
+        const before = screen.state.read, gone = before ? goneFrom(before, told) : "";
+        screen.change({ silent: false, denied: null, locked: false, read: told, gone: gone || screen.state.gone });
+        keepVehicle(screen.state.vehicle);
+        keepFiles();
+        sendAll();
+        return compare(screen.state, records);
+    };
     const reader = {
         async relog() {
-            const kept = await entries().catch(() => []);
+            if (whyStopped()) return forget();
+            const kept = await entries().catch(() => []), known = disputed(screen.state).length;
             screen.change({ kept, now: momentNow(), waits: waitingIn(kept).length });
+            // (another window may have found that nobody has this key any more)
+            if (screen.state.read && !await isKnownHere(desk.digest() ?? "")) return reader.refresh();
+            return disputed(screen.state).length > known ? reader.refresh() : undefined;
         },
         /** Asks once; what is shown stays until the answer is there.
          * @returns {Promise<void>} */
         async refresh() {
             if (isAsking) return;
             isAsking = true;
-            const { vehicle, day, read } = screen.state, told = await readDay(vehicle, day, read?.names ?? NO_NAMES);
+            const { vehicle, day, read } = screen.state, told = await readDay(vehicle, day, read?.names ?? NO_NAMES, disputed(screen.state).length > 0);
             isAsking = false;
+            if ("denied" in told && told.denied === "desk.key") return forget();
+            if (!("silent" in told)) lock.answered();
             if (screen.state.day !== day) return reader.refresh();
             if ("silent" in told) return screen.change({ silent: true });
             if ("denied" in told) return screen.change({ silent: false, denied: told.denied === "left" ? null : told.denied });
-            const before = screen.state.read, gone = before ? goneFrom(before, told) : "";
-            screen.change({ silent: false, denied: null, read: told, gone: gone || screen.state.gone });
-            keepVehicle(vehicle);
-            keepFiles();
+            return take(told);
         },
-        /** Shows a day: its copy first.
+        /** Shows a day: its copy first, where the phone is not locked.
          * @param {string} day */
         async show(day) {
-            const { vehicle, kept, loose, begun } = screen.state;
-            screen.change({ ...stateOf(vehicle, day), kept, loose, waits: waitingIn(kept).length, begun: begun && day === today() });
-            const read = await keptDay(vehicle, day);
-            if (screen.state.day === day && !screen.state.read) screen.change({ read });
+            const { vehicle, kept, loose, begun, locked } = screen.state;
+            screen.change({ ...stateOf(vehicle, day), kept, loose, locked, waits: waitingIn(kept).length, begun: begun && day === today() });
+            await forgetOld(screen.state);
+            const left = await lock.read(), read = left ? await keptDay(vehicle, day) : null;
+            if (screen.state.day === day && !screen.state.read) screen.change({ read, locked: left === 0 });
             await Promise.all([reader.refresh(), reader.lookBack()]);
         },
         /** Whether the day before is closed. */
         async lookBack() {
-            const { vehicle } = screen.state, day = plus(today(), -1), read = await keptDay(vehicle, day), log = logOf(screen.state, day);
-            const count = read ? leftOpen(dayOf(read.stops, log).stops, log) : 0;
+            const day = plus(today(), -1), count = leftOpen(logOf(screen.state, day));
             screen.change({ before: count && screen.state.day !== day ? { day, count } : null });
+        },
+        /** Nothing has answered for so long that what is shown is forgotten. */
+        async lock() {
+            const { vehicle, day, kept, loose } = screen.state;
+            screen.change({ ...stateOf(vehicle, day), kept, loose, waits: waitingIn(kept).length, silent: true, locked: true });
+            await forgetAllDays();
+            await reader.refresh();
         } };
     return reader;
 }
 
+/** Locks what is shown in its time, and says until when it is shown.
+ * @param {ReturnType<typeof makeScreen<State>>} screen @param {ReturnType<typeof readerOf>} reader @param {ReturnType<typeof lockOfPhone>} lock */
+function lockInTime(screen, reader, lock) {
+    const left = lock.tick(), { read, locked, silent, opensUntil } = screen.state, until = read && silent ? momentAt(serverNow() + left) : "";
+    if (left === 0 && read && !locked) return void reader.lock();
+    if (until.slice(0, 16) !== opensUntil.slice(0, 16)) screen.change({ opensUntil: until });
+    return undefined;
+}
+
 /** Goes on with the clock: each second, as long as this is seen.
- * @param {ReturnType<typeof makeScreen<State>>} screen @param {ReturnType<typeof readerOf>} reader */
-function clockOf(screen, reader) {
+ * @param {ReturnType<typeof makeScreen<State>>} screen @param {ReturnType<typeof readerOf>} reader @param {ReturnType<typeof lockOfPhone>} lock */
+function clockOf(screen, reader, lock) {
+    let held = 0;
     /** @param {string} day */
     const newDay = (day) => {
         const follows = screen.state.day === screen.state.today;
         screen.change({ today: day, now: momentNow(), begun: follows });
-        if (!follows) return;
-        reader.show(day);
+        if (!follows) return forgetOld(screen.state);
         say(t("driver.new-day", { day: dayInWords(day) }));
+        return reader.show(day);
     };
     return () => {
+        lockInTime(screen, reader, lock);
         const { state } = screen, now = momentNow(), day = today(), [before, after] = [waitsAt(state, state.now), waitsAt(state, now)];
         if (day !== state.today) return newDay(day);
-        const waits = waitingIn(state.kept).length;
-        if (now.slice(0, 16) !== state.now.slice(0, 16) || before.some(Boolean) || waits !== state.waits) screen.change({ now, waits });
+        const waits = waitingIn(state.kept).length, holds = heldIn(state.kept).length, counts = holds > 0 || holds !== held;
+        held = holds;
+        if (now.slice(0, 16) !== state.now.slice(0, 16) || before.some(Boolean) || waits !== state.waits || counts) screen.change({ now, waits });
         if (before.some((left, at) => left && !after[at])) say(t("driver.wait-over", { minutes: agency().wait_minutes }));
         return undefined;
     };
@@ -128,9 +196,10 @@ function manifestOf(vehicle) {
     /** @type {ReturnType<typeof actsOf> & { show: (day: string) => void }} */
     let acts;
     /** @type {ReturnType<typeof makeScreen<State>>} */
-    const screen = makeScreen({ state: stateOf(vehicle, today()), draw: (state) => (acts ? drawn(state, acts) : []) }), reader = readerOf(screen);
+    const screen = makeScreen({ state: stateOf(vehicle, today()), draw: (state) => (acts ? drawn(state, acts) : []) });
+    const lock = lockOfPhone(), reader = readerOf(screen, lock);
     acts = { ...actsOf(screen, reader.relog), show: (day) => reader.show(day) };
-    screen.every(TICK, clockOf(screen, reader));
+    screen.every(TICK, clockOf(screen, reader, lock));
     screen.every(RENEWED, () => reader.refresh());
     screen.every(AGAIN, () => screen.state.silent && reader.refresh());
     screen.every(TALLIED, () => sendTallies().catch(() => {}));
@@ -152,7 +221,8 @@ function drawManifest() {
     const drawIt = async () => {
         const vehicle = subjectOf("vehicle") ?? await keptVehicle();
         if (vehicle) keepSubject("vehicle", vehicle);
-        place.append(withSubject({ what: "vehicle", label: t("driver.vehicle"), action: t("driver.show"), draw: manifestOf, folded: true }));
+        place.append(withSubject({ what: "vehicle", label: t("driver.vehicle"), action: t("driver.show"), draw: manifestOf, folded: true,
+            change: t("driver.change-van") }));
     };
     drawIt();
     return place;

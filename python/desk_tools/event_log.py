@@ -75,7 +75,7 @@ def read(paths: Iterable[str | Path]) -> Log:
     for at, name in enumerate(names):
         for number, line in enumerate(lines_in(name), 1):
             try:
-                found.append((at, number, told_of(line)))
+                found.append((at, number, whole_of(line)))
             except ValueError as error:
                 broken.append((at, number, str(error)))
     known: dict[str, Told] = {}
@@ -87,17 +87,25 @@ def read(paths: Iterable[str | Path]) -> Log:
 
 
 def lines_in(path: str | Path) -> Iterator[bytes]:
-    """The lines of a log, which may be packed by gzip. Of a line that is too long the beginning is enough."""
+    """The lines of a log with their ends. It may be packed by gzip. Of a line that is too long the beginning is enough."""
     try:
         with gzip.open(path, "rb") if str(path).endswith(".gz") else open(path, "rb") as file:
             while line := file.readline(LONGEST + 2):
                 rest = line
                 while len(rest) == LONGEST + 2 and not rest.endswith(b"\n"):
                     rest = file.readline(LONGEST + 2)
-                yield line.rstrip(b"\r\n")
+                yield line
     except (OSError, EOFError, zlib.error) as error:
         why = getattr(error, "strerror", None) or error
         raise UnreadableLog(f"{path} can't be read: {why}") from None
+
+
+def whole_of(line: bytes) -> Told:
+    """The event of a line with its end. One that is cut off is none: its last field may be, too."""
+    told = told_of(line.rstrip(b"\r\n"))
+    if not line.endswith(b"\n") and not told.by:
+        raise ValueError("it is cut off")
+    return told
 
 
 def told_of(line: bytes) -> Told:

@@ -277,12 +277,9 @@ def _of_length(low: str, high: str) -> list[str]:
 # What is written from the table.
 
 _ASKS = {
-    "anybody": ("auth_request /desk-who;", ""),
-    "staff": ("auth_request /desk-staff-who;", ""),
-    "vehicle": (
-        "auth_request /desk-driver;",
-        "set $vehicle $arg_vehicle;\n        ",
-    ),
+    "anybody": ("@tell-who", ""),
+    "staff": ("@tell-staff-who", ""),
+    "vehicle": ("@tell-driver", "set $vehicle $arg_vehicle;\n        "),
 }
 
 
@@ -294,8 +291,10 @@ def locations() -> str:
         default_type application/json;
         if ($request_method != POST) {{ return 405 '{{"denied":"http.method"}}'; }}
         if ($args !~ "{_for_nginx(pattern_of(event))}") {{ return 400 '{{"denied":"http.field"}}'; }}
-        {_ASKS[event.who][1]}{_ASKS[event.who][0]}
-        try_files /tally/none @tallied;
+        {_ASKS[event.who][1]}set $desk_seen asking;
+        auth_request /desk-seen;
+        auth_request_set $desk_seen $upstream_cache_status;
+        try_files /none {_ASKS[event.who][0]};
     }}
 """
         for event in EVENTS.values()

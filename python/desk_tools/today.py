@@ -26,6 +26,8 @@ log = logging.getLogger("today")
 EVERY = 10.0
 # How long a trip may be told before its day: what came before that is passed over.
 DAYS_KEPT = 16
+# Taps are many, and one that comes on a later day is of no day that is shown.
+DAYS_OF_TAPS = 1
 # How long a log that was rotated is still looked at, since the site may still write into it.
 SECONDS_AFTER = 300.0
 MARK = 64
@@ -61,7 +63,7 @@ class Followed:
             self.mark = (self.mark + piece)[-MARK:]
             *whole, self.rest = (self.rest + piece).split(b"\n")
             self.rest = self.rest[: LONGEST + 1]
-            yield from whole
+            yield from (it + b"\n" for it in whole)
 
     def last_line(self) -> Iterator[bytes]:
         """A line without its end, of a log that nobody writes any more."""
@@ -142,15 +144,18 @@ class Known:
     events: dict[str, Told] = field(default_factory=dict)
     broken: int = 0
     first: datetime.date = datetime.date.min
+    first_tap: datetime.date = datetime.date.min
 
     def take(self, lines: Iterable[bytes]) -> bool:
-        """Takes the events of some lines; whether there was a new one."""
+        """Takes the events of some lines with their ends; whether there was a new one."""
         oldest, count = self.first.isoformat().encode(), len(self.events)
+        oldest_tap = self.first_tap.isoformat().encode()
         for line in lines:
-            if line[:10] < oldest and line[:2] == b"20":
+            is_tap = b"\t/tally/stops\t" in line
+            if line[:10] < (oldest_tap if is_tap else oldest) and line[:2] == b"20":
                 continue
             try:
-                told = event_log.told_of(line.rstrip(b"\r"))
+                told = event_log.whole_of(line)
             except ValueError as error:
                 self.broken += 1
                 if self.broken <= 10:
@@ -159,10 +164,14 @@ class Known:
             self.events.setdefault(told.id, told)
         return len(self.events) > count
 
-    def drop_before(self, first: datetime.date) -> None:
-        """Forgets what was told before a day."""
-        self.first = first
-        self.events = {key: it for key, it in self.events.items() if it.received.date() >= first}
+    def keep_for(self, day: datetime.date) -> None:
+        """Forgets what the file of a day does not need."""
+        self.first = day - datetime.timedelta(days=DAYS_KEPT)
+        self.first_tap = day - datetime.timedelta(days=DAYS_OF_TAPS)
+        self.events = {key: it for key, it in self.events.items() if self._is_kept(it)}
+
+    def _is_kept(self, told: Told) -> bool:
+        return told.received.date() >= (self.first_tap if told.kind == "stops" else self.first)
 
 
 # The file.
@@ -290,7 +299,7 @@ class Work:
 
     def begin(self, now: datetime.datetime) -> None:
         """Reads what was told in the last days, also out of logs that were rotated since."""
-        self.known.drop_before(now.date() - datetime.timedelta(days=DAYS_KEPT))
+        self.known.keep_for(now.date())
         since = now.timestamp() - DAYS_KEPT * 86_400
         for path in rotated(self.follower.path, since):
             try:
@@ -305,7 +314,7 @@ class Work:
         today = now.astimezone(zone).date()
         is_new = self.known.take(self.follower.lines(now.timestamp()))
         if is_new or self.made_for != (today, str(zone)):
-            self.known.drop_before(today - datetime.timedelta(days=DAYS_KEPT))
+            self.known.keep_for(today)
             self.told = day_of(self.known, today, zone)
             self.made_for = today, str(zone)
         made = now.astimezone(datetime.timezone.utc).strftime("%Y-%m-%dT%H:%M:%SZ")

@@ -1,8 +1,13 @@
 """The admin's keys, fares, places, lines and names."""
+import csv
+import hashlib
+import io
 import json
 import os
+import re
 
 from selenium.webdriver.common.by import By
+from selenium.webdriver.common.keys import Keys
 
 from checks import check, holds, same
 from database import until
@@ -81,6 +86,65 @@ def a_line_that_is_there_is_replaced_only_after_a_question(at):
     at.browser.press("Put the line")
     at.browser.sees("Line 7 is there already. Replace it?")
     at.browser.press("No, go back")
+
+
+CALLERS = """number,name,role,subject,from,to,digits
+2,Ben Ode,clerk,,2020-01-01,,
+70,"Cruz, Eva",driver,1,2026-01-02,,
+71,,king,,,,
+"""
+
+
+@check
+def a_key_is_canceled_and_the_list_has_names_and_is_saved_and_loaded(at):
+    at.browser.sign_in(at.keys["admin"], "admin", "callers")
+    at.browser.fill("Name", "Ana Núñez")
+    make_key(at, 40, "Dispatcher")
+    at.browser.press("Yes, make a key for caller 40, Dispatcher")
+    at.browser.sees("The key of caller 40, Dispatcher")
+    key = at.browser.script("return document.querySelector('output.key').textContent").replace("-", "")
+    holds("the card names the person", "Ana Núñez" in at.browser.print_by("Print the card of caller 40").text)
+    same("the next number", "41", at.browser.value("Caller number"))
+    same("the key works", 200, at.town.answer("/days/2025-03-10/sheet", {"Desk-Key": key})[0])
+    at.browser.press("Cancel this key: caller 40, Ana Núñez, Dispatcher")
+    at.browser.sees("Cancel the key of caller 40, Ana Núñez, Dispatcher?", "It stops working at once")
+    at.browser.press("Yes, cancel the key of caller 40")
+    at.browser.sees("The key of caller 40 is canceled.", "canceled ")
+    same("the canceled key", 401, at.town.answer("/days/2025-03-10/sheet", {"Desk-Key": key})[0])
+    holds("a canceled key is offered to be canceled", not at.browser.all("button", re.compile("caller 40, Ana")))
+    holds("the first admin's key is offered to be canceled", not at.browser.all("button", re.compile("Cancel this key: caller 1,")))
+    at.browser.fill("Name of caller 2", "Ben")
+    at.browser.keys(Keys.TAB)
+    at.browser.script(SAVED)
+    at.browser.press("Save the list as a file")
+    saved = bytes(until("nothing is saved", lambda: at.browser.script("return window.saved[0]"))).decode("utf-8-sig")
+    rows = list(csv.reader(io.StringIO(saved)))
+    same("the columns", ["number", "name", "role", "subject", "from", "to", "digits"], rows[0])
+    same("names beside numbers", [("2", "Ben", "clerk"), ("40", "Ana Núñez", "dispatcher")], [tuple(row[:3]) for row in rows if row[0] in ("2", "40")])
+    holds("a key or a whole digest is in the file", key not in saved and hashlib.sha256(key.encode()).hexdigest() not in saved)
+    path = os.path.join(at.folder, "callers.csv")
+    with open(path, "w", encoding="utf-8") as file:
+        file.write(CALLERS)
+    at.browser.driver.find_element(By.ID, "callers-file").send_keys(path)
+    at.browser.sees("2 callers read from the file. These rows have no right number or role and were left out: 4.")
+    same("a name of the file", "Cruz, Eva", at.browser.value("Name of caller 70"))
+    same("a later row of this browser stays", "Ben", at.browser.value("Name of caller 2"))
+    same("the next number then", "71", at.browser.value("Caller number"))
+
+
+@check
+def who_cancels_the_own_key_is_not_locked_out(at):
+    at.browser.sign_in(at.keys["admin"], "admin", "callers")
+    make_key(at, 50, "Admin")
+    at.browser.press("Yes, make a key for caller 50, Admin")
+    at.browser.sees("The key of caller 50, Admin")
+    own = at.browser.script("return document.querySelector('output.key').textContent")
+    at.browser.sign_in(own, "admin", "callers")
+    at.browser.press("Cancel this key: caller 50, Admin")
+    at.browser.press("Yes, cancel the key of caller 50")
+    at.browser.sees("That was your own key. This is your new one.", "The key of caller 50, Admin")
+    new = at.browser.script("return document.querySelector('output.key').textContent").replace("-", "")
+    same("the old and the new key", [401, 403], [at.town.answer("/days/2025-03-10/sheet", {"Desk-Key": it})[0] for it in (own.replace("-", ""), new)])
 
 
 def chosen_file(at, content):

@@ -111,7 +111,7 @@ def signing_in_says_what_is_wrong_with_a_key(at):
     same("the focus", True, at.browser.focused().startswith("Key"))
     at.browser.fill("Key", "nobody")
     at.browser.press("Sign in")
-    at.browser.sees("Nobody has this key.")
+    at.browser.sees("We don't recognize this key.")
 
 
 @check

@@ -1,13 +1,14 @@
 """What is counted is counted: from a click to bin/tally's row, over a site that is away, reloads, windows and no room."""
 import csv
 import io
+import os
 import subprocess
 
 from booking import BOOK, begin, results, wish
 from browser import pause
 from checks import check, holds, same
-from database import ROOT, Trouble, until
-from people import EVERY_DAY
+from database import ROOT, Trouble, clocked, until
+from people import EVERY_DAY, TODAY
 
 VANS = 1
 FULL, BEFORE, ASKING = "2025-03-19", "2025-03-13", 1002
@@ -181,3 +182,24 @@ def a_cancel_is_told_once_and_a_denied_one_is_not(at):
         """, trip)
     until("it is in the log", lambda: lines(at, f"/tally/cancellations\tid=") and not waiting(at))
     same("once", 1, len([it for it in lines(at, "/tally/cancellations") if f"trip={trip}&by=rider" in it]))
+
+
+@check
+def a_tap_and_a_note_go_from_the_drivers_phone_to_the_file_of_the_day(at):
+    at.browser.sign_in(at.keys["driver 1"], "driver")
+    count(at, "stops", vehicle=1, trip=7, event="arrived")
+    count(at, "notes", vehicle=1, day=TODAY, trip=0, text="llanta ponchada ñ 🚐")
+    count(at, "stops", vehicle=2, trip=7, event="arrived")
+    until("they are in the log", lambda: lines(at, "/tally/notes") and lines(at, "/tally/stops"))
+    until("another van's tap stays", lambda: [it["refused"] for it in waiting(at)] == ["403"])
+    output = f"{at.folder}/site/staff/today.json"
+    words = [f"{ROOT}/deploy/today", f"{at.folder}/tally.log", output, "--agency", f"{at.folder}/site/agency.json"]
+    made = subprocess.run([*words, "--once"], env=clocked(at.town.desk.clock), capture_output=True, text=True)
+    same("deploy/today", (0, ""), (made.returncode, made.stderr))
+    os.chmod(output, 0o644)
+    told = at.town.get("dispatcher", "/staff/today.json")
+    same("its day", TODAY, told["day"])
+    same("the tap, by the agency's clock", {"1": {"taps": [{"trip": 7, "kind": "arrived", "minute": 720}]}}, told["vehicles"])
+    same("the note", ["llanta ponchada ñ 🚐"], [it["text"] for it in told["notes"]])
+    same("a driver's key gets none of it", {"denied": "desk.caller"}, at.town.get("driver 1", "/staff/today.json"))
+    at.browser.fresh()

@@ -1,6 +1,7 @@
 """The dispatcher's day: picture, trips, outcomes, vehicles out of service, paper."""
 import csv
 import io
+import json
 import re
 
 from selenium.webdriver.common.keys import Keys
@@ -8,7 +9,7 @@ from selenium.webdriver.common.keys import Keys
 from checks import check, holds, same
 from database import Trouble, until
 from middle import UNHEARD
-from people import TRAVELERS, vans_of
+from people import RIDERS, TRAVELERS, vans_of
 from scripts import SAVED
 
 VANS = 6
@@ -39,12 +40,12 @@ function sheetOf(vans, trips) {
 """
 # Such a sheet given to the pages' own printing; it gives the text, and the seconds until it is laid out.
 PRINTS_MADE = SHEET + """
-const [vans, trips, whole, done] = arguments, text = sheetOf(vans, trips);
+const [vans, trips, whole, original, done] = arguments, text = sheetOf(vans, trips);
 Promise.all([import("/parts/paper-day.js"), import("/parts/texts.js")]).then(([paper, texts]) => {
     window.print = () => {};
     const began = performance.now(), manifests = texts.manifestsIn(text);
-    if (whole) paper.printDaySheet("2025-03-11", manifests, text);
-    else paper.printManifests(manifests, new Map());
+    if (whole) paper.printDaySheet("2025-03-11", manifests, text, { original });
+    else paper.printManifests(manifests, new Map(), { original });
     document.getElementById("paper").getBoundingClientRect();
     done([text, (performance.now() - began) / 1000]);
 }).catch((error) => done([String(error), -1]));
@@ -70,6 +71,10 @@ def sign_in(at, day, hour, part=""):
 
 def rows_of(at, day=DAY):
     return list(csv.DictReader(io.StringIO(at.town.get("dispatcher", f"/days/{day}/trips.csv"))))
+
+
+def booked_on(at, day, vehicle=None):
+    return [row for row in rows_of(at, day) if row["status"] == "booked" and vehicle in (None, row["vehicle"])]
 
 
 def lacking(lines, paper):
@@ -102,14 +107,14 @@ def the_picture_says_how_each_trip_does_and_the_table_says_the_same(at):
     for (_, trip), outcome in zip(trips, ["ridden", "missed-rider", "missed-operator"]):
         at.town.post("dispatcher", f"/trips/{trip}/outcome", {"outcome": outcome})
     sign_in(at, DAY, "10:30")
-    at.browser.sees(VAN_1, "3 of", "2 missed", "without word")
-    at.browser.press("The same as a table")
-    at.browser.sees("Each stop of the day", "missed by the rider", "missed by the agency", "under way by the plan",
-                    "no word for", "to come")
+    at.browser.sees(VAN_1, "3 of", "2 missed", "without outcome")
+    at.browser.press("View as table")
+    at.browser.sees("Each stop of the day", "no-show", "missed by us", "under way by the plan",
+                    "no update for", "to come")
     drawn = at.browser.script("""return ["ridden", "missed-rider", "missed-operator"]
         .map((it) => document.querySelector(`.lane .told.${it}`) !== null)""")
     same("the picture has these outcomes", [True, True, True], drawn)
-    at.browser.press("The same as a table")
+    at.browser.press("View as table")
 
 
 @check
@@ -205,6 +210,7 @@ def nothing_moves_sideways_on_320_pixels(at):
 def a_manifest_is_printed_for_a_driver_without_a_phone(at):
     sign_in(at, DAY, "10:30")
     at.browser.press(vehicle_row(VAN_2))
+    at.browser.fill("Print with the original text", True)
     paper = at.browser.print_by("Print this manifest")
     is_right(paper)
     lines = at.town.get("dispatcher", f"/vehicles/2/manifest/{DAY}").splitlines()
@@ -223,10 +229,11 @@ def a_manifest_is_printed_for_a_driver_without_a_phone(at):
 def all_manifests_and_the_day_sheet_have_every_line_of_the_desk(at):
     lines = at.town.get("dispatcher", f"/days/{DAY}/sheet").splitlines()
     busy = [line for line in lines if not re.match("NO STOPS|TRIPS", line) and not re.match("VEHICLE [3-6] ", line)]
+    at.browser.fill("Print with the original text", True)
     paper = at.browser.print_by(re.compile("^Print all 2 manifests"))
     is_right(paper)
     same("lines that are not printed", [], lacking(busy, paper))
-    same("pages that do not name one van", [], [page[:200] for page in paper.page_texts if page.count("Manifest, Van") != 1])
+    same("pages that name two vans", [], [page[:200] for page in paper.page_texts if page.count("Manifest, Van") > 1])
     over(at)
     paper = at.browser.print_by("Print the day sheet")
     is_right(paper)
@@ -237,12 +244,15 @@ def all_manifests_and_the_day_sheet_have_every_line_of_the_desk(at):
 @check
 def fifty_vans_are_printed_each_on_its_page(at):
     for vans, trips in [(1, 6), (6, 36), (50, 300)]:
-        text, seconds = at.browser.driver.execute_async_script(PRINTS_MADE, vans, trips, False)
+        text, seconds = at.browser.driver.execute_async_script(PRINTS_MADE, vans, trips, False, False)
         paper = at.browser.printed()
         same(f"pages of {vans} vans", vans, paper.pages)
-        same("lines that are not printed", [], lacking(text.splitlines()[:-1], paper))
+        stops = re.findall(r"(PICK|DROP) trip (\d+)", text)
+        printed = words_of(paper.text)
+        same("stops that are not printed", [], [it for it in stops
+                                                if f"{'PICK UP' if it[0] == 'PICK' else 'DROP'} trip {it[1]} " not in printed])
         over(at)
-        text, laid = at.browser.driver.execute_async_script(PRINTS_MADE, vans, trips, True)
+        text, laid = at.browser.driver.execute_async_script(PRINTS_MADE, vans, trips, True, True)
         paper = at.browser.printed()
         is_right(paper)
         same("lines that are not on the day sheet", [], lacking(text.splitlines(), paper))
@@ -250,18 +260,135 @@ def fifty_vans_are_printed_each_on_its_page(at):
         over(at)
 
 
+# 32 vans at 22 trips are at most so many pages; the manifests of such a day were 155, and its sheet 78.
+MOST_PAGES = {False: 100, True: 40}
+
+
+@check
+def a_large_day_is_printed_on_few_pages(at):
+    for whole, most in MOST_PAGES.items():
+        text, _ = at.browser.driver.execute_async_script(PRINTS_MADE, 32, 704, whole, False)
+        paper = at.browser.printed()
+        is_right(paper)
+        holds(f"{paper.pages} pages: {text[:80]}", paper.pages <= most)
+        print(f"pages of {'the day sheet' if whole else 'the manifests'} of 32 vans: {paper.pages}")
+        over(at)
+
+
 # Trips of the day.
+
+
+def end_trip(at, trip, how, press=None):
+    """Says how a trip ended, by its row."""
+    (press or at.browser.press)(re.compile(f"^Set the outcome of trip {trip} of"))
+    (press or at.browser.press)(how)
+    at.browser.sees(f"Trip {trip}: {how}.")
+
+
+def open_closing(at):
+    until("no van can be closed out", lambda: at.browser.script(
+        "const it = document.querySelector('.closing'); if (it) it.open = true; return Boolean(it)"))
 
 
 @check
 def one_trip_ends_and_its_answer_is_where_it_was(at):
     sign_in(at, DAY, "23:00", "trips")
     trip = next(row["trip"] for row in rows_of(at) if row["vehicle"] == "2" and row["status"] == "booked")
-    at.browser.press(re.compile(f"^Rider missed: trip {trip} of"))
-    at.browser.press("Yes: Rider missed")
-    at.browser.sees(f"Trip {trip}: Rider missed.")
-    same("the focus", f"Trip {trip}: Rider missed.", at.browser.focused())
+    end_trip(at, trip, "No-show")
+    same("the focus", f"Trip {trip}: No-show.", at.browser.focused())
     same("what the desk has", "missed-rider", next(row["status"] for row in rows_of(at) if row["trip"] == trip))
+
+
+@check
+def a_van_is_closed_by_its_planned_drops_and_who_is_still_aboard_stays(at):
+    text = at.town.get("dispatcher", f"/vehicles/1/manifest/{DAY}")
+    drops = {it[3]: int(it[1]) * 60 + int(it[2]) for it in re.finditer(r"(\d\d):(\d\d) DROP trip (\d+)", text)}
+    rows = [it for it in booked_on(at, DAY) if it["vehicle"] == "1"]
+    row = next(it for it in rows if drops[it["trip"]] > int(it["window_to"]) + 2)
+    minute = drops[row["trip"]] - 1
+    aboard = [it["trip"] for it in rows if int(it["window_to"]) < minute <= drops[it["trip"]]]
+    holds(f"nobody is aboard at {minute}: {row} {drops}", aboard)
+    past = [it["trip"] for it in rows if drops[it["trip"]] < minute]
+    sign_in(at, DAY, f"{minute // 60:02}:{minute % 60:02}", "trips")
+    if not past:
+        at.browser.settled(500)
+        same("vans to close", False, at.browser.is_there("button", re.compile(f"of {VAN_1} completed$")))
+    else:
+        open_closing(at)
+        at.browser.find("button", re.compile(f"remaining {len(past)} trips? of {VAN_1} completed"))
+    sign_in(at, DAY, "23:00", "trips")
+
+
+@check
+def one_search_finds_by_all_words_and_opens_the_manifest_at_the_stop(at):
+    row = booked_on(at, DAY)[-1]
+    rider = int(row["rider"])
+    name, telephone = next((it[1], it[2]) for it in RIDERS if it[0] == rider)
+    sign_in(at, DAY, "10:30")
+    for words in [name.split()[-1], telephone, f"{name.split()[0]} van {row['vehicle']}", f"{row['trip']} {rider}"]:
+        at.browser.fill("Search trips", words)
+        at.browser.find("button", re.compile(f"trip {row['trip']}\\b"))
+    at.browser.sees(telephone)
+    at.browser.press(re.compile(f"trip {row['trip']}\\b"))
+    marked = until("no stop is marked", lambda: at.browser.script("""const it = document.querySelector('.van-stops .marked');
+        if (!it) return null;
+        const list = it.parentElement.getBoundingClientRect(), box = it.getBoundingClientRect();
+        return [it.textContent, box.top >= list.top - 2 && box.top < list.bottom]"""))
+    holds(f"another stop is marked: {marked}", str(row["trip"]) in marked[0] and marked[1])
+    sign_in(at, DAY, "23:00", "trips")
+    at.browser.fill("Search trips", f"{name.split()[-1]} {row['vehicle']}")
+    until("it is not found", lambda: str(row["trip"]) in at.browser.text())
+    at.browser.press(re.compile(f"show trip {row['trip']} on the day"))
+    until("the day is not open at it", lambda: at.browser.script("return document.querySelector('.van-stops .marked') !== null"))
+    sign_in(at, DAY, "23:00", "trips")
+
+
+# What drivers told of vans 1 and 2.
+def told_file(at, minute, taps):
+    made = at.town.get("dispatcher", f"/days/{DAY}/sheet") and json.dumps({
+        "day": DAY, "made": f"{DAY}T{minute // 60 + 4:02}:{minute % 60:02}:00Z", "vehicles": {"1": {"taps": taps}}, "notes": [],
+        "bookings": {}, "no_shows": [], "disagreements": [{"trip": 1, "vehicle": 2, "record": "ridden",
+                                                           "told": "missed-rider", "minute": minute}], "calls": {}})
+    at.town.write_file("staff/today.json", made)
+
+
+@check
+def what_needs_a_person_stands_on_top_and_leads_to_its_row(at):
+    text = at.town.get("dispatcher", f"/vehicles/1/manifest/{DAY}")
+    minutes, trip = next((int(it[1]) * 60 + int(it[2]), int(it[3])) for it in re.finditer(r"(\d\d):(\d\d) PICK trip (\d+)", text)
+                         if any(row["trip"] == it[3] and row["status"] == "booked" for row in rows_of(at, DAY)))
+    late = minutes + 24
+    told_file(at, late + 1, [{"trip": trip, "kind": "aboard", "minute": late}])
+    sign_in(at, DAY, f"{(late + 1) // 60:02}:{(late + 1) % 60:02}")
+    at.browser.sees("Late, min", "24 min late", "Entries that disagree")
+    at.browser.press(f"{VAN_1}: 24 minutes late")
+    at.browser.sees(f"Manifest, {VAN_1}")
+    at.browser.fill("Only vans that need a person", True)
+    first = at.browser.script("return document.querySelector('.lane-row').dataset.row")
+    same("the first row", "1", first)
+    at.town.write_file("staff/today.json", None)
+    sign_in(at, DAY, "10:30")
+    at.browser.sees("Drivers' taps are not here, so late vans can't be shown.")
+    sign_in(at, DAY, "23:00", "trips")
+
+
+@check
+def the_day_fills_the_window_and_trips_begin_above_the_fold(at):
+    sign_in(at, DAY, "23:00", "trips")
+    for width, height, vans in [(1366, 768, 14), (2560, 1440, 32)]:
+        with at.browser.screen(width, height):
+            at.browser.script(READS_MADE, 36, 700)
+            at.browser.press("Day", "link")
+            at.browser.sees("700 trips on this day.")
+            seen = until("no rows", lambda: at.browser.script("""const frame = document.querySelector('#picture')?.getBoundingClientRect();
+                return [...document.querySelectorAll('.lane-row')].filter((it) => it.getBoundingClientRect().bottom <= frame.bottom + 1
+                    && frame.bottom <= innerHeight).length"""))
+            holds(f"{seen} vans are in view at {width}x{height}", seen >= vans)
+            at.browser.press("Trips of the day", "link")
+    sign_in(at, DAY, "23:00", "trips")
+    with at.browser.screen(1366, 768):
+        top = until("no trip", lambda: at.browser.script("return document.querySelector('.day-trips tbody tr')?.getBoundingClientRect().top"))
+        holds(f"the first trip begins at {top}", top < 260)
 
 
 @check
@@ -269,7 +396,7 @@ def the_head_stays_and_no_button_is_cut(at):
     with at.browser.screen(1366, 768):
         at.browser.script("document.querySelector('.tall > .scroll').scrollTop = 900")
         top, head, cut = at.browser.script("""const box = document.querySelector('.tall > .scroll');
-            const edge = box.getBoundingClientRect(), buttons = [...box.querySelectorAll('.outcomes button')];
+            const edge = box.getBoundingClientRect(), buttons = [...box.querySelectorAll('td:last-child button')];
             return [edge.top, box.querySelector('thead th').getBoundingClientRect().top,
                 buttons.filter((it) => it.getBoundingClientRect().right > edge.right).length]""")
         holds(f"the head is at {head}, the box at {top}", abs(head - top) < 4)
@@ -280,10 +407,11 @@ def the_head_stays_and_no_button_is_cut(at):
 def all_the_rest_of_a_van_is_asked_once_and_done_once_though_the_line_breaks(at):
     rest = [row["trip"] for row in rows_of(at) if row["vehicle"] == "2" and row["status"] == "booked"]
     at.town.middle.breaks(UNHEARD, times=2)
-    at.browser.press(f"All the rest of {VAN_2} ridden ({len(rest)})")
-    at.browser.sees(f"{VAN_2}: {len(rest)} trips ridden?", f"trip {rest[0]}")
-    at.browser.press(f"Yes: {len(rest)} trips ridden")
-    until("they are not done", lambda: f"{VAN_2}: {len(rest)} trips ridden." in at.browser.text())
+    open_closing(at)
+    at.browser.press(f"Mark the remaining {len(rest)} trips of {VAN_2} completed")
+    at.browser.sees(f"{VAN_2}: mark {len(rest)} trips completed?", f"trip {rest[0]}")
+    at.browser.press(f"Yes: {len(rest)} trips completed")
+    until("they are not done", lambda: f"{VAN_2}: {len(rest)} trips completed." in at.browser.text())
     states = {row["trip"]: row["status"] for row in rows_of(at)}
     same("not ridden", [], [trip for trip in rest if states[trip] != "ridden"])
 
@@ -302,7 +430,7 @@ def the_export_is_the_desks_own_or_one_for_a_spreadsheet(at):
     row = next(it for it in rows if it["Rider"] == "1001")
     minute = int(told[row["Trip"]]["window_from"])
     shown = f"{minute // 60 % 12 or 12}:{minute % 60:02} {'PM' if minute >= 720 else 'AM'}"
-    same("a row", ["Rosa Álvarez", shown], [row["Name"], row["Promised from"]])
+    same("a row", ["Rosa Álvarez", shown], [row["Name"], row["Window from"]])
     holds(f"no dollars: {row['Due ($)']}", re.fullmatch(r"\d+\.\d\d", row["Due ($)"]))
 
 
@@ -358,16 +486,15 @@ def a_day_of_ninety_six_trips_is_closed_in_twenty_clicks(at):
         at.browser.press(*arguments)
     click("Trips of the day", "link")
     at.browser.sees(f"{CLOSED_TRIPS} of {CLOSED_TRIPS}")
-    missed = [row["trip"] for row in booked_on(at, BUSY)][:2]
-    for trip, how in zip(missed, ["Rider missed", "Agency missed"]):
-        click(re.compile(f"^{how}: trip {trip} of"))
-        click(f"Yes: {how}")
-        at.browser.sees(f"Trip {trip}: {how}.")
+    missed = [row["trip"] for row in sorted(booked_on(at, BUSY), key=lambda it: int(it["window_from"]))][:2]
+    for trip, how in zip(missed, ["No-show", "Missed by us"]):
+        end_trip(at, trip, how, click)
+    open_closing(at)
     names = {**dict(vans_of(VANS)), 40: "Vehicle 40"}
     for van in sorted({int(row["vehicle"]) for row in booked_on(at, BUSY)}):
         count = len(booked_on(at, BUSY, str(van)))
-        many = f"{count} trips ridden" if count > 1 else "1 trip ridden"
-        click(f"All the rest of {names[van]} ridden ({count})")
+        many = f"{count} trips completed" if count > 1 else "1 trip completed"
+        click(f"Mark the remaining {count} trip{'s' if count > 1 else ''} of {names[van]} completed")
         click(f"Yes: {many}")
         until(f"{names[van]} is not closed", lambda: f"{names[van]}: {many}." in at.browser.text())
     holds(f"{clicks} clicks", clicks <= MOST_CLICKS)

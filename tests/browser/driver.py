@@ -1,5 +1,8 @@
 """The driver's phone: what is shown next, what is kept without a line, and what the desk has of it in the end."""
+import hashlib
+import json
 import re
+import urllib.parse
 
 from selenium.webdriver.common.keys import Keys
 
@@ -10,6 +13,7 @@ from middle import UNHEARD
 from people import TODAY, TOMORROW
 
 VANS = 1
+VAN_FIELD = "Van, by name or number"
 AFTER = "2025-03-12"
 PHONE = {"width": 390, "height": 844, "mobile": True}
 KEPT = """
@@ -52,10 +56,10 @@ return [...document.querySelectorAll(".driver-big, .driver-link, .driver-day, .d
 
 def show_manifest(at, vehicle=1):
     """The number of the vehicle, where it is asked for: this phone knows it from before."""
-    until("neither a vehicle's field nor a manifest", lambda: at.browser.all("field", "Vehicle number")
+    until("neither a vehicle's field nor a manifest", lambda: at.browser.all("field", VAN_FIELD)
           or re.search("All stops|No stops|no copy", at.browser.text()))
-    if at.browser.all("field", "Vehicle number"):
-        at.browser.fill("Vehicle number", str(vehicle))
+    if at.browser.all("field", VAN_FIELD):
+        at.browser.fill(VAN_FIELD, str(vehicle))
         at.browser.keys(Keys.ENTER)
 
 
@@ -106,6 +110,20 @@ def tell(at, what, yes):
     at.browser.press(yes)
 
 
+def no_show(at, doubt):
+    """A no-show that is doubtful: it asks once more, and says why."""
+    at.browser.press("No-show")
+    at.browser.sees(doubt)
+    at.browser.press("No-show all the same")
+    at.browser.press("Yes: no-show")
+
+
+def moves_to(at, clock, day=TOMORROW):
+    """The clock goes on, and the phone hears of it with the next answer of the desk."""
+    at.town.set_clock(day, clock)
+    at.browser.script("window.dispatchEvent(new Event('online'))")
+
+
 def status(at, trip, day=TOMORROW):
     lines = at.town.get("dispatcher", f"/days/{day}/trips.csv").splitlines()
     return next(line.split(",")[10] for line in lines if line.startswith(f"{trip},"))
@@ -152,21 +170,21 @@ def the_drop_of_a_rider_aboard_is_next_in_its_order(at):
     at.browser.fresh()
     sign_in(at)
     at.browser.press("Done here")
-    at.browser.sees("Pick up Rosa Álvarez, rider 1001", "Promised: 5:49", "1 person", "speaks Spanish")
+    at.browser.sees("Pick up Rosa Álvarez, rider 1001", "Pickup window\n5:49", "1 person", "speaks Spanish")
     at.browser.press("Aboard")
     at.browser.sees("Pick up Dorothy O'Neill, rider 1002")
     until(lambda: f"the focus is on {at.browser.focused()!r} after a tap", lambda: at.browser.focused() == "Pick up Dorothy O'Neill, rider 1002")
     at.browser.press("Aboard")
-    at.browser.sees("Drop Dorothy O'Neill, rider 1002")
-    tell(at, "Ridden", "No, go back")
+    at.browser.sees("Drop off Dorothy O'Neill, rider 1002")
+    tell(at, "Dropped off", "No, go back")
     same("an outcome that was not said yes to", "booked", status(at, 2))
-    tell(at, "Ridden", "Yes: ridden")
-    is_next(at, "Drop Rosa Álvarez")
+    tell(at, "Dropped off", "Yes: dropped off")
+    is_next(at, "Drop off Rosa Álvarez")
     at.browser.sees("General Hospital", "door of the day clinic")
     becomes(at, 2, "ridden")
     same("the first rider", "booked", status(at, 1))
-    holds(f"aboard and ridden are shown: {rows(at)[:5]}", "aboard" in rows(at)[1] and "ridden" in rows(at)[3])
-    tell(at, "Ridden", "Yes: ridden")
+    holds(f"aboard and ridden are shown: {rows(at)[:5]}", "aboard" in rows(at)[1] and "dropped off" in rows(at)[3])
+    tell(at, "Dropped off", "Yes: dropped off")
     becomes(at, 1, "ridden")
     same("stops that are shown", 28, len(rows(at)))
 
@@ -174,11 +192,11 @@ def the_drop_of_a_rider_aboard_is_next_in_its_order(at):
 @check
 def a_pickup_that_was_not_tapped_is_told_at_the_drop(at):
     begin(at, "07:20", "7:26 AM Pick up Henry Park")
-    at.browser.press("Go on to the next stop")
-    at.browser.sees("Drop Henry Park")
-    for name in ["Ridden", "Did not come", "We did not come"]:
+    at.browser.press("Skip to next stop")
+    at.browser.sees("Drop off Henry Park")
+    for name in ["Dropped off", "No-show", "We missed this pickup"]:
         at.browser.find("button", name)
-    tell(at, "Ridden", "Yes: ridden")
+    tell(at, "Dropped off", "Yes: dropped off")
     becomes(at, 3, "ridden")
 
 
@@ -186,22 +204,30 @@ def a_pickup_that_was_not_tapped_is_told_at_the_drop(at):
 def the_wait_is_the_agencys_and_begins_with_the_promised_time(at):
     with at.browser.clock(hurry=20):
         begin(at, "08:10", "8:19 AM Pick up Lucille Baker")
-        at.browser.sees("2 people, 1 in a wheelchair", "ramp needed", "tap “Arrived” and wait 5 minutes", "In 9 minutes")
+        at.browser.sees("2 people, 1 in a wheelchair", "ramp needed", "tap “Arrived” and wait 5 minutes", "in 9 minutes")
         at.browser.press("Arrived")
-        at.browser.sees("The wait of 5 minutes begins at 8:19 AM", "Arrived at 8:10 AM.")
+        at.browser.sees("Your 5-minute wait starts at 8:19 AM", "Arrived at 8:10 AM.")
+        at.browser.press("No-show")
+        at.browser.sees("The pickup window has not opened.")
+        at.browser.press("Keep waiting")
         at.town.set_clock(TOMORROW, "08:21")
         at.browser.sees("Wait 2:", "2 minutes late")
-        at.browser.press("Did not come")
-        at.browser.sees("The wait is not over yet.", "It counts as a missed trip of the rider.")
+        at.browser.press("No-show")
+        at.browser.sees("The 5-minute wait is not over.", "You arrived\n8:10 AM", "2 of 5 min")
+        same("what has the focus", "Keep waiting", at.browser.focused())
+        at.browser.press("No-show all the same")
+        at.browser.sees("It counts as a no-show of the rider.", "You can undo it for 60 seconds.")
         at.browser.press("No, go back")
         at.town.set_clock(TOMORROW, "08:25")
-        at.browser.sees("The wait of 5 minutes is over.")
-        at.browser.press("Did not come")
-        at.browser.sees_no("The wait is not over yet.")
-        at.browser.press("Yes: did not come")
-    becomes(at, 4, "missed-rider")
-    is_next(at, "Pick up Samuel Grant")
-    holds(f"the drop stays in the list: {rows(at)[7:9]}", "did not come" in row(at, "Drop Lucille.*88 Pine Road"))
+        at.browser.sees("The 5-minute wait is over.")
+        tell(at, "No-show", "Yes: no-show")
+        at.browser.sees("Marked no-show: Lucille Baker, rider 1004. It is sent in")
+        same("a no-show that can be undone", "booked", status(at, 4))
+        is_next(at, "Pick up Samuel Grant")
+        moves_to(at, "08:27")
+        becomes(at, 4, "missed-rider")
+    at.browser.sees_no("It is sent in")
+    holds(f"the drop stays in the list: {rows(at)[7:9]}", "no-show" in row(at, "Drop off Lucille.*88 Pine Road"))
 
 
 @check
@@ -211,17 +237,17 @@ def two_outcomes_without_a_line_are_done_once_after_a_reload(at):
     at.town.middle.writes()
     with at.browser.no_line(at.town):
         at.browser.press("Aboard")
-        tell(at, "Ridden", "Yes: ridden")
+        tell(at, "Dropped off", "Yes: dropped off")
         at.browser.sees("Pick up Ana María Núñez")
-        tell(at, "Did not come", "Yes: did not come")
+        tell(at, "We missed this pickup", "Yes: we missed it")
         at.browser.sees("2 outcomes wait to be sent")
         holds(f"they wait where they belong: {rows(at)[10:12]}", all("waiting" in it for it in rows(at)[10:12]))
         at.browser.reload()
-        at.browser.sees("There is no line to the desk", "read at", "2 outcomes wait to be sent", "Pick up Walter Hughes")
+        at.browser.sees("You’re offline", "loaded", "2 outcomes wait to be sent", "Pick up Walter Hughes")
         at.browser.sees("General Hospital", "Call dispatch, 555-0100")
         holds(f"they wait after a reload: {rows(at)[10:12]}", all("waiting" in it for it in rows(at)[10:12]))
     becomes(at, 5, "ridden")
-    becomes(at, 6, "missed-rider")
+    becomes(at, 6, "missed-operator")
     at.browser.sees_no("to be sent")
     same("the writes that the desk got", ["/trips/5/outcome", "/trips/6/outcome"], [it for it in at.town.middle.writes() if "outcome" in it])
     until("nothing waits", lambda: not waits(at))
@@ -232,16 +258,16 @@ def two_outcomes_without_a_line_are_done_once_after_a_reload(at):
 def what_waits_can_be_taken_back(at):
     begin(at, "10:50", "10:58 AM Pick up Walter Hughes")
     at.browser.press("Aboard")
-    at.browser.sees("Drop Walter Hughes")
+    at.browser.sees("Drop off Walter Hughes")
     press_stop(at, "Pick up Walter Hughes")
-    at.browser.press("Take back: aboard")
+    at.browser.press("Undo “aboard”")
     is_next(at, "Pick up Walter Hughes")
     at.town.middle.writes()
     with at.browser.no_line(at.town):
-        tell(at, "We did not come", "Yes: we did not come")
-        until("it waits", lambda: "we did not come, waiting" in row(at, "Pick up Walter Hughes"))
+        tell(at, "We missed this pickup", "Yes: we missed it")
+        until("it waits", lambda: "missed by us, waiting" in row(at, "Pick up Walter Hughes"))
         press_stop(at, "Pick up Walter Hughes")
-        at.browser.press("Take back: we did not come")
+        at.browser.press("Undo “missed by us”")
         is_next(at, "Pick up Walter Hughes")
         until("nothing waits", lambda: not waits(at))
         same("what waits", [], waits(at))
@@ -254,24 +280,27 @@ def what_waits_can_be_taken_back(at):
 def a_denial_is_shown_at_its_stop_and_never_lost(at):
     begin(at, "10:55", "10:58 AM Pick up Walter Hughes")
     with at.browser.no_line(at.town):
-        tell(at, "Did not come", "Yes: did not come")
+        tell(at, "We missed this pickup", "Yes: we missed it")
         at.browser.sees("1 outcome waits to be sent")
     pause(0)
-    at.town.post("dispatcher", "/trips/8/outcome", {"outcome": "missed-operator"})
-    becomes(at, 7, "missed-rider")
+    at.town.post("dispatcher", "/trips/8/outcome", {"outcome": "missed-rider"})
+    becomes(at, 7, "missed-operator")
     is_next(at, "Pick up Visitor Ellen Stone")
-    tell(at, "Did not come", "Yes: did not come")
-    at.browser.sees("The desk did not take “did not come”.", "How this trip ended is told already")
-    holds(f"it is shown at its stop: {row(at, 'Pick up Visitor')}", "did not come: denied" in row(at, "Pick up Visitor"))
+    tell(at, "We missed this pickup", "Yes: we missed it")
+    at.browser.sees("The desk did not take “missed by us”.", "Somebody else entered how this trip ended", "call dispatch now")
+    at.browser.sees_no("Nothing has to be done")
+    denied = at.browser.script("return document.querySelector('.driver-denied')")
+    same("the call", "tel:5550100", at.browser.find("link", "Call dispatch, 555-0100", within=denied).get_attribute("href"))
+    holds(f"it is shown at its stop: {row(at, 'Pick up Visitor')}", "missed by us: denied" in row(at, "Pick up Visitor"))
     at.browser.reload()
-    at.browser.sees("The desk did not take “did not come”.")
+    at.browser.sees("The desk did not take “missed by us”.")
     at.browser.press("Open this stop")
-    at.browser.sees("Not taken by the desk: did not come.")
-    holds("nothing is offered that is sure to be denied", not at.browser.all("button", "Did not come"))
+    at.browser.sees("Not taken by the desk: missed by us.")
+    holds("nothing is offered that is sure to be denied", not at.browser.all("button", "We missed this pickup"))
     at.browser.press("I have read this")
     at.browser.sees_no("The desk did not take")
-    holds(f"the list still has it: {row(at, 'Pick up Visitor')}", "did not come: denied" in row(at, "Pick up Visitor"))
-    same("the trip", "missed-operator", status(at, 8))
+    holds(f"the list still has it: {row(at, 'Pick up Visitor')}", "missed by us: denied" in row(at, "Pick up Visitor"))
+    same("the trip", "missed-rider", status(at, 8))
 
 
 @check
@@ -279,9 +308,9 @@ def a_reply_that_is_lost_does_nothing_twice(at):
     begin(at, "12:40", "12:44 PM Pick up Rosa Álvarez")
     at.town.middle.writes()
     at.town.middle.breaks(UNHEARD)
-    tell(at, "Did not come", "Yes: did not come")
+    tell(at, "We missed this pickup", "Yes: we missed it")
     until("nothing waits any more", lambda: not waits(at) and len(kept(at)[0]) > 3)
-    same("the trip", "missed-rider", status(at, 9))
+    same("the trip", "missed-operator", status(at, 9))
     # (with another number the desk would not know it again, and deny it as told before)
     same("what the phone says of it", ("done", None), tuple(kept(at)[0][-1][it] for it in ("state", "denied")))
     same("the writes that the desk got", ["/trips/9/outcome"] * 2, at.town.middle.writes())
@@ -292,8 +321,8 @@ def another_device_with_a_higher_number_is_in_nobodys_way(at):
     begin(at, "13:30", "1:37 PM Pick up Dorothy")
     at.town.number += 3_000_000
     at.town.post("driver 1", "/trips/11/outcome", {"outcome": "missed-operator"})
-    tell(at, "Did not come", "Yes: did not come")
-    becomes(at, 10, "missed-rider")
+    tell(at, "We missed this pickup", "Yes: we missed it")
+    becomes(at, 10, "missed-operator")
     until("nothing waits", lambda: not waits(at))
     at.browser.sees_no("The desk did not take")
 
@@ -302,20 +331,20 @@ def another_device_with_a_higher_number_is_in_nobodys_way(at):
 def a_closed_tab_sends_when_the_same_key_is_back_and_no_other_key_sees_it(at):
     begin(at, "15:20", "3:23 PM Pick up Lucille Baker")
     with at.browser.no_line(at.town):
-        tell(at, "Did not come", "Yes: did not come")
+        tell(at, "We missed this pickup", "Yes: we missed it")
         at.browser.sees("1 outcome waits to be sent")
         close_tab(at)
     at.browser.sign_in(at.keys["dispatcher"], "driver")
     show_manifest(at)
     at.browser.sees("All stops", "Next stop")
     pause(2)
-    at.browser.sees_no("to be sent", "did not come, waiting")
+    at.browser.sees_no("to be sent", "missed by us, waiting")
     same("the trip", "booked", status(at, 12))
     at.browser.press("Sign out")
     at.browser.sign_in(at.keys["driver 1"], "driver")
     at.browser.sees("All stops")
-    becomes(at, 12, "missed-rider")
-    holds(f"the list has it: {row(at, '3:23 PM Pick up')}", "did not come" in row(at, "3:23 PM Pick up"))
+    becomes(at, 12, "missed-operator")
+    holds(f"the list has it: {row(at, '3:23 PM Pick up')}", "missed by us" in row(at, "3:23 PM Pick up"))
 
 
 @check
@@ -328,7 +357,7 @@ def without_a_line_the_same_key_signs_in_to_its_copy_and_no_other_key_does(at):
         at.browser.reload()
         at.browser.fill("Key", at.keys["driver 1"])
         at.browser.press("Sign in")
-        at.browser.sees("There is no line to the desk", "All stops", "Pick up Samuel Grant")
+        at.browser.sees("You’re offline", "All stops", "Pick up Samuel Grant")
         at.browser.script("sessionStorage.clear()")
         at.browser.reload()
         at.browser.fill("Key", at.keys["clerk"])
@@ -342,14 +371,14 @@ def a_phone_without_room_says_so_and_does_not_show_it_as_kept(at):
     begin(at, "16:10", "4:16 PM Pick up Samuel Grant")
     at.browser.script(FULL)
     with at.browser.no_line(at.town):
-        tell(at, "Did not come", "Yes: did not come")
+        tell(at, "We missed this pickup", "Yes: we missed it")
         at.browser.sees("This phone has no room to keep this outcome. It is not kept, and it was not sent.")
         is_next(at, "4:16 PM Pick up Samuel Grant")
         holds("it is shown as kept", "waiting" not in " ".join(rows(at)))
     same("the trip", "booked", status(at, 13))
     at.browser.press("Aboard")
-    at.browser.sees("It is forgotten when this page is closed.", "Drop Samuel Grant")
-    tell(at, "Ridden", "Yes: ridden")
+    at.browser.sees("It is forgotten when this page is closed.", "Drop off Samuel Grant")
+    tell(at, "Dropped off", "Yes: dropped off")
     becomes(at, 13, "ridden")
     is_next(at, "Back at the depot")
 
@@ -362,7 +391,7 @@ def a_browser_without_a_database_says_so(at):
     at.browser.press("Done here")
     at.browser.sees("It is forgotten when this page is closed.")
     with at.browser.no_line(at.town):
-        tell(at, "Did not come", "Yes: did not come")
+        tell(at, "We missed this pickup", "Yes: we missed it")
         at.browser.sees("This phone has no room to keep this outcome.")
     at.browser.devtools("Page.removeScriptToEvaluateOnNewDocument", identifier=made["identifier"])
 
@@ -379,13 +408,13 @@ def two_windows_use_one_queue_and_no_number_twice(at):
             for window in [second, first]:
                 window()
                 at.browser.devtools("Page.bringToFront")
-                tell(at, "Did not come", "Yes: did not come")
+                tell(at, "We missed this pickup", "Yes: we missed it")
             at.browser.sees("2 outcomes wait to be sent")
         until("something waits", lambda: not waits(at))
         numbers = [entry["write"]["number"] for entry in kept(at)[0] if entry["write"]]
         holds(f"each has its number, and they rise: {numbers}", len(set(numbers)) == 2 and numbers == sorted(numbers))
     for trip in [14, 15]:
-        same(f"trip {trip}", "missed-rider", status(at, trip, AFTER))
+        same(f"trip {trip}", "missed-operator", status(at, trip, AFTER))
 
 
 @check
@@ -394,7 +423,7 @@ def signing_out_asks_where_something_waits_and_takes_the_copies_away(at):
     sign_in(at, "06:00")
     with at.browser.no_line(at.town):
         press_stop(at, "4:16 PM Pick up Samuel Grant")
-        tell(at, "Did not come", "Yes: did not come")
+        tell(at, "We missed this pickup", "Yes: we missed it")
         at.browser.sees("waits to be sent")
         at.browser.press("Sign out")
         at.browser.sees("Sign out while 1 outcome waits to be sent?", "sent when you sign in here again with the same key")
@@ -423,9 +452,9 @@ def the_phone_goes_to_the_new_day_by_itself(at):
         at.browser.press("Aboard", within=None)
         at.town.set_clock(AFTER, "00:01")
         at.browser.sees("A new day has begun: Wednesday, March 12, 2025.", "Pick up Samuel Grant", "St. Mary's Dialysis")
-        at.browser.sees("Tue, Mar 11 is not closed: 1 stop needs you.")
+        at.browser.sees("Tue, Mar 11 is not closed: 1 entry needs you.")
         at.browser.press("Show Tue, Mar 11")
-        at.browser.sees("This day is over.", "Drop Rosa Álvarez")
+        at.browser.sees("This day is over.", "Drop off Rosa Álvarez")
         at.browser.press("Today")
         at.browser.sees("Wednesday, March 12, 2025", "Pick up Samuel Grant")
 
@@ -436,7 +465,7 @@ def tomorrow_can_be_read_and_nothing_is_told_there(at):
     sign_in(at, "12:00")
     at.browser.press("Tomorrow")
     at.browser.sees("Wednesday, March 12, 2025", "This is a later day.", "Pick up Samuel Grant")
-    for name in ["Done here", "Aboard", "Ridden", "Did not come"]:
+    for name in ["Done here", "Aboard", "Dropped off", "No-show"]:
         holds(f"{name} is offered for tomorrow", not at.browser.all("button", name))
     at.browser.press("Today")
     at.browser.sees("Tuesday, March 11, 2025", "Leave the depot")
@@ -451,7 +480,7 @@ def a_phone_whose_clock_is_wrong_has_the_servers_day(at):
         files_are_kept(at)
         with at.browser.no_line(at.town):
             at.browser.reload()
-            at.browser.sees("There is no line to the desk", "Tuesday, March 11, 2025", "late")
+            at.browser.sees("You’re offline", "Tuesday, March 11, 2025", "late")
 
 
 @check
@@ -463,11 +492,11 @@ def the_place_is_in_the_phones_own_map_and_dispatch_is_a_call_away(at):
     sign_in(at, "06:05")
     at.browser.requests()
     press_stop(at, "Pick up Dorothy.*Senior Center")
-    link = at.browser.find("link", "Open Senior Center in the map").get_attribute("href")
+    link = at.browser.find("link", "Directions to Senior Center").get_attribute("href")
     holds(f"the address of a place: {link}", "42.5" in link and "-73.25" in link)
     same("the telephone", "tel:5550100", at.browser.find("link", "Call dispatch, 555-0100").get_attribute("href"))
     press_stop(at, "7:26 AM Pick up Henry")
-    holds("a place without coordinates has a map", not at.browser.all("link", re.compile("in the map")))
+    holds("a place without coordinates has a map", not at.browser.all("link", re.compile("Directions")))
     same("what is asked elsewhere", [], [it for it in at.browser.requests() if it.startswith("http") and not it.startswith(at.town.origin)])
     at.town.write_files()
 
@@ -478,7 +507,7 @@ def a_driver_finds_private_places_where_the_site_has_the_file(at):
     sign_in(at, "06:05")
     press_stop(at, "6:17 AM Pick up Rosa")
     at.browser.sees("12 Oak Street", "gate code 4411#")
-    at.town.write_file("drivers/places.json", None)
+    at.town.write_file("drivers/1/places.json", None)
     try:
         at.browser.fresh()
         sign_in(at, "06:05")
@@ -516,7 +545,7 @@ def times_of_taps_are_told_the_sites_log_once(at):
         at.browser.press("This is my next stop")
         at.browser.press("Yes: go on from here")
         at.browser.press("Arrived")
-        at.browser.press("Take back: arrived")
+        at.browser.press("Undo “arrived”")
         at.browser.press("Arrived")
         at.browser.press("Aboard")
         pause(1)
@@ -560,8 +589,286 @@ def the_files_are_the_sites_with_a_line_and_the_kept_ones_without(at):
     at.browser.driver.execute_async_script(STALE)
     with at.browser.no_line(at.town):
         at.browser.reload()
-        at.browser.sees("There is no line to the desk")
+        at.browser.sees("You’re offline")
         same("a kept file is used without a line", "1", at.browser.script(HAS_STALE).strip())
+
+
+# A day of its own for what goes wrong: each check has a trip of it.
+BAD_DAY, GRANT, NUNEZ, HUGHES, ALVAREZ, ONEILL = "2025-03-13", 1005, 1006, 1007, 1001, 1002
+WISHES = [(GRANT, 500, 6, 8), (NUNEZ, 560, 3, 2), (HUGHES, 620, 9, 8), (ALVAREZ, 700, 11, 2), (ONEILL, 760, 12, 6), (GRANT, 840, 8, 6)]
+BOOKED = {}
+EVERYTHING = """
+const done = arguments[0];
+(async () => {
+    const all = [JSON.stringify({ ...localStorage }), JSON.stringify({ ...sessionStorage }), document.documentElement.outerHTML];
+    for (const { name } of await indexedDB.databases()) await new Promise((go) => {
+        const opened = indexedDB.open(name);
+        opened.onsuccess = () => {
+            const stores = [...opened.result.objectStoreNames], change = opened.result.transaction(stores), read = stores.map((it) => change.objectStore(it).getAll());
+            change.oncomplete = () => { opened.result.close(); all.push(JSON.stringify(read.map(({ result }) => result))); go(); };
+        };
+    });
+    for (const name of await caches.keys()) {
+        const cache = await caches.open(name);
+        for (const request of await cache.keys()) if (!/\\.(js|css|svg)$/.test(request.url)) all.push(await (await cache.match(request)).text());
+    }
+    done(all.join("\\n"));
+})();
+"""
+NAMES = re.compile("Álvarez|O'Neill|Samuel Grant|Núñez|Hughes|12 Oak Street|gate code|speaks Spanish|hard of hearing|VEHICLE 1")
+
+
+def names_here(at):
+    """The names, notes and manifests that are anywhere on this phone."""
+    return sorted(set(NAMES.findall(at.browser.driver.execute_async_script(EVERYTHING))))
+
+
+def events(at, kind):
+    """What the site's log has of a kind of event, as its fields."""
+    try:
+        with open(f"{at.folder}/tally.log", encoding="utf-8") as log:
+            parts = [line.split("\t") for line in log.read().splitlines()]
+    except FileNotFoundError:
+        return []
+    return [dict(urllib.parse.parse_qsl(it[2])) for it in parts if it[1] == f"/tally/{kind}"]
+
+
+def put_key(at, key):
+    """The admin gives driver 1 another key, by another device that the line of this phone does not matter to."""
+    at.town.number += 1_000
+    fields = {"id": 101, "role": "driver", "subject": 1, "digest": hashlib.sha256(key.encode()).hexdigest()}
+    reply = at.town.desk.ask("POST", "/callers", at.keys["admin"], at.town.number, fields)
+    holds(f"the key is put: {reply}", "denied" not in reply)
+
+
+def begin_bad(at, clock, index):
+    """A phone whose next stop is the pickup of one of the trips of the bad day; the trip's number."""
+    if not BOOKED:
+        at.town.set_clock(AFTER, "12:00")
+        BOOKED.update({at_: at.town.book(rider, BAD_DAY, wish, start, end) for at_, (rider, wish, start, end) in enumerate(WISHES)})
+    at.browser.fresh()
+    sign_in(at, clock, BAD_DAY)
+    name = f"stop-PICK-{BOOKED[index]}"
+    until(f"there is no {name}", lambda: at.browser.script("return Boolean(document.getElementById(arguments[0]))", name))
+    at.browser.script("document.getElementById(arguments[0]).click()", name)
+    if at.browser.all("button", "This is my next stop"):
+        at.browser.press("This is my next stop")
+        at.browser.press("Yes: go on from here")
+    until(f"{name} is not next", lambda: at.browser.script("return document.querySelector('.driver-row.next')?.id") == name)
+    return BOOKED[index]
+
+
+@check
+def a_key_that_was_replaced_takes_all_names_off_the_phone(at):
+    trip = begin_bad(at, "08:00", 0)
+    files_are_kept(at)
+    holds("the phone has names before", len(names_here(at)) > 3)
+    at.browser.press("Note about the van")
+    at.browser.fill("What dispatch has to know", "Mrs. O'Neill asks for a call")
+    at.browser.press("Save note")
+    with at.browser.no_line(at.town):
+        tell(at, "We missed this pickup", "Yes: we missed it")
+        at.browser.sees("1 outcome waits to be sent")
+        put_key(at, "another key of driver 1")
+    try:
+        at.browser.sees("This key was replaced or canceled. 1 outcome was not sent: tell dispatch.", f"Trip {trip}, rider 1005: missed by us, Thu, Mar 13")
+        at.browser.find("button", "Sign in")
+        same("names on the phone", [], names_here(at))
+        entries, copies = kept(at)
+        same("what is left", [("waiting", trip)], [(it["state"], it["tap"]["trip"]) for it in entries])
+        same("copies", [], copies)
+        at.browser.press("I have told dispatch")
+        until("it is forgotten once it was told", lambda: not kept(at)[0])
+        at.browser.fill("Key", "another key of driver 1")
+        at.browser.press("Sign in")
+        show_manifest(at)
+        at.browser.sees("All stops", "Samuel Grant")
+        at.browser.press("Sign out")
+        at.browser.find("button", "Sign in")
+        at.browser.reload()
+        at.browser.find("button", "Sign in")
+        same("names after a reload", [], names_here(at))
+        same("the trip", "booked", status(at, trip, BAD_DAY))
+    finally:
+        put_key(at, at.keys["driver 1"])
+
+
+@check
+def without_a_line_the_phone_locks_in_time_and_a_clock_that_is_set_back_does_not_open_it(at):
+    at.town.write_files(lock_minutes=60)
+    try:
+        with at.browser.clock(hurry=20):
+            begin_bad(at, "08:00", 1)
+            files_are_kept(at)
+            with at.browser.no_line(at.town):
+                at.browser.reload()
+                at.browser.sees("You’re offline.", "It stays on screen until 9:0", "Ana María Núñez")
+                at.browser.passes(59 * 60)
+                at.browser.settled(500)
+                at.browser.sees("Ana María Núñez")
+                at.browser.passes(2 * 60)
+                at.browser.sees("The desk has not answered for 1 hour", "Call dispatch, 555-0100")
+                same("names of a locked phone", [], names_here(at))
+                at.browser.passes(-60 * 60)
+                at.browser.settled(500)
+                same("names once the clock is set back", [], names_here(at))
+                at.browser.reload()
+                at.browser.sees("The desk has not answered")
+                same("names after a reload", [], names_here(at))
+            at.browser.sees("Ana María Núñez", "All stops")
+            at.browser.sees_no("has not answered")
+    finally:
+        at.town.write_files()
+
+
+@check
+def manifests_of_days_that_are_over_are_dropped_whoever_opens_the_page(at):
+    begin_bad(at, "08:00", 0)
+    at.browser.press("Tomorrow")
+    at.browser.sees("Friday, March 14, 2025")
+    until("both days are kept", lambda: {"manifest 1 2025-03-13", "manifest 1 2025-03-14"} <= set(kept(at)[1]))
+    at.town.set_clock("2025-03-14", "08:00")
+    at.browser.reload()
+    at.browser.sees("Friday, March 14, 2025")
+    until("the day before is dropped", lambda: "manifest 1 2025-03-13" not in kept(at)[1])
+    at.browser.script("sessionStorage.clear()")
+    at.town.set_clock("2025-03-16", "08:00")
+    at.browser.reload()
+    at.browser.find("button", "Sign in")
+    until("all are dropped", lambda: not [it for it in kept(at)[1] if it.startswith("manifest")])
+    same("names on the phone", [], names_here(at))
+
+
+@check
+def a_no_show_after_a_late_van_is_asked_about_and_can_be_undone_also_after_a_reload(at):
+    before = len(events(at, "no-shows"))
+    trip = begin_bad(at, "09:00", 1)
+    until("the wait for the window", lambda: "Pickup window" in card(at))
+    at.browser.sees("Arrived")
+    moves_to(at, "09:58", BAD_DAY)
+    at.browser.sees("The pickup window has closed.")
+    at.browser.press("Arrived")
+    at.browser.sees("Arrived at 9:58 AM")
+    big = at.browser.script("return [...document.querySelectorAll('.driver-choices button')].map((it) => [it.innerText, it.offsetWidth * it.offsetHeight])")
+    names = [name for name, _ in big]
+    holds(f"our fault comes before a no-show, and is larger: {big}", names.index("We missed this pickup") < names.index("No-show")
+          and dict(big)["We missed this pickup"] > dict(big)["No-show"])
+    moves_to(at, "10:05", BAD_DAY)
+    at.browser.sees("wait is over")
+    no_show(at, "You arrived after the pickup window closed.")
+    at.browser.sees("Marked no-show: Ana María Núñez, rider 1006. It is sent in")
+    at.browser.reload()
+    at.browser.sees("Marked no-show: Ana María Núñez, rider 1006. It is sent in")
+    same("what the desk has", "booked", status(at, trip, BAD_DAY))
+    at.browser.press("Undo “no-show”")
+    at.browser.sees_no("It is sent in")
+    until("nothing waits", lambda: not waits(at))
+    with at.browser.clock(hurry=20):
+        at.browser.reload()
+        press_stop(at, "Pick up Ana María")
+        no_show(at, "You arrived after the pickup window closed.")
+        at.browser.sees("It is sent in")
+        moves_to(at, "10:07", BAD_DAY)
+        becomes(at, trip, "missed-rider", BAD_DAY)
+        until("the evidence is not told", lambda: len(events(at, "no-shows")) > before)
+    told = events(at, "no-shows")[before:]
+    window = next(it for it in at.town.trips_of(NUNEZ) if it["trip"] == trip)
+    same("no-shows of the log", 1, len(told))
+    same("its evidence", (str(trip), "1", str(window["window_from"]), str(window["window_to"]), str(9 * 60 + 58), "7"),
+         tuple(told[0][it] for it in ("trip", "vehicle", "from", "to", "arrived", "wait")))
+
+
+@check
+def a_second_outcome_of_a_trip_reads_what_is_on_record_and_dispatch_sees_it(at):
+    before = len(events(at, "disagreements"))
+    trip = begin_bad(at, "10:20", 2)
+    with at.browser.clock(hurry=20):
+        at.browser.reload()
+        at.browser.press("Aboard")
+        # (another phone of the same van)
+        at.town.post("driver 1", f"/trips/{trip}/outcome", {"outcome": "missed-rider"})
+        at.town.write_drivers_files()
+        moves_to(at, "10:50", BAD_DAY)
+        at.browser.sees("Drop off Walter Hughes")
+        tell(at, "Dropped off", "Yes: dropped off")
+        at.browser.sees("The desk did not take “dropped off”.", "On record: no-show.", "If “dropped off” is right, call dispatch now.")
+        denied = at.browser.script("return document.querySelector('.driver-denied')")
+        same("the call", "tel:5550100", at.browser.find("link", "Call dispatch, 555-0100", within=denied).get_attribute("href"))
+        moves_to(at, "10:52", BAD_DAY)
+        until("dispatch does not hear of it", lambda: len(events(at, "disagreements")) > before)
+    told = events(at, "disagreements")[before:]
+    same("disagreements", [(str(trip), "missed-rider", "ridden")], [(it["trip"], it["record"], it["told"]) for it in told])
+
+
+@check
+def no_tap_is_dropped_while_another_is_under_way(at):
+    begin_bad(at, "11:35", 3)
+    at.browser.find("button", "Arrived")
+    at.browser.script("for (const name of ['Arrived', 'Aboard']) [...document.querySelectorAll('.driver-choices button')].find((it) => it.innerText === name).click()")
+    is_next(at, "Drop off Rosa Álvarez")
+    same("the taps", ["arrived", "aboard"], [it["tap"]["what"] for it in kept(at)[0] if it["tap"]["what"] != "left"])
+
+
+@check
+def notes_and_lateness_are_there_and_the_log_has_the_moment_of_the_tap(at):
+    before = len(events(at, "notes"))
+    trip = begin_bad(at, "12:30", 4)
+    with at.browser.clock(hurry=20):
+        at.browser.reload()
+        at.browser.sees("Planned")
+        hour, minutes, half = re.search(r"Planned (\d+):(\d+) ([AP])M", card(at)).groups()
+        minute = (int(hour) % 12 + 12 * (half == "P")) * 60 + int(minutes) + 11
+        moves_to(at, f"{minute // 60:02}:{minute % 60:02}", BAD_DAY)
+        at.browser.sees("11 min late")
+        at.browser.press("Arrived")
+        at.browser.press("Aboard")
+        at.browser.sees("now about", "11 min late")
+        press_stop(at, "Pick up Dorothy")
+        with at.browser.no_line(at.town):
+            at.browser.press("Add a note")
+            at.browser.fill("What dispatch has to know", "left at the side door, señora dijo «sí»")
+            at.browser.press("Save note")
+            at.browser.sees("left at the side door, señora dijo «sí»")
+        moves_to(at, f"{minute // 60 + 2:02}:{minute % 60:02}", BAD_DAY)
+        until("the note is not told", lambda: len(events(at, "notes")) > before)
+    told = events(at, "notes")[-1]
+    same("the note", (str(trip), "1", "left at the side door, señora dijo «sí»"), tuple(told[it] for it in ("trip", "vehicle", "text")))
+    holds(f"it has its own moment: {told['at']}", told["at"].startswith(f"{BAD_DAY}T{minute // 60:02}:{minute % 60:02}"))
+
+
+@check
+def a_drivers_files_hold_the_riders_and_places_of_the_own_stops_alone(at):
+    at.town.set_clock(BAD_DAY, "12:00")
+    key = {"Desk-Key": at.keys["driver 1"]}
+    _, _, roster = at.town.answer("/drivers/1/roster.csv", key)
+    _, _, places = at.town.answer("/drivers/1/places.json", key)
+    riders = [line.split(",")[0] for line in roster.splitlines()[1:]]
+    same("riders of the own stops", ["1001", "1002", "1005", "1006", "1007"], sorted(riders))
+    numbers = {it["id"] for it in json.loads(places)["places"]}
+    holds(f"places of the own stops: {numbers}", {5, 11, 12} <= numbers and not numbers & {10, 13, 14})
+    same("all riders", 404, at.town.answer("/drivers/roster.csv", key)[0])
+
+
+@check
+def a_van_is_typed_by_its_name_or_its_number(at):
+    at.town.write_files(vehicles=[{"id": 1, "name": "Van 30"}, {"id": 30, "name": "Van 130"}])
+    try:
+        for typed in ["Van 30", "1"]:
+            at.browser.fresh()
+            at.browser.sign_in(at.keys["driver 1"], "driver")
+            at.browser.fill(VAN_FIELD, typed)
+            at.browser.keys(Keys.ENTER)
+            at.browser.sees("All stops", "Van 30")
+        at.browser.fresh()
+        at.browser.sign_in(at.keys["driver 1"], "driver")
+        at.browser.fill(VAN_FIELD, "30")
+        at.browser.press("Show the manifest")
+        at.browser.sees("Several vans fit. Choose one of the list.")
+        at.browser.fill(VAN_FIELD, "130")
+        at.browser.press("Show the manifest")
+        at.browser.sees("Your key is not for Van 130.")
+    finally:
+        at.town.write_files()
 
 
 @check
@@ -594,12 +901,12 @@ def it_is_used_by_keyboard(at):
     at.browser.tab_to("Arrived")
     at.browser.keys(Keys.ENTER)
     at.browser.sees("Arrived at 6:05 AM.")
-    at.browser.tab_to("Did not come")
+    at.browser.tab_to("No-show")
     at.browser.keys(Keys.ENTER)
-    at.browser.sees("Did Rosa Álvarez, rider 1001 not come?")
-    same("the harmless answer has the focus", "No, go back", at.browser.focused())
+    at.browser.sees("Mark Rosa Álvarez, rider 1001 as a no-show?")
+    same("the harmless answer has the focus", "Keep waiting", at.browser.focused())
     at.browser.keys(Keys.ESCAPE)
-    same("the focus after the question", "Did not come", at.browser.focused())
+    same("the focus after the question", "No-show", at.browser.focused())
 
 
 @check
@@ -609,9 +916,9 @@ def it_is_there_in_spanish(at):
     at.browser.fill("Language", "Español")
     at.browser.sees("Próxima parada", "Todas las paradas", "Llamar a la central, 555-0100")
     at.browser.press("Listo aquí")
-    at.browser.sees("Recoger: Rosa Álvarez", "A bordo", "No vino", "No fuimos", "Llegué")
+    at.browser.sees("Recoger: Rosa Álvarez", "A bordo", "No se presentó", "No lo recogimos nosotros", "Llegué")
     same("axe", [], at.browser.axe()["violations"])
-    at.browser.press("No vino")
-    at.browser.sees("¿No vino? Rosa Álvarez")
-    at.browser.press("No, volver")
+    at.browser.press("No se presentó")
+    at.browser.sees("¿Marcar que no se presentó? Rosa Álvarez")
+    at.browser.press("Seguir esperando")
     at.browser.fill("Idioma", "English")

@@ -47,7 +47,7 @@ def the_drivers_picture_is_that_of_a_phone(at):
     at.town.set_clock("2025-03-11", "06:30")
     with at.browser.screen(*PHONE, mobile=True):
         at.browser.sign_in(at.keys["driver 1"], "driver")
-        at.browser.fill("Vehicle number", 1)
+        at.browser.fill("Van, by name or number", 1)
         at.browser.keys(Keys.ENTER)
         at.browser.press("Done here")
         at.browser.sees("Pick up")

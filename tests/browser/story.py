@@ -85,7 +85,7 @@ def each_denial_of_a_booking_is_a_sentence_and_a_section(at):
     attendant = "An attendant comes along, and pays nothing"
     for rider, says, values in [
             (1020, ["The rider has no right to ride on this day", "49 CFR 37.125"], {}),
-            (1010, ["No condition of the rider's grant holds of this trip.", "49 CFR 37.123(b)"], {}),
+            (1010, ["This trip isn't covered by the rider's eligibility conditions.", "49 CFR 37.123(b)"], {}),
             (1005, ["This party is too large", "49 CFR 37.123(f)"], {attendant: True}),
             (1005, ["too far from every bus line", "49 CFR 37.131(a)"], {"To": "Old Farm"}),
             (1005, ["No bus line serves both ends", "49 CFR 37.131(e)"], {"Pickup time": "11:45 pm"}),

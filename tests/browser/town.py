@@ -48,7 +48,8 @@ class Town:
         self.port, self.number = free_port(), int(time.time())
         self.middle = Middle(free_port(), self.desk.port)
         self.origin = f"https://127.0.0.1:{self.port}"
-        self.set_clock(people.TODAY if vans else people.FIRST_DAY)
+        self.today = people.TODAY if vans else people.FIRST_DAY
+        self.desk.set_clock(self.today)
         copy_of_database(program, vans, towns, self.desk.file)
         write_certificate(folder)
         self.write_files()
@@ -66,9 +67,13 @@ class Town:
 
     def set_clock(self, day, hour=people.NOON):
         self.desk.set_clock(day, hour)
+        if day != self.today:
+            self.today = day
+            self.write_drivers_files()
 
     def start_desk(self):
         self.desk.start()
+        self.write_drivers_files()
 
     def stop_desk(self):
         self.desk.stop()
@@ -104,6 +109,17 @@ class Town:
         """The site's files of the agency's own file, with what is changed in it."""
         os.makedirs(f"{self.folder}/site", exist_ok=True)
         write_site_files(self.folder, {**people.agency_file(max(self.vans, 1)), **changed})
+        self.write_drivers_files()
+
+    def write_drivers_files(self):
+        """What each van's driver gets, by bin/driver-files, as a timer does it."""
+        if not self.vans or not self.desk.process:
+            return
+        words = [f"{ROOT}/bin/driver-files", f"{self.folder}/site", "--url", f"http://127.0.0.1:{self.desk.port}",
+                 "--key", "/dev/stdin", "--today", self.today]
+        made = subprocess.run(words, input=self.keys["dispatcher"], capture_output=True, text=True)
+        if made.returncode:
+            raise Trouble(f"bin/driver-files: {made.stderr}")
 
     def file(self, name):
         """The bytes of a file of the site."""

@@ -119,7 +119,8 @@ def on_the_telephone_a_trip_is_booked_for_thursday_with_a_ticket(at):
     at.browser.press(re.compile("^Book the trip"))
     until("no trip is booked", lambda: re.search(r"Trip (\d+) is booked", at.browser.text()))
     trip = trip_of(at, NEWCOMER)
-    same("what was booked", (THURSDAY, 600), (trip["day"], trip["wish"]))
+    same("the day", THURSDAY, trip["day"])
+    holds(f"the van comes around 10:00: {trip}", 585 <= trip["window_from"] <= 660)
     holds("the window is at most half an hour", trip["window_to"] - trip["window_from"] <= 30)
     paper = at.browser.print_by(re.compile("^Print (the|this) ticket"))
     has(paper, f"{NEWCOMER}", "Pickup", "Example Town Transit", "General Hospital")
@@ -135,9 +136,10 @@ def on_tuesday_the_trip_is_changed_and_keeps_its_number(at):
         .find((it) => (it.getAttribute('aria-label') ?? '').startsWith('Change trip'))"""))
     at.browser.fill("Pickup time", "1:30 pm", form)
     at.browser.keys(Keys.ENTER)
-    at.browser.sees(f"Trip {number} is booked for")
+    at.browser.sees(f"Trip {number} is changed for")
     trip = trip_of(at, NEWCOMER)
-    same("its number and wish", (number, 810), (trip["trip"], trip["wish"]))
+    same("its number", number, trip["trip"])
+    holds(f"the van comes around 1:30: {trip}", 795 <= trip["window_from"] <= 870)
     paper = at.browser.print_by(re.compile(f"^Print the ticket of trip {number}|^Print this ticket"))
     has(paper, f"{NEWCOMER}", "General Hospital")
 
@@ -150,6 +152,7 @@ def on_wednesday_evening_thursday_is_printed(at):
     at.browser.fill("Day", THURSDAY)
     at.browser.sees("Thursday, March 13, 2025")
     lines = at.town.get("dispatcher", f"/days/{THURSDAY}/sheet").splitlines()
+    at.browser.fill("Print with the original text", True)
     paper = at.browser.print_by("Print the day sheet")
     printed = words_of(paper)
     same("lines that are not on the day sheet", [], [it for it in lines if it and " ".join(it.split()) not in printed])
@@ -161,11 +164,11 @@ def on_wednesday_evening_thursday_is_printed(at):
 def on_thursday_outcomes_are_entered(at):
     trips = {rider: trip_of(at, rider) for rider in (NEWCOMER, MISSED, TRAVELER)}
     begin(at, "dispatcher", "dispatcher", "trips", THURSDAY, "20:00")
-    for rider, button, wanted in ((NEWCOMER, "Ridden", "ridden"), (MISSED, "Rider missed", "missed-rider"),
-                                  (TRAVELER, "Agency missed", "missed-operator")):
+    for rider, button, wanted in ((NEWCOMER, "Completed", "ridden"), (MISSED, "No-show", "missed-rider"),
+                                  (TRAVELER, "Missed by us", "missed-operator")):
         number = trips[rider]["trip"]
-        at.browser.press(re.compile(f"^({button}): trip {number} of"))
-        at.browser.press(re.compile("^Yes: "))
+        at.browser.press(re.compile(f"^Set the outcome of trip {number} of"))
+        at.browser.press(button)
         until(f"trip {number} is no {wanted}", lambda: trip_of(at, rider)["status"] == wanted)
         same(f"trip {number}", wanted, trip_of(at, rider)["status"])
 

@@ -150,6 +150,15 @@ test("a denial that no other minute can mend ends the plan, and is told", () => 
     }
 });
 
+test("a condition that holds of one minute and not of another goes on to the next, and the named minute's denial is told", () => {
+    const said = { mode: "around", minute: 540, by: null, drive: 15, lead: 15, change: false }, denied = { denied: "37.123(b)" };
+    const first = { request: nextStep(said, []).request, reply: denied }, second = nextStep(said, [first]);
+    assert.deepEqual([second.is, second.request.wish], ["ask", 540]);
+    assert.equal(nextStep(said, [first, { request: second.request, reply: { value: { window_from: 530, window_to: 560 } } }]).is, "kept");
+    const last = nextStep(said, [first, { request: second.request, reply: { denied: FULL } }]);
+    assert.deepEqual([last.is, last.reason.reply.denied, countedRule(said, last)], ["denied", FULL, FULL]);
+});
+
 test("a minute that a plan made is known, and one that people say is not", () => {
     for (let minute = 0; minute < DAY; minute += 1) {
         for (const change of [false, true]) {

@@ -37,7 +37,7 @@ def stop(
 def made(*lines: bytes, day: datetime.date = DAY) -> dict[str, Any]:
     """The file of a day out of lines."""
     known = today.Known()
-    known.take(it.rstrip(b"\n") for it in lines)
+    known.take(lines)
     found: dict[str, Any] = json.loads(json.dumps(today.day_of(known, day, ZONE)))
     return found
 
@@ -255,7 +255,7 @@ def test_nothing_is_lost_and_nothing_counts_twice(
 @given(some.lists(some.binary(max_size=200), max_size=5))
 def test_any_bytes_are_passed_over(pieces: list[bytes]) -> None:
     known = today.Known()
-    known.take([it.replace(b"\n", b"") for it in pieces] + [stop().rstrip(b"\n")])
+    known.take([it.replace(b"\n", b"") + b"\n" for it in pieces] + [stop()])
     assert told_of(stop().rstrip(b"\n")).id in known.events
 
 

@@ -43,7 +43,7 @@ export const words = {
     "common.was-done": "What was being sent when this page was loaded is done, once.",
     "common.not-loaded": "This screen could not be loaded: the line broke. Nothing that you sent is lost.",
     "common.load-again": "Try again",
-    "common.counts-refused": ({ what }) => `${what.length} ${what.length === 1 ? "count" : "counts"} could not be kept: ${what
+    "common.counts-refused": ({ count, what }) => `${count} ${count === 1 ? "count" : "counts"} could not be kept: ${what
         .map((/** @type {any} */ { kind, why }) => `${COUNTS[kind]} (${why})`).join(", ")}. Tell the people who run the desk.`,
     "common.counts-loose": ({ count }) => `This browser has no room for counts, and the site does not answer. Leave this window open: ${count} ${
         count === 1 ? "count waits" : "counts wait"} in it.`,

@@ -26,6 +26,8 @@ export const words = {
     "fields.id": ({ most }) => `Write a whole number from 1 to ${most}.`,
     "fields.rider-hint": "A number, a name or a part of it, or a telephone number.",
     "fields.rider-none": "Write a number, or choose one rider of the list.",
+    "fields.vehicle-which": "Several vans fit. Choose one of the list.",
+    "fields.vehicle-none": "Write a van’s name or number.",
     "fields.type-number": "Type the number here",
     "fields.other-number": ({ typed, action }) => `${typed} is not shown yet: “${action}” shows it.`,
     "fields.telephone-none": "No rider has this telephone number. Write a number or a name.",

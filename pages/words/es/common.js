@@ -52,7 +52,7 @@ export const words = {
     "common.was-done": "Lo que se estaba enviando cuando se cargó esta página se hizo, una sola vez.",
     "common.not-loaded": "Esta pantalla no se pudo cargar: se cortó la conexión. No se perdió nada de lo que envió.",
     "common.load-again": "Intentar otra vez",
-    "common.counts-refused": ({ what }) => `No se ${what.length === 1 ? "pudo guardar 1 registro" : `pudieron guardar ${what.length} registros`}: ${what
+    "common.counts-refused": ({ count, what }) => `No se ${count === 1 ? "pudo guardar 1 registro" : `pudieron guardar ${count} registros`}: ${what
         .map((/** @type {any} */ { kind, why }) => `${COUNTS[kind]} (${why})`).join(", ")}. Avise a quienes manejan el sistema.`,
     "common.counts-loose": ({ count }) => `Este navegador no tiene espacio para los registros y el sitio no responde. Deje abierta esta ventana: ${
         count === 1 ? "hay 1 registro que espera" : `hay ${count} registros que esperan`} en ella.`,

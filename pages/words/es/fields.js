@@ -26,6 +26,8 @@ export const words = {
     "fields.id": ({ most }) => `Escriba un número entero de 1 a ${most}.`,
     "fields.rider-hint": "Un número, un nombre o una parte, o un teléfono.",
     "fields.rider-none": "Escriba un número, o elija un pasajero de la lista.",
+    "fields.vehicle-which": "Varios vehículos coinciden. Elija uno de la lista.",
+    "fields.vehicle-none": "Escriba el nombre o el número del vehículo.",
     "fields.type-number": "Escriba aquí el número",
     "fields.other-number": ({ typed, action }) => `${typed} todavía no se muestra: «${action}» lo muestra.`,
     "fields.telephone-none": "Ningún pasajero tiene este teléfono. Escriba un número o un nombre.",

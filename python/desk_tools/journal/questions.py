@@ -217,7 +217,9 @@ def found_of(asked: Asked, key: Key, keys: list[Key]) -> str:
     """What a reader has to see of a key."""
     said = []
     own = key.event.person
-    if key.digits and own and own.number != key.caller:
+    if key.digits and not own:
+        said.append("put by a key of nobody whom callers.csv names")
+    elif own and key.digits and own.number != key.caller:
         said.append("put by one person for another")
     if key.is_back:
         at = keys.index(key)

@@ -7,6 +7,7 @@ since numbers rise; so no clock decides it. The desk serves under a clock that s
 import contextlib
 import hashlib
 import http.client
+import itertools
 import json
 import os
 import random
@@ -33,7 +34,10 @@ WRAPPER = """#!/bin/sh
 export LD_PRELOAD={library} FAKETIME_TIMESTAMP_FILE={moment} FAKETIME_NO_CACHE=1 FAKETIME_DONT_FAKE_MONOTONIC=1 TZ=UTC0
 exec {program} "$@"
 """
+# How far moments of lines may be off, and how many writes at once are tried in each order.
+ROUNDED, MOST_AT_ONCE = timedelta(milliseconds=2), 5
 Rows = dict[tuple[Any, ...], dict[str, Any]]
+Write = tuple[Line, int]
 
 
 @dataclass
@@ -131,6 +135,21 @@ class Replay:
         self.process: subprocess.Popen[bytes] | None = None
         self.port = 0
 
+    def kept(self, name: str) -> Path:
+        """A copy of the file as it is now."""
+        self.stop()
+        path = self.folder / f"{name}.kept"
+        path.unlink(missing_ok=True)
+        copied(self.file, path)
+        return path
+
+    def go_back(self, kept: Path) -> None:
+        """Has the file as it was when the copy was made."""
+        self.stop()
+        for end in "", "-wal", "-shm":
+            self.file.with_name(self.file.name + end).unlink(missing_ok=True)
+        copied(kept, self.file)
+
     def show(self, moment: datetime) -> None:
         """The desk's clock shows this moment from now on."""
         new = self.moment.with_suffix(".new")
@@ -222,15 +241,11 @@ class Replay:
         if first == last or line.method == "TRAVEL":
             return self.post(line, caller)
         self.stop()
-        kept = self.file.with_suffix(".kept")
-        copied(self.file, kept)
+        kept = self.kept("minute")
         told = self.post(line, caller)
         if told == (line.status, line.reply):
             return told
-        self.stop()
-        for end in "-wal", "-shm":
-            self.file.with_name(self.file.name + end).unlink(missing_ok=True)
-        os.replace(kept, self.file)
+        self.go_back(kept)
         self.show(last)
         return self.post(line, caller)
 
@@ -308,8 +323,8 @@ def check(
         keys.put_in(replay.file)
         reached = dict(first)
         try:
-            for line, caller in writes_since(places, people, first, last):
-                replay_line(replay, line, caller, found, reached)
+            for group in groups_of(writes_since(places, people, first, last)):
+                replay_group(replay, group, found, reached)
         finally:
             replay.stop()
         for caller, number in sorted(last.items()):
@@ -320,6 +335,47 @@ def check(
         copied(replay.file, folder / "ended.db")
         found.differing += compared(folder / "ended.db", folder / "after.db")
     return found
+
+
+def groups_of(writes: Iterator[Write]) -> Iterator[list[Write]]:
+    """The writes in groups: those of one group were under way at once, so that the desk may have had them in any order."""
+    group: list[Write] = []
+    end = datetime.min.replace(tzinfo=timezone.utc)
+    for line, caller in writes:
+        if group and line.began >= end - ROUNDED:
+            yield group
+            group = []
+        group.append((line, caller))
+        end = max(end, line.at) if len(group) > 1 else line.at
+    if group:
+        yield group
+
+
+def orders_of(group: list[Write]) -> Iterator[tuple[Write, ...]]:
+    """The orders in which the desk may have had a group: each caller's own writes come by their numbers."""
+    for order in itertools.permutations(group) if len(group) <= MOST_AT_ONCE else [tuple(group)]:
+        last: dict[int, int] = {}
+        for line, caller in order:
+            if last.get(caller, 0) > (line.number or 0):
+                break
+            last[caller] = line.number or 0
+        else:
+            yield order
+
+
+def replay_group(replay: Replay, group: list[Write], found: Found, reached: dict[int, int]) -> None:
+    """Makes the writes of a group anew, in the order in which each is answered as its line says, if there is one."""
+    if len(group) > 1:
+        kept = replay.kept("group")
+        for order in orders_of(group):
+            if all(replay.tried(*it) == (it[0].status, it[0].reply) for it in order):
+                found.writes += len(group)
+                for line, caller in group:
+                    reached[caller] = max(reached.get(caller, 0), line.number or 0)
+                return
+            replay.go_back(kept)
+    for line, caller in group:
+        replay_line(replay, line, caller, found, reached)
 
 
 def replay_line(

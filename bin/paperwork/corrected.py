@@ -1,0 +1,51 @@
+"""corrections.csv: outcomes that were entered wrongly, which reports count right. The desk keeps what was entered.
+
+Its columns are `trip`, `outcome`, `who` and `why`. docs/WORKLIST.md, "Reports", says how it is kept.
+"""
+import csv
+import io
+
+from moving.limits import HIGHEST_NUMBER, Wrong
+from paperwork import copies
+
+COLUMNS = ("trip", "outcome", "who", "why")
+OUTCOMES = {"ridden": copies.RIDDEN, "missed-rider": copies.MISSED_BY_RIDER, "missed-operator": copies.MISSED_BY_OPERATOR}
+
+
+def read(path):
+    """The right outcome by trip, as the file has it, and a sentence for each row that is wrong. The last row of a trip holds."""
+    try:
+        with open(path, encoding="utf-8-sig", newline="") as file:
+            rows = list(csv.DictReader(io.StringIO(file.read(), newline="")))
+    except (OSError, ValueError, csv.Error) as error:
+        raise Wrong(f"{path} can't be read: {error}") from None
+    if rows and not set(COLUMNS) <= {*rows[0]}:
+        raise Wrong(f"{path} lacks a column of {', '.join(COLUMNS)}")
+    found, faults = {}, []
+    for number, row in enumerate(rows, 2):
+        said = fault_of(row)
+        if said:
+            faults.append(f"row {number}: {said}")
+        else:
+            found[int(row["trip"])] = OUTCOMES[row["outcome"].strip()]
+    return found, faults
+
+
+def fault_of(row):
+    """What is wrong in a row, or nothing."""
+    trip, outcome, who, why = ((row[it] or "").strip() for it in COLUMNS)
+    if not (trip.isascii() and trip.isdigit() and 1 <= int(trip) <= HIGHEST_NUMBER):
+        return f"trip {trip!r} is no number of a trip"
+    if outcome not in OUTCOMES:
+        return f"outcome {outcome!r} is none of {', '.join(OUTCOMES)}"
+    return None if who and why else "who corrected it, and why, is missing"
+
+
+def correct(copy, path):
+    """Lets the copy's trips have the right outcomes, for this run. What was not used is said, by sentences."""
+    found, faults = read(path)
+    ended = {trip: status for trip, status in copy.rows("SELECT id, status FROM trips WHERE status IN (?, ?, ?)", *OUTCOMES.values())}
+    faults += [f"trip {it} has no outcome in this copy" for it in found if it not in ended]
+    changed = {trip: status for trip, status in found.items() if ended.get(trip, status) != status}
+    copy.correct(changed)
+    return len(changed), faults

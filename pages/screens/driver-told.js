@@ -1,0 +1,25 @@
+// What the driver's phone tells the site's log: taps at stops, no-shows with what speaks for them, notes of the day, and outcomes that disagree.
+
+import { eventPath, stopPath } from "../parts/tally.js";
+
+/** @typedef {import("./driver-day.js").What} What */
+/** @typedef {import("./driver-day.js").Evidence} Evidence */
+
+/** The event of each tap.
+ * @type {Partial<Record<What, string>>} */
+const EVENTS = { arrived: "arrived", aboard: "aboard", ridden: "dropped", left: "left", "missed-rider": "no-show-rider", "missed-operator": "no-show-agency" };
+const MINUTE = 60, LONGEST_WAIT = 1439;
+
+/** @param {{ vehicle: number, trip: number, what: What, at: string }} tap */
+export const stopTold = ({ vehicle, trip, what, at }) => stopPath({ vehicle, trip, event: String(EVENTS[what]), at });
+
+/** A no-show with its promised window, the arrival and the minutes of wait.
+ * @param {{ vehicle: number, day: string, trip: number, at: string }} tap @param {Evidence} evidence */
+export const noShowTold = (tap, { promise, arrived, waited }) => (promise ? [eventPath("no-shows", { ...tap, from: promise[0], to: promise[1],
+    wait: Math.min(LONGEST_WAIT, Math.floor(waited / MINUTE)), ...(arrived === null ? {} : { arrived }) })] : []);
+
+/** @param {{ vehicle: number, day: string, trip: number, text: string, at: string }} note trip is 0 where it is of the van */
+export const noteTold = (note) => eventPath("notes", note);
+
+/** @param {{ vehicle: number, trip: number, record: any, told: any, at: string }} disagreement */
+export const disagreementTold = (disagreement) => eventPath("disagreements", disagreement);

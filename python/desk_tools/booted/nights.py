@@ -1,0 +1,108 @@
+"""What runs by itself: the hours of the timers, a night's work, the watch, a full disk."""
+
+from __future__ import annotations
+
+import time
+
+from desk_tools.booted import office
+from desk_tools.booted.town import Town
+
+HOURS = {"backup": "03:05", "restart": "03:45", "worklist": "04:30"}
+SECONDS_TO_COME_BACK = 60
+NO_BACKUP = "grep -q 'there is no backup'"
+
+
+def check(town: Town) -> None:
+    """All of this part that is quick."""
+    check_hours(town)
+    check_work(town)
+    check_watch(town)
+
+
+def check_hours(town: Town) -> None:
+    """The timers go by the agency's clocks on a machine whose own zone is UTC."""
+    checks, machine = town.checks, town.machine
+    checks.equal("the machine's zone", "+0000", machine.run("date +%z").output.strip())
+    for name, hour in HOURS.items():
+        words = f"systemctl show -P NextElapseUSecRealtime desk-{name}.timer"
+        said = machine.run(f'TZ={office.ZONE} date -d "$({words})" +%H:%M').output.strip()
+        checks.equal(f"the hour of {name}", hour, said)
+    spring = "systemd-analyze calendar --base-time='2027-03-13 20:00 UTC' '*-*-* 03:05:00 America/Chicago'"
+    told = machine.run(f"{spring} | grep -o '2027-03-14 [0-9:]*' | head -n 1").output
+    checks.has("a backup in the night of summer time", "2027-03-14 0", told)
+
+
+def check_work(town: Town) -> None:
+    """A backup, the work list and a restart, by their units with all that shuts them in."""
+    checks, machine = town.checks, town.machine
+    machine.run("touch -d '100 days ago' /var/lib/desk/desk.db.before-0.1.0")
+    for name in ("backup", "worklist", "restart"):
+        ran = machine.run(f"systemctl start desk-{name}.service", check=False)
+        log = machine.run(f"journalctl -u desk-{name} -n 5 -o cat").output
+        checks.holds(f"desk-{name}.service", ran.is_well, ran.output + log)
+    copies = machine.run("ls /var/backups/desk").output.split()
+    checks.equal(
+        "a copy and the machine's files", ["desk", "machine"], [it.split("-")[0] for it in copies]
+    )
+    checks.has(
+        "the work list",
+        "Vehicles with trips ahead",
+        machine.run("cat /var/lib/desk-site/staff/worklist.html").output,
+    )
+    old = machine.run("ls /var/lib/desk/desk.db.before-0.1.0", check=False)
+    checks.holds("a copy of before an upgrade is put away", not old.is_well)
+    checks.holds("the desk answers after its restart", office.answers(machine))
+    units = "desk desk-backup desk-health desk-restart desk-standby desk-standby-check desk-standing-orders desk-watch"
+    unsafe = f"for it in {units} desk-worklist; do systemd-analyze security --threshold=35 $it >/dev/null || echo $it; done"
+    checks.equal("no unit of the desk is unsafe", "", machine.run(unsafe).output)
+
+
+def check_watch(town: Town) -> None:
+    """The watch looks by itself, tells once, and leaves the journal alone."""
+    checks, machine = town.checks, town.machine
+    is_told = f"! {NO_BACKUP} /root/last-alarm"
+    checks.holds("the night's backup is seen", machine.wait_for(is_told, 60))
+    machine.run("rm -f /var/backups/desk/*.db")
+    told = machine.wait_for(f"{NO_BACKUP} /root/last-alarm", 60)
+    checks.holds("a trouble is told", told)
+    words = "journalctl --sync; journalctl -u desk-watch -o cat | grep -c"
+    before = machine.run(f"{words} 'there is no backup'").output
+    machine.run("systemctl start desk-watch.service; systemctl start desk-watch.service")
+    after = machine.run(f"{words} 'there is no backup'").output
+    checks.equal("it is not said with each look", before, after)
+    failed = machine.run(f"{words} Failed", check=False).output.strip()
+    checks.equal("the watch itself did not fail", "0", failed)
+    machine.run("systemctl start desk-backup.service")
+    checks.holds("the end of it is told", machine.wait_for(is_told, 60))
+
+
+def check_full_disk(town: Town) -> None:
+    """A disk that is full, and then has room: the desk is back within a minute."""
+    checks, machine = town.checks, town.machine
+    machine.run("systemctl stop desk && cp -a /var/lib/desk /var/lib/desk-before")
+    machine.run("mount -t tmpfs -o size=120m,mode=700 tmpfs /var/lib/desk")
+    machine.run("cp -a /var/lib/desk-before/. /var/lib/desk/ && chown desk:desk /var/lib/desk")
+    machine.run("systemctl start desk")
+    checks.holds("the desk on a small disk", office.answers(machine))
+    machine.run("cat /dev/zero >/var/lib/desk/full 2>/dev/null; true")
+    place: dict[str, object] = {}
+    for _ in range(400):
+        number = town.next_number()
+        place = {"id": number, "x": number, "y": 0, "core": False}
+        status = office.ask(machine, "/places", key=town.admin, body=place, number=number).status
+        if status != 200:
+            break
+    checks.equal("a write that finds no room", 503, status)
+    time.sleep(20)
+    machine.run("rm /var/lib/desk/full")
+    begun = time.monotonic()
+    while time.monotonic() - begun < 2 * SECONDS_TO_COME_BACK:
+        reply = office.ask(machine, "/places", key=town.admin, body=place, number=number)
+        if reply.status == 200:
+            break
+        time.sleep(0.5)
+    took = time.monotonic() - begun
+    checks.holds("the desk is back within a minute of the room", took < SECONDS_TO_COME_BACK, took)
+    machine.run("systemctl stop desk && cp -a /var/lib/desk/desk.db* /var/lib/desk-before/")
+    machine.run("umount /var/lib/desk && cp -a /var/lib/desk-before/. /var/lib/desk/")
+    machine.run("rm -rf /var/lib/desk-before && systemctl start desk")

@@ -1,0 +1,44 @@
+"""The package goes: removed, installed again, purged with the data kept, purged with a yes."""
+
+from __future__ import annotations
+
+from desk_tools.booted import office
+from desk_tools.booted.town import Town
+
+LISTENING = "ss -Hltn | awk '{print $4}' | grep -E ':(443|843[0-9])$'"
+FOLDERS = "/var/lib/desk /var/lib/desk-site /etc/desk /etc/ssl/desk /var/log/desk /var/backups/desk"
+
+
+def check(town: Town) -> None:
+    """All of this part."""
+    checks, machine = town.checks, town.machine
+    machine.run("apt-get remove -y -q desk")
+    # (nginx ends its old processes by itself)
+    is_gone = machine.wait_for(f"! {LISTENING}", 20)
+    checks.holds(
+        "after a remove nothing of the agency is served",
+        is_gone,
+        machine.run(LISTENING, check=False).output,
+    )
+    checks.holds("the data stay", machine.run("test -s /var/lib/desk/desk.db", check=False).is_well)
+    office.install(machine, "/root/desk.deb", "--allow-downgrades")
+    checks.holds("installed again, the desk answers", office.answers(machine))
+    reply = office.ask(machine, "/days/2026-01-01/sheet", key=town.admin)
+    checks.equal("by the site and its own keys", 403, reply.status)
+    told = machine.run("apt-get purge -y -q desk").output
+    for folder in FOLDERS.split():
+        checks.has("a purge names what stays", folder, told)
+    checks.holds("and keeps it", machine.run("test -s /var/lib/desk/desk.db", check=False).is_well)
+    left = machine.run(
+        "ls /etc/systemd/system | grep ^desk; ls /etc/nginx/conf.d", check=False
+    ).output
+    checks.equal("no settings of units and no site are left", "", left)
+    office.install(machine, "/root/desk.deb")
+    machine.run("echo 'desk desk/remove-data boolean true' | debconf-set-selections")
+    machine.run("apt-get purge -y -q desk")
+    data = machine.run(
+        "ls -d /var/lib/desk* /etc/desk /etc/ssl/desk /var/log/desk 2>/dev/null", check=False
+    )
+    checks.equal("a purge with a yes leaves nothing of them", "", data.output)
+    failed = machine.run("systemctl --failed --no-legend --plain", check=False).output
+    checks.equal("no unit failed", "", failed)

@@ -1,0 +1,84 @@
+"""The page *Record*: who did what, as an officer and an admin ask it, over the record of the town's own site."""
+import contextlib
+import os
+import subprocess
+
+from checks import check, holds, same
+from database import ROOT, until
+
+VANS = 1
+RIDER = 1002
+DAY = "2025-03-10"
+
+
+@contextlib.contextmanager
+def answering(at):
+    """The record of the town answers meanwhile."""
+    folder = at.town.folder
+    words = [f"{ROOT}/bin/journal", "--folder", f"{folder}/journal", "--agency", f"{folder}/site/agency.json", "serve", f"{folder}/socket"]
+    process = subprocess.Popen([*words, "--roster", f"{folder}/site/staff/roster.csv"])
+    try:
+        until("the record answers", lambda: os.path.exists(f"{folder}/socket"))
+        yield
+    finally:
+        process.terminate()
+        process.wait()
+        os.remove(f"{folder}/socket")
+
+
+def begin(at, holder):
+    at.town.set_clock(DAY, "10:00")
+    at.browser.sign_in(at.keys[holder], holder, "record")
+    at.browser.sees("Who did what")
+
+
+def asks(at, question, number=None):
+    at.browser.fill("What do you want to know?", question)
+    at.browser.fill("Number", "" if number is None else str(number))
+    at.browser.press("Show")
+
+
+@check
+def an_officer_sees_what_happened_to_a_trip(at):
+    number = at.town.book(RIDER, "2025-03-12", 600, 2, 3)
+    with answering(at):
+        begin(at, "officer")
+        asks(at, "What happened to a trip?", number)
+        at.browser.sees(f"What happened to trip {number}")
+        at.browser.sees(f"booked trip {number}")
+        at.browser.sees("promised: 2025-03-12")
+
+
+@check
+def keys_need_no_number_and_a_trip_needs_one(at):
+    begin(at, "officer")
+    asks(at, "What happened to a trip?")
+    at.browser.sees("Write the number of the trip, the rider or the caller.")
+    asks(at, "Who changed keys?", 5)
+    at.browser.sees("The list of keys takes no number.")
+
+
+@check
+def without_a_record_the_page_says_so(at):
+    begin(at, "officer")
+    asks(at, "Who changed keys?")
+    at.browser.sees("This site has no record, or it could not be read.")
+
+
+@check
+def an_admin_sees_keys_that_one_person_put_for_another(at):
+    digest = "ab" * 32
+    at.town.post("admin", "/callers", {"id": 77, "role": "examiner", "subject": 0, "digest": digest, "name": "Rosa Peña"})
+    with answering(at):
+        begin(at, "admin")
+        at.browser.sees("put a key for caller 77 (Rosa Peña, examiner)")
+        at.browser.sees("put by a key of nobody whom callers.csv names")
+
+
+@check
+def a_clerk_has_no_record(at):
+    at.town.set_clock(DAY, "10:00")
+    at.browser.sign_in(at.keys["clerk"], "clerk")
+    holds("a clerk has a part Record", not at.browser.script("return [...document.querySelectorAll('nav a')].some((it) => it.textContent.trim() === 'Record')"))
+    status, _, _ = at.town.answer("/record/keys", {"Desk-Key": at.keys["clerk"]})
+    same("the site's answer", 403, status)
