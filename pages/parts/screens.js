@@ -9,7 +9,7 @@ export const SCREENS = [
     { id: "clerk", module: "clerk", words: ["booking", "trips", "sent", "clerk", "cases", "map"], styles: ["booking", "cases", "map"] },
     { id: "examiner", module: "decisions", words: ["cases"], styles: ["cases"] },
     { id: "officer", module: "decisions", words: ["cases", "record"], styles: ["cases"] },
-    { id: "dispatcher", module: "dispatcher", words: ["booking", "trips", "clerk", "cases", "dispatcher", "map"], styles: ["booking", "dispatcher", "map"] },
+    { id: "dispatcher", module: "dispatcher", words: ["booking", "trips", "sent", "clerk", "cases", "dispatcher", "map"], styles: ["booking", "dispatcher", "map"] },
     { id: "driver", module: "driver", words: ["driver"], styles: ["driver"], first: ["parts/ages.js", "parts/lock.js", "parts/manifest-copies.js", "parts/queue.js", "parts/reads.js", "parts/screen.js", "parts/subject.js",
         "parts/texts.js", "parts/turns.js", "parts/vehicle-number.js", "screens/driver-acts.js", "screens/driver-day.js", "screens/driver-evidence.js",
         "screens/driver-files.js", "screens/driver-gone.js", "screens/driver-list.js", "screens/driver-lock.js", "screens/driver-note.js", "screens/driver-read.js",

@@ -29,11 +29,11 @@ function numberIn(typed) {
 }
 
 /** The number that is meant: digits that are a telephone number are searched as one.
- * @param {What} what @param {string} typed
+ * @param {string} typed
  */
-function plainNumber(what, typed) {
+function plainNumber(typed) {
     const number = numberIn(typed);
-    return number !== null && what === "rider" && !riderOf(number) && isTelephone(typed) ? null : number;
+    return number !== null && !riderOf(number) && isTelephone(typed) ? null : number;
 }
 
 /** @param {string} typed */
@@ -52,7 +52,7 @@ const vehicleText = (id) => (vehicles().some((it) => it.id === id && it.name) ? 
 /** The rider that is meant.
  * @param {string} typed */
 function riderMeant(typed) {
-    const number = plainNumber("rider", typed);
+    const number = plainNumber(typed);
     if (number !== null || !typed.trim()) return number;
     const found = ridersFor(typed);
     return found.length === 1 ? found[0].id : null;
@@ -70,9 +70,9 @@ const KINDS = {
  * @param {What} what @param {string} label @param {() => void} chosen
  */
 function subjectField(what, label, chosen) {
-    const field = comboField(what, label, { ...KINDS[what], chosen, sends: true, hint: what === "rider" && rosterSize() ? t("fields.rider-hint") : undefined,
-        marks: (typed) => (what === "rider" ? plainNumber(what, typed) === null : !/^[\d\s]+$/.test(typed)) });
-    field.control.setAttribute("data-search", "");
+    const field = comboField(what, label, { ...KINDS[what], chosen, sends: true, marks: (typed) => (what === "rider" ? plainNumber(typed) === null : !/^[\d\s]+$/.test(typed)),
+        hint: what === "rider" && rosterSize() ? t("fields.rider-hint") : undefined });
+    if (what === "rider") field.control.setAttribute("data-search", "");
     return field;
 }
 
