@@ -245,7 +245,7 @@ LOADED = """
 return performance.getEntriesByType("resource").filter((it) => it.name.startsWith(location.origin))
     .map((it) => [it.name, it.transferSize, it.decodedBodySize]);
 """
-MOST_BYTES_OF_SIGNING_IN = 76_000
+MOST_BYTES_OF_SIGNING_IN = 80_000
 
 
 @check

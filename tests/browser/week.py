@@ -179,7 +179,7 @@ def on_friday_the_one_who_was_refused_appeals_and_is_heard(at):
     show(at, REFUSED)
     at.browser.press(f"Enter rider {REFUSED}'s appeal against letter 1")
     at.browser.press(f"Yes, enter the appeal of rider {REFUSED}")
-    at.browser.sees("is on record. An officer has to hear the rider.")
+    at.browser.sees("is on record. An officer has to hold a hearing.")
     case_of(at, "officer", REFUSED, "appeals", FRIDAY)
     enter(at, "heard", f"Rider {REFUSED}'s appeal was heard")
     at.browser.sees("A decision is due within 30 days.")
@@ -193,13 +193,13 @@ def on_friday_the_one_who_was_refused_appeals_and_is_heard(at):
 def on_friday_the_one_who_missed_gets_a_notice_is_heard_and_suspended(at):
     begin(at, "clerk", "clerk", "file", FRIDAY)
     show(at, MISSED)
-    missed = {"What was missed, as it stands in the letter": "the trip of March 13"}
-    enter(at, "notice", f"Give rider {MISSED} notice", missed)
+    # (the trip of March 13 is checked already)
+    enter(at, "notice", f"Give rider {MISSED} notice", {"Proposed last day": "2025-04-20"})
     at.browser.sees("is on record, with its letter.")
     case_of(at, "officer", MISSED, "suspensions", FRIDAY)
     enter(at, "notice-heard", f"Rider {MISSED} was heard on the notice")
     at.browser.sees("on the notice is on record.")
-    days = {"First day": "2025-03-15", "Last day": "2025-03-24"}
+    days = {"First day of the suspension": "2025-03-15", "Last day": "2025-03-24"}
     enter(at, "suspend", f"Suspend rider {MISSED}", {**days, REASONS: "missed trips"})
     at.browser.sees("is suspended. The letter is above.")
     paper = at.browser.print_by(f"Print letter {SUSPENSION} of rider {MISSED}")
@@ -213,7 +213,7 @@ def while_the_appeal_is_pending_the_rider_travels(at):
     show(at, MISSED)
     at.browser.press(f"Enter rider {MISSED}'s appeal against letter {SUSPENSION}")
     at.browser.press(f"Yes, enter the appeal of rider {MISSED}")
-    at.browser.sees("is on record. An officer has to hear the rider.")
+    at.browser.sees("is on record. An officer has to hold a hearing.")
     same("a trip within the suspension", None, denial_of(at, MISSED))
 
 
