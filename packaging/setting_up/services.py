@@ -69,8 +69,8 @@ class Services:
         run("systemctl", "enable", "--now", *self.wanted)
         if self.others:
             run("systemctl", "disable", "--now", *self.others)
-        # The timers' hours are the agency's, which may be others than before.
-        run("systemctl", "restart", DESK, HEALTH, *[it for it in self.wanted if it.endswith(".timer")])
+        # The timers' hours are the agency's, which may be others than before; and what runs has the code of before an upgrade.
+        run("systemctl", "restart", *self.wanted)
         # The clock is waited for at a start of the machine, where this machine has the unit for it.
         subprocess.run(["systemctl", "--quiet", "enable", CLOCK], check=False, capture_output=True)
         self.wait_for_desk()

@@ -131,6 +131,8 @@ def make_site(changes, settings, lines):
 def make_log():
     """The log of what the site is told. A driver's note may name a rider, so it is for the site and the group adm."""
     os.makedirs(os.path.dirname(TOLD), exist_ok=True)
+    # (a folder that a restore made is root's alone; who reads the log has no way in)
+    os.chmod(os.path.dirname(TOLD), 0o755)
     with open(TOLD, "ab"):
         os.chmod(TOLD, 0o640)
     with contextlib.suppress(LookupError):

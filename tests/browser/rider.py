@@ -126,7 +126,7 @@ def an_appeal_that_is_filed_is_known_after_a_reload_and_signing_in_again(at):
     at.browser.sees("If you have appealed already, you need not appeal again.")
     at.browser.press("Appeal this decision (letter 1)")
     at.browser.press("Yes, appeal")
-    at.browser.sees("Your appeal is on record.", "We have your appeal of Monday, March 10, 2025.")
+    at.browser.sees("We have your appeal.", "We have your appeal of Monday, March 10, 2025.")
     at.browser.reload()
     at.browser.sees("We have your appeal of Monday, March 10, 2025. You need not appeal again.")
     holds("it is offered again", not at.browser.is_there("button", re.compile("^Appeal this decision")))

@@ -1,7 +1,9 @@
 """`desk travel` with a line in the record: driving times go into the file past the site."""
 
+import contextlib
 import json
 import os
+import shutil
 import subprocess
 import time
 from datetime import datetime, timezone
@@ -66,7 +68,10 @@ def give(
 def begin(places: Places, key: Path, public: Path) -> str:
     """Makes the folder of the record and the key that signs each day, where they are not there. Says the public key."""
     places.record.mkdir(mode=0o750, parents=True, exist_ok=True)
-    os.chmod(places.folder, 0o750)
+    # nginx's workers open the file of requests again by its name; they list nothing.
+    with contextlib.suppress(LookupError, PermissionError):
+        shutil.chown(places.folder, group="www-data")
+    os.chmod(places.folder, 0o710)
     if not key.exists():
         key.parent.mkdir(mode=0o700, parents=True, exist_ok=True)
         words = ["ssh-keygen", "-q", "-t", "ed25519", "-N", "", "-C", "desk-record", "-f", str(key)]
