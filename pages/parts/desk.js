@@ -196,6 +196,11 @@ const post = (path, body, number) => once("POST", path, { "Desk-Key": key ?? "",
 /** @param {Pending} pending */
 const keep = (pending) => sessionStorage.setItem(PENDING, JSON.stringify(pending));
 
+/** Whether the key that began a write is still signed in: nobody sends what another person began.
+ * @param {Pending} pending
+ */
+const isMine = ({ digest: whose }) => mine !== null && whose === mine;
+
 /** The same write until it is answered; pending.resent says whether it may have arrived more than once.
  * @param {Pending} pending
  * @returns {Promise<Reply<any>>}
@@ -205,16 +210,18 @@ async function untilAnswered(pending) {
         const reply = await post(pending.path, pending.body, pending.number);
         if (!reply.silent) {
             line.answers(pending);
-            if (reply.denied === "desk.key" && pending.nextKey && pending.resent) await hold(pending.nextKey);
-            else return /** @type {Reply<any>} */ (reply);
+            if (reply.denied !== "desk.key" || !pending.nextKey || !pending.resent || !isMine(pending)) return /** @type {Reply<any>} */ (reply);
+            await hold(pending.nextKey);
+            pending.digest = mine;
+            keep(pending);
         } else {
             line.waits(pending, reply.silent === SILENT ? "common.silent-write" : reply.silent);
             pending.resent ||= reply.silent === SILENT;
             pending.waited = true;
-            keep(pending);
+            if (isMine(pending)) keep(pending);
         }
         await pause(tries);
-        if (!signedIn()) {
+        if (!isMine(pending)) {
             line.answers(pending);
             return { denied: "left" };
         }
@@ -241,13 +248,13 @@ export const whenOthersWrote = (act) => { told = act; };
  */
 async function sent(pending) {
     let reply = await untilAnswered(pending);
-    for (let step = 1; reply.denied === "desk.number" && !pending.resent && step <= 2 ** 30; step *= 8) {
+    for (let step = 1; reply.denied === "desk.number" && !pending.resent && isMine(pending) && step <= 2 ** 30; step *= 8) {
         pending.number = takeNumber(pending.number + step);
         keep(pending);
         reply = await untilAnswered(pending);
         if (reply.denied !== "desk.number") told();
     }
-    sessionStorage.removeItem(PENDING);
+    if (isMine(pending)) sessionStorage.removeItem(PENDING);
     afterWrites.forEach((act) => act({ path: pending.path, fields: JSON.parse(pending.body), reply, waited: pending.waited === true }));
     return reply;
 }

@@ -1,6 +1,7 @@
 // Forms that are half filled. What was typed outlives another rider's call, another part, a reload and the sign-out of who did nothing for long.
 // It is kept for the key that typed it, in this window alone, and goes where somebody signs out by hand.
 
+import { controlName } from "./control-name.js";
 import * as desk from "./desk.js";
 
 /** @typedef {Record<string, string | boolean>} Typed what stands in the controls, by their names */
@@ -39,11 +40,6 @@ function keep(name, values) {
         // (a window without room keeps it as long as its page lives)
     }
 }
-
-/** A control's name, the same each time its form is made: what is counted up in it is left out.
- * @param {HTMLInputElement} control
- */
-const controlName = (control) => `${control.name || control.id}${control.type === "radio" ? ` ${control.value}` : ""}`.replace(/^([a-z]+)-\d+(?=-|$| )/i, "$1");
 
 const isTicked = (/** @type {HTMLInputElement} */ { type }) => type === "checkbox" || type === "radio";
 

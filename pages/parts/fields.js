@@ -271,11 +271,12 @@ function sendByEnter(event) {
 /** @typedef {{ question: string, detail?: Given, yes: string, danger?: boolean }} Question */
 
 /**
- * A form. begun() runs before anything is looked at; check(values) gives what is wrong of fields together; ask(values) gives a question that is asked once before it is sent; send(values) gives the
+ * A form. begun() runs before anything is looked at; check(values) gives what is wrong of fields together; ask(values) gives a question that is asked once before it is sent, null for none,
+ * undefined where whoever asked has left, and then nothing is sent; send(values) gives the
  * desk's reply; done(value, values) follows what was accepted, denied(reply, values) what was not. What was typed stays in any case, and while
  * it is sent a second click does nothing.
  * @param {{ name?: string, fields: Field[], action: string, purpose?: string, send: (values: any) => Promise<any>, done: (value: any, values: any) => any,
- *   begun?: () => void, check?: (values: any) => { field: string, fault: string } | null, ask?: (values: any) => Question | null | Promise<Question | null>, denied?: (reply: any, values: any) => Given | void,
+ *   begun?: () => void, check?: (values: any) => { field: string, fault: string } | null, ask?: (values: any) => Question | null | undefined | Promise<Question | null | undefined>, denied?: (reply: any, values: any) => Given | void,
  *   danger?: boolean, extra?: Given, class?: string }} given
  */
 export function form({ name, fields, action, purpose, send, done, begun = () => {}, check = () => null, ask = () => null, denied, danger = false, extra, class: kind }) {
@@ -294,7 +295,7 @@ export function form({ name, fields, action, purpose, send, done, begun = () => 
         const wrong = check(values);
         if (wrong) return tellAt(fields, wrong);
         const question = await ask(values);
-        if (question && !await asked(question)) return;
+        if (question === undefined || (question && !await asked(question))) return;
         submit.setAttribute("aria-disabled", "true");
         const reply = await send(values);
         submit.removeAttribute("aria-disabled");

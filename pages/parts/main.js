@@ -18,7 +18,7 @@ import { chooseLanguage, language, LANGUAGE_NAMES, languageFor, t, useWords } fr
 /** @typedef {import("../types").ScreenPart} ScreenPart */
 /** @typedef {import("./screens.js").Screen} Screen */
 
-const SCREEN = "desk.screen", STAYS = [SCREEN, "desk.language", "desk.agency", "desk.ahead", "desk.entered"], LOOKED = 5_000, MINUTE = 60_000;
+const SCREEN = "desk.screen", STAYS = [SCREEN, "desk.language", "desk.agency", "desk.ahead", "desk.entered"], OF_KEYS = ["desk.offers.", "desk.asking."], LOOKED = 5_000, MINUTE = 60_000;
 const HURRY = 5_000, NEVER_IDLE = ["driver"], BOARD = "#dispatcher/day", SEARCHES = ["clerk", "examiner", "officer"], USES = ["pointerdown", "keydown", "wheel", "touchstart", "touchmove"];
 
 /** How often something else was shown: who waited for a screen that was left draws nothing. */
@@ -288,12 +288,14 @@ async function leaveByHand() {
 async function signOut(words) {
     const digest = desk.digest(), { forgetHere } = await queue();
     desk.signOut();
+    // (a question that nobody has answered is answered no, and tells whom it was about no more)
+    for (const it of document.querySelectorAll("dialog")) it.close("");
     await forgetHere?.(digest);
     forgetPlaces();
     forgetRoster();
     (await own("reads")).forgetReads?.();
     loadedFor = "";
-    for (const name of Object.keys(localStorage)) if (name.startsWith("desk.") && !STAYS.includes(name)) localStorage.removeItem(name);
+    for (const name of Object.keys(localStorage)) if (name.startsWith("desk.") && !STAYS.includes(name) && !OF_KEYS.some((it) => name.startsWith(it))) localStorage.removeItem(name);
     clearNotes();
     history.replaceState(null, "", "#");
     await show();
@@ -345,7 +347,7 @@ function isActive({ type }) {
 
 // What was under way when the page was loaded anew comes to its end before anything else is sent.
 async function finish() {
-    const [{ lookAtSent, unread }] = await Promise.all([own("sent"), useWords("sent")]), reply = await desk.finishPending();
+    const [{ lookAtSent, unread }] = await Promise.all([own("sent"), useWords("sent").catch(() => {})]), reply = await desk.finishPending();
     lookAtSent?.();
     // (what became of a trip is in the list of what was sent)
     if (reply && !unread?.().length) note("finished", () => (reply.denied ? [part("p", {}, t("common.was-denied")), denialOf(reply)] : t("common.was-done")));

@@ -286,10 +286,10 @@ const dropped = (name, isOver) => within(name, "readwrite", (store) => {
     };
 });
 
-/** Drops what is some days old and waits for nothing. */
+/** Drops what is some days old and waits for nothing: neither for the desk nor for the site's log. */
 export async function prune() {
     const oldest = serverNow() - KEPT;
-    await dropped(ENTRIES, ({ since, state }) => since < oldest && state !== "waiting");
+    await dropped(ENTRIES, ({ since, state, tally }) => since < oldest && state !== "waiting" && !tally);
 }
 
 window.addEventListener("online", () => sendAll());

@@ -145,15 +145,18 @@ function foundIn({ wish, said, old }, trips) {
 }
 
 /** Takes up what was being asked for a rider when its window was closed: what was booked is what the rider said, or an offer.
- * @param {number} rider @param {Trip[]} trips
+ * @param {number} rider @param {Trip[]} trips @returns {{ trip: Trip, said: Said }[]} what was booked as it was said: the site is not told of it yet
  */
 export function takeUp(rider, trips) {
+    /** @type {{ trip: Trip, said: Said }[]} */
+    const booked = [];
     const all = /** @type {Asking[]} */ (Object.values(stored(ASKING))).filter((it) => it.rider === rider && !running.has(it.id));
     for (const asking of all) {
         const age = Date.now() - asking.since, trip = foundIn(asking, trips);
         if (asking.window !== windowsName() && age < OTHERS) continue;
-        if (trip && isAsSaid(asking.said, trip)) keepSaid(trip, asking.said);
+        if (trip && isAsSaid(asking.said, trip)) booked.push({ trip, said: asking.said });
         else if (trip && !offerOf(trip.trip)) keepOffer(trip.trip, { said: asking.said, old: asking.old, counted: false });
         if (trip || age > LOOKED) put(ASKING, asking.id, null);
     }
+    return booked;
 }

@@ -61,6 +61,11 @@ export const afterEnding = (legs, rider) => legs.filter((leg) => leg.rider !== r
  */
 export const toBeRead = (legs, rider = null) => legs.filter((leg) => leg.late && (rider === null || leg.rider === rider));
 
+/** Whose trip is changed, where the list knows it: the desk is told the trip alone.
+ * @param {Leg[]} legs @param {number} trip
+ */
+export const riderOfChange = (legs, trip) => legs.find((leg) => leg.trip === trip)?.rider ?? 0;
+
 /** The list of a rider was read.
  * @param {Leg[]} legs @param {number} rider
  */

@@ -9,7 +9,7 @@ import { button, part } from "./element.js";
 import { dropNote, note } from "./notes.js";
 import { riderLabel } from "./roster.js";
 import { makeScreen } from "./screen.js";
-import { afterAnswer, afterEnding, afterLoading, afterPlanning, afterReading, afterSending, toBeRead } from "./sent-list.js";
+import { afterAnswer, afterEnding, afterLoading, afterPlanning, afterReading, afterSending, riderOfChange, toBeRead } from "./sent-list.js";
 import { isOfMinute } from "./wishes.js";
 import { t } from "./words.js";
 
@@ -24,6 +24,12 @@ let known = null;
  * @type {Map<number, number>}
  */
 const riders = new Map();
+/** Riders whose bookings are listed elsewhere, as in the plan for a vehicle out of service, until a form asks for them.
+ * @type {Set<number>}
+ */
+const toldElsewhere = new Set();
+/** @param {number} rider */
+export const tellElsewhere = (rider) => { toldElsewhere.add(rider); };
 /** @type {Set<() => void>} */
 const readers = new Set();
 
@@ -58,18 +64,21 @@ function keep(next) {
  */
 const isSeen = (rider) => [...document.querySelectorAll(`[data-sent="${rider}"]`)].some((it) => it.getClientRects().length > 0);
 
-/** @param {string} path @param {any} fields */
+/** What is sent for a rider's trips, or null where it is nothing that this list has to tell.
+ * @param {string} path @param {any} fields
+ */
 function askedIn(path, fields) {
     const changed = CHANGE.exec(path), trip = changed ? Number(changed[1]) : null;
     if (path !== NEW && trip === null) return null;
-    const { rider = riders.get(trip ?? 0) ?? 0, ...wish } = fields;
-    return { rider: Number(rider), trip, wish: /** @type {Wish} */ (wish) };
+    const known = trip === null ? 0 : riders.get(trip) ?? riderOfChange(legs(), trip), { rider = known, ...wish } = fields;
+    return rider && !toldElsewhere.has(Number(rider)) ? { rider: Number(rider), trip, wish: /** @type {Wish} */ (wish) } : null;
 }
 
 /** What is going to be asked for a rider, one after another: what a page that is gone has not sent is told from it.
  * @param {number} rider @param {{ wish: Wish, said: import("./sent-list.js").Said }[]} wanted @param {number | null} [trip] the trip that is changed
  */
 export function planned(rider, wanted, trip = null) {
+    toldElsewhere.delete(rider);
     if (trip !== null) riders.set(trip, rider);
     keep(afterPlanning(legs(), { rider, trip, wanted: wanted.map(({ wish, said }) => ({ wish, said: said && { mode: said.mode, minute: said.minute } })) }));
 }
@@ -89,12 +98,18 @@ export const ended = (rider) => keep(afterEnding(legs(), rider));
  */
 const isCut = ({ state, cut, reply }) => state === "denied" && cut === true && isOfMinute(reply.denied);
 
+/** Of a change that did not come about: the trip itself stands.
+ * @param {Leg} leg @param {Record<string, any>} way
+ */
+const changeWords = (leg, way) => t(isCut(leg) ? "sent.change-cut" : leg.state === "denied" ? "sent.change-denied" : "sent.change-unsent", way);
+
 /** @param {Leg} leg */
 function words(leg) {
     const { rider, wish, said, state, reply, trip } = leg;
     const way = { day: dayShort(wish.day), from: placeName(wish.from), to: placeName(wish.to), rider: riderLabel(rider),
         said: said ? t(`sent.said-${said.mode}`, { time: clock(said.minute) }) : "" };
     if (state === "booked") return t(trip === null ? "sent.booked" : "sent.changed", { ...way, trip: reply.trip, window: between(reply.window_from, reply.window_to) });
+    if (trip !== null && state !== "sending" && state !== "planned") return changeWords(leg, { ...way, trip });
     if (isCut(leg)) return t("sent.cut", way);
     return t(state === "denied" ? "sent.denied" : state === "unsent" ? "sent.unsent" : "sent.sending", way);
 }

@@ -148,7 +148,8 @@ export function askerOf(given) {
     };
     const tryOthers = (/** @type {Leg} */ leg, /** @type {Side} */ side) => carryOn(leg, async () => {
         const told = await firstTaken(given, leg, otherRequests(leg.said, side));
-        if (!told || "denied" in told) return { ...told, other: true };
+        // (what the desk says of other times is no answer to what the rider said)
+        if (!told || "denied" in told) return { ...(told && ENDS.includes(told.denied.denied) ? told : {}), other: true };
         tellBooked(leg, told.ticket);
         return { ticket: told.ticket, denied: null, other: true };
     });
@@ -170,8 +171,8 @@ async function afterAnswer(leg, yes, old) {
     return denied ? { denied } : { offer: null, refused: offer };
 }
 
-/** Gives an offer up, as the agency's and not as the rider's cancellation; of a change the trip is put back to what it was. What the desk denied of it,
- * or null.
+/** Gives an offer up, as the agency's and not as the rider's cancellation; of a change the trip is put back to what it was, and old gets what the desk
+ * promises of it now: that may be another window. What the desk denied of it, or null.
  * @param {number} trip @param {Trip | null} old @returns {Promise<Denied | null>}
  */
 export async function givenUp(trip, old) {
@@ -179,5 +180,6 @@ export async function givenUp(trip, old) {
         companions: old.companions }) : await cancelTrip(trip, "agency");
     if (reply.denied !== undefined) return reply;
     dropOffer(trip);
+    if (old) Object.assign(old, reply.value);
     return null;
 }

@@ -7,14 +7,14 @@ import { denialOf } from "../parts/denials.js";
 import { button, part } from "../parts/element.js";
 import { form } from "../parts/fields.js";
 import { riderLabel } from "../parts/roster.js";
-import { driveOf, namedBy, readSaid, saidOf, takeUp } from "../parts/said.js";
+import { driveOf, namedBy, offerOf, readSaid, saidOf, takeUp } from "../parts/said.js";
 import { makeScreen } from "../parts/screen.js";
 import { ended, planned } from "../parts/sent.js";
 import { otherRequests, pickupsOf, searched, underWay, underWayOf } from "../parts/wishes.js";
 import { t } from "../parts/words.js";
 import { faultOf, wishFields } from "./booking-fields.js";
-import { askerOf, saidIn } from "./booking-plan.js";
-import { offersOf, offerShown } from "./offers.js";
+import { askerOf, saidIn, tellBooked } from "./booking-plan.js";
+import { offersOf, offerShown, refusedWords } from "./offers.js";
 import { printTickets, saidWords, ticketOf, windowOf } from "./ticket.js";
 
 export { dollars, windowOf } from "./ticket.js";
@@ -46,11 +46,16 @@ const legsOf = (values, change) => values.days.flatMap((/** @type {string} */ da
 /** @param {[number, number]} one @param {[number, number]} other */
 const meets = (one, other) => one[0] < other[1] && other[0] < one[1];
 
-/** What somebody should say yes to before it is sent: the rider's trips are read anew for it.
+/** What somebody should say yes to before it is sent: the rider's trips are read anew for it. Undefined where the screen was left meanwhile.
  * @param {About} about @param {Leg[]} legs
  */
 async function questionOf({ rider, trip }, legs) {
-    const reply = await desk.tripsOf(rider), booked = (reply.value?.trips ?? []).filter((it) => it.status === "booked" && it.trip !== trip?.trip);
+    const reply = await desk.tripsOf(rider);
+    if (reply.denied === "left") return undefined;
+    // (it may have been changed since; an offer that waits for its answer is no change yet)
+    const now = trip && !offerOf(trip.trip) && reply.value?.trips.find((it) => it.trip === trip.trip);
+    if (trip && now) Object.assign(trip, now);
+    const booked = (reply.value?.trips ?? []).filter((it) => it.status === "booked" && it.trip !== trip?.trip);
     const isSame = (/** @type {Trip} */ it) => legs.some(({ wish }) => wish.day === it.day && wish.from === it.from && wish.to === it.to);
     const overlaps = (/** @type {Trip} */ it) => !isSame(it) && legs.some(({ wish, said }) => wish.day === it.day && meets(underWay(said), underWayOf(it, driveOf(it))));
     const nowhere = legs.some(({ wish }) => wish.from === wish.to), same = booked.filter(isSame), meeting = booked.filter(overlaps);
@@ -103,8 +108,8 @@ function legShown(leg, about, acts, busy) {
     if (ticket) return part("li", { key }, ticketOf({ rider, ticket, wish, said }, { id,
         heading: t(trip ? "booking.changed-for" : "booking.booked-for", { trip: ticket.trip, rider: riderLabel(rider) }) }));
     if (offer) return part("li", { key }, offerShown({ trip: { ...wish, ...offer }, said, old: trip, denied: leg.denied, id, busy, answer: (yes) => acts.answer(leg, yes) }));
-    if (refused) return part("li", { key }, part("section", { class: "refused", tabindex: -1, id, "aria-label": t("booking.offer-given-up") },
-        part("h3", {}, trip ? standsWords(trip) : t("booking.offer-given-up")), part("p", {}, t("booking.offer-counted"))));
+    if (refused) return part("li", { key }, part("section", { class: "refused", tabindex: -1, id, "aria-label": refusedWords(trip) },
+        part("h3", {}, refusedWords(trip)), part("p", {}, t("booking.offer-counted"))));
     if (leg.denied) return part("li", { key }, deniedShown(leg, about, acts, busy));
     return part("li", { key, class: "waiting" }, part("p", {}, `${legWords(leg)}: `, t(busy ? "booking.asking" : "booking.not-asked")));
 }
@@ -150,11 +155,17 @@ function wishScreen({ rider, trip = null, booked, heading, action }) {
             const { legs } = screen.state;
             screen.change({}, { focus: legs.length === 1 ? `leg-${legs[0].key}` : `results-${about.ids}` });
         } });
+    // (what this form has under way comes to its end first)
+    whole.addEventListener("submit", (event) => {
+        if (!screen.state.busy) return;
+        event.preventDefault();
+        event.stopImmediatePropagation();
+    }, true);
     const screen = makeScreen({ state: /** @type {State} */ ({ legs: [], busy: false }), class: trip ? "inner card" : "card",
         draw: (state) => [part(trip ? "h3" : "h2", { id: about.ids, tabindex: -1 }, heading), whole, resultsShown(state, about, asker)] });
     screen.onNewDay(days.renew);
     const write = (/** @type {Record<string, any>} */ values) => fields.forEach((it) => { if (it.name in values) it.write(values[it.name]); });
-    return { element: screen.element, write, focus: () => days.control.focus(), begin: () => screen.change({ legs: [], busy: false }) };
+    return { element: screen.element, write, focus: () => days.control.focus(), begin: () => screen.change({ legs: [], busy: false }), isBusy: () => screen.state.busy };
 }
 
 /** What a trip that is there says of a wish: what the rider said of it, as far as that is known. Else a minute to be there by is what mattered, or the
@@ -180,6 +191,7 @@ export function bookingFor(rider, options = {}) {
     const { booked = () => {}, changed = () => {} } = options;
     const screen = wishScreen({ rider, booked, heading: t("booking.book-for", { rider: riderLabel(rider) }), action: t("booking.book", { rider: riderLabel(rider) }) });
     const copy = (/** @type {Trip} */ trip, /** @type {Trip | null} */ back) => {
+        if (screen.isBusy()) return;
         screen.begin();
         screen.write({ ...wishOf(trip), days: "", ...backOf(back) });
         screen.focus();
@@ -195,7 +207,7 @@ export function offersFor(rider, changed = () => {}) {
     const { element, show } = offersOf(rider, changed);
     desk.tripsOf(rider).then(async (reply) => {
         if (reply.value === undefined) return;
-        takeUp(rider, reply.value.trips);
+        for (const { trip, said } of takeUp(rider, reply.value.trips)) tellBooked({ wish: trip, said }, trip);
         show(reply.value.trips);
         if (!location.hash.startsWith("#rider") && await readSaid()) changed();
     });

@@ -19,13 +19,12 @@ import { worklist } from "./worklist.js";
 
 // A rider's record.
 
-/** What the desk knows of a rider's record: null where there is none, else its kind; undefined where it did not say.
+/** What the desk knows of a rider's record: its kind; null where there is none or it did not say, "left" where the screen was left meanwhile.
  * @param {number} rider
  */
 async function kindOf(rider) {
     const reply = await desk.standing(rider, today());
-    if (reply.denied === "desk.unknown") return null;
-    if (reply.denied !== undefined) return undefined;
+    if (reply.denied !== undefined) return reply.denied === "left" ? "left" : null;
     return reply.value.standing.startsWith("visitor") ? "visitor" : "resident";
 }
 
@@ -36,7 +35,8 @@ const recordWords = ({ kind, attendant, wheelchair }) => [t(`clerk.as-${kind}`),
 /** @param {any} values */
 async function recordQuestion(values) {
     const kind = await kindOf(values.id);
-    if (!kind) return null;
+    if (kind === "left") return undefined;
+    if (kind === null) return null;
     return { question: t("clerk.change-question", { rider: riderLabel(values.id) }), detail: t("clerk.change-detail", { rider: riderLabel(values.id),
         kind: t(`clerk.as-${kind}`), record: recordWords(values) }), yes: t("clerk.change-yes", { rider: values.id }) };
 }

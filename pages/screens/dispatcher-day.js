@@ -244,8 +244,11 @@ export function dayPicture() {
     } });
     const fill = () => screen.element.classList.toggle("dispatch-fill", !screen.state.asTable);
     fill();
+    let reads = 0;
     async function renew() {
-        const { day, text: before } = screen.state, [sheet, trips, told, unplaced] = await Promise.all([desk.sheet(day), desk.tripsOn(day), readTold(day), readUnplaced()]);
+        reads += 1;
+        const { day, text: before } = screen.state;
+        const [sheet, trips, told, unplaced] = await Promise.all([desk.sheet(day), desk.tripsOn(day), readTold(day), readUnplaced()]).finally(() => { reads -= 1; });
         if (screen.state.day !== day || sheet.denied === "left" || trips.denied === "left") return;
         if (sheet.denied !== undefined) return screen.change({ denied: sheet });
         screen.change({ text: sheet.value, csv: trips.value ?? "", denied: null, now: nowOn(day), told, unplaced });
@@ -265,7 +268,8 @@ export function dayPicture() {
     for (const [name, printing] of /** @type {[string, boolean][]} */ ([["beforeprint", true], ["afterprint", false]])) {
         window.addEventListener(name, () => { if (screen.element.isConnected) screen.change({ printing }); });
     }
-    screen.every(RENEWED, renew);
+    // (a silent desk is asked by the read that waits for it)
+    screen.every(RENEWED, () => { if (!reads) renew(); });
     screen.onNewDay(() => {
         screen.change(({ day }) => ({ ended: true, now: nowOn(day) }));
         renew();

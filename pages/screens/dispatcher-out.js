@@ -270,9 +270,15 @@ function askForm(show) {
     }, done: () => {} });
 }
 
+/** How many reads of it are under way. */
+let asking = 0;
+
 /** The plans of this browser, for a key that may read a day. */
 async function takeWork() {
-    if (work.running || (await desk.tripsOn(today())).denied !== undefined) return;
+    if (work.running) return;
+    asking += 1;
+    const { denied } = await desk.tripsOn(today()).finally(() => { asking -= 1; });
+    if (denied !== undefined) return;
     const plans = await keptPlans();
     if (work.running) return;
     work.plans = plans.sort((a, b) => (keyOf(a) < keyOf(b) ? -1 : 1));
@@ -308,7 +314,8 @@ export function outOfService() {
         screen.change({ plans, shown, running, unkept });
     };
     takeWork();
-    screen.every(LOOKED, takeWork);
+    // (a silent desk is asked by the read that waits for it)
+    screen.every(LOOKED, () => { if (!asking) takeWork(); });
     screen.onNewDay(() => screen.change({ found: null }));
     return screen.element;
 }

@@ -6,6 +6,7 @@ import * as desk from "../parts/desk.js";
 import { EVENTS } from "../parts/events.js";
 import { DAYS_AHEAD } from "../parts/limits.js";
 import { byPickup, carryOut as carriedOut, keyOf, readAgain as readPlanAgain, saidOf } from "../parts/out-of-service.js";
+import { tellElsewhere } from "../parts/sent.js";
 import { cancelTrip, count } from "../parts/tally.js";
 import { manifestsIn, rowsIn } from "../parts/texts.js";
 import { firstSaid, keepSaid, keepSettings } from "./dispatcher-settings.js";
@@ -178,10 +179,18 @@ function tellDenial(denial) {
     if (EVENTS.denials.rule.words?.includes(denial.rule)) count("denials", denial);
 }
 
+/** Books what the plan's own list tells of.
+ * @type {Ports["book"]}
+ */
+const bookListed = (fields) => {
+    tellElsewhere(fields.rider);
+    return desk.book(fields);
+};
+
 /** @param {number} vehicle @param {Ports["keep"]} keep @returns {Ports} */
 function portsOf(vehicle, keep) {
     const whose = desk.digest();
-    return { tripsOf: desk.tripsOf, cancel: (trip) => cancelTrip(trip, "agency"), book: desk.book, putVehicle, dutyOn: (days) => dutyOn(vehicle, days), itemsNow, keep,
+    return { tripsOf: desk.tripsOf, cancel: (trip) => cancelTrip(trip, "agency"), book: bookListed, putVehicle, dutyOn: (days) => dutyOn(vehicle, days), itemsNow, keep,
         count: tellDenial, booked: tellBooked, isMine: () => desk.digest() === whose };
 }
 

@@ -202,8 +202,10 @@ export function dayTrips() {
         return [dayBar({ ...state, go, kept }), state.denied ? denialOf(state.denied) : state.csv === null ? part("p", {}, t("dispatcher.reading"))
             : tripsCard(state, acts)];
     } });
+    let reads = 0;
     const renew = async () => {
-        const { day } = screen.state, [reply, sheet] = await Promise.all([desk.tripsOn(day), desk.sheet(day)]);
+        reads += 1;
+        const { day } = screen.state, [reply, sheet] = await Promise.all([desk.tripsOn(day), desk.sheet(day)]).finally(() => { reads -= 1; });
         if (screen.state.day !== day || reply.denied === "left") return;
         screen.change(reply.denied !== undefined ? { denied: reply } : { csv: reply.value, sheet: sheet.value ?? "", denied: null });
     };
@@ -211,7 +213,8 @@ export function dayTrips() {
     for (const [name, printing] of /** @type {[string, boolean][]} */ ([["beforeprint", true], ["afterprint", false]])) {
         window.addEventListener(name, () => { if (screen.element.isConnected) screen.change({ printing }); });
     }
-    screen.every(RENEWED, () => { if (!screen.state.bulk?.running) renew(); });
+    // (a silent desk is asked by the read that waits for it)
+    screen.every(RENEWED, () => { if (!screen.state.bulk?.running && !reads) renew(); });
     screen.onMedia(NARROW);
     screen.onNewDay(() => {
         screen.change({ ended: true });

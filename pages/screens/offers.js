@@ -1,6 +1,6 @@
 // Offers: a trip that stands and begins at another time than the rider said. It is kept on a yes alone, and given up on a no.
 
-import { clock, dayInWords } from "../parts/clock.js";
+import { clock, dayInWords, dayShort } from "../parts/clock.js";
 import { denialOf } from "../parts/denials.js";
 import { button, part } from "../parts/element.js";
 import { placeName } from "../parts/agency.js";
@@ -39,6 +39,11 @@ export function offerShown({ trip, said, old, denied, id, busy, answer }) {
             button(t(old ? "booking.offer-back" : "booking.offer-no", { trip: trip.trip, window: old ? windowOf(old) : "" }), () => answer(false), { "aria-disabled": disabled })));
 }
 
+/** What an offer that was not taken leaves: of a change the trip as it stands again.
+ * @param {Trip | null} old
+ */
+export const refusedWords = (old) => (old ? t("booking.offer-is-back", { trip: old.trip, day: dayShort(old.day), window: windowOf(old) }) : t("booking.offer-given-up"));
+
 /** The offers of a rider that nobody has answered. show(trips) takes the rider's trips as they are now.
  * @param {number} rider @param {() => void} changed what is done once one was answered
  */
@@ -60,7 +65,7 @@ export function offersOf(rider, changed) {
         const denied = yes ? null : await givenUp(trip.trip, offer.old);
         if (yes) tellBooked({ wish: trip, said: offer.said }, trip);
         screen.change(denied ? { busy: false, denied: { [trip.trip]: denied } } : { busy: false, trips: left(trip.trip),
-            told: t(yes ? "booking.offer-kept" : "booking.offer-given-up", { trip: trip.trip }) }, { focus: denied ? `offer-${trip.trip}` : `offers-${rider}` });
+            told: yes ? t("booking.offer-kept", { trip: trip.trip }) : refusedWords(offer.old) }, { focus: denied ? `offer-${trip.trip}` : `offers-${rider}` });
         changed();
     };
     const show = (/** @type {Trip[]} */ all) => {

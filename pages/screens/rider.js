@@ -37,11 +37,15 @@ const help = () => (agency().telephone ? [make("p", { class: "hint" }, t("rider.
 let again = null;
 
 /** @param {number} rider */
-const trips = (rider) => [offersFor(rider), tripsOfRider(rider, { heading: t("rider.trips"), cards: true, purpose: "rider", again: (trip, back) => {
-    again = { trip, back };
-    keepSubject("rider", rider);
-    location.hash = "rider/book";
-} }).element, ...help()];
+function trips(rider) {
+    const list = tripsOfRider(rider, { heading: t("rider.trips"), cards: true, purpose: "rider", again: (trip, back) => {
+        again = { trip, back };
+        keepSubject("rider", rider);
+        location.hash = "rider/book";
+    } });
+    lookAtSent();
+    return [make("div", { class: "stack", "data-sent": rider }, sentFor(rider), offersFor(rider), list.element), ...help()];
+}
 
 /** Nothing is offered for another's number.
  * @param {number} rider

@@ -129,7 +129,7 @@ export function tripsOfRider(rider, { heading, cards = false, purpose = "standin
         draw: (state, { kept }) => {
             const reply = read.reply(), tools = (/** @type {Trip} */ trip) => toolsOf(trip, { rider, cancel, change, again: again && ((it) => again(it, wayBack(tripsNow(), it))) });
             /** @type {(trip: Trip) => Given} */
-            const below = (trip) => state.changing === trip.trip && [kept(`change-${trip.trip}`, () => changeFor(rider, trip, refresh)).element,
+            const below = (trip) => state.changing === trip.trip && [kept(`change-${trip.trip}`, () => changeFor(rider, { ...trip }, refresh)).element,
                 button(t("booking.leave"), () => screen.change({ changing: null }, { focus: top }))];
             return [part("h2", { id: top, tabindex: -1 }, heading), read.age(), reply === null ? part("p", {}, t("booking.reading"))
                 : reply.denied !== undefined ? denialOf(reply, purpose)

@@ -191,6 +191,30 @@ def two_windows_of_one_key_write_at_once_and_all_is_done_once(at):
     same("the trips", before + 6, trips(at))
 
 
+OTHER_SIGNS_IN = """
+const [key, done] = arguments;
+import("/parts/desk.js").then(async (desk) => {
+    desk.signOut();
+    await desk.signIn(key);
+}).then(done);
+"""
+
+
+@check
+def a_write_that_waits_does_not_go_on_under_the_next_persons_key(at):
+    signed_in(at)
+    before = trips(at)
+    at.town.middle.breaks(LOST, times=1000)
+    try:
+        asks(at, "book", wish(1060))
+        at.browser.sees(SIGN)
+        at.browser.driver.execute_async_script(OTHER_SIGNS_IN, at.keys["second clerk"])
+    finally:
+        at.town.middle.planned.clear()
+    same("the reply", {"denied": "left"}, replies(at)[0])
+    same("the trips", before, trips(at))
+
+
 @check
 def a_slow_desk_leaves_the_page_usable(at):
     signed_in(at)

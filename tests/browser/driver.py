@@ -916,7 +916,7 @@ def it_is_there_in_spanish(at):
     at.browser.fill("Language", "Español")
     at.browser.sees("Próxima parada", "Todas las paradas", "Llamar a la central, 555-0100")
     at.browser.press("Listo aquí")
-    at.browser.sees("Recoger: Rosa Álvarez", "A bordo", "No se presentó", "No lo recogimos nosotros", "Llegué")
+    at.browser.sees("Recoger: Rosa Álvarez", "A bordo", "No se presentó", "Fallamos en esta recogida", "Llegué")
     same("axe", [], at.browser.axe()["violations"])
     at.browser.press("No se presentó")
     at.browser.sees("¿Marcar que no se presentó? Rosa Álvarez")

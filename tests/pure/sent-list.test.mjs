@@ -1,7 +1,7 @@
 // What came of each trip that was asked for, whatever happens to the page and the line.
 import assert from "node:assert/strict";
 import test from "node:test";
-import { afterAnswer, afterEnding, afterLoading, afterPlanning, afterReading, afterSending, toBeRead } from "../../pages/parts/sent-list.js";
+import { afterAnswer, afterEnding, afterLoading, afterPlanning, afterReading, afterSending, riderOfChange, toBeRead } from "../../pages/parts/sent-list.js";
 
 const wish = (day, from = 1, minute = 600) => ({ day, wish: minute, from, to: 9, by: null, attendant: false, companions: 0 });
 const asked = (day, from, minute, trip = null) => ({ rider: 7, trip, wish: wish(day, from, minute) });
@@ -66,4 +66,11 @@ test("a denial within a plan that broke off is marked: the rest of the plan was 
     }
     const ended = afterLoading(afterAnswer(afterSending([], asked("2025-03-11")), asked("2025-03-11"), { denied: "no vehicle" }, true));
     assert.equal(ended[0].cut, false);
+});
+
+test("after a reload a change that is answered is its rider's, and is told", () => {
+    const legs = afterLoading(afterSending(afterPlanning([], { rider: 7, trip: 12, wanted: [planned(wish("2025-03-11"))] }), asked("2025-03-11", 1, 600, 12)));
+    assert.deepEqual([riderOfChange(legs, 12), riderOfChange(legs, 13)], [7, 0]);
+    const told = afterAnswer(legs, { ...asked("2025-03-11", 1, 600, 12), rider: riderOfChange(legs, 12) }, ticket(12), true);
+    assert.deepEqual(states(toBeRead(told, 7)), ["booked"]);
 });

@@ -106,6 +106,7 @@ export const words = {
     "booking.offers-open": ({ rider, count }) => (count === 1 ? `An offer waits for an answer of ${rider}` : `${count} offers wait for an answer of ${rider}`),
     "booking.offer-kept": ({ trip }) => `Trip ${trip} is kept.`,
     "booking.offer-given-up": "The offer was not taken, and is given up.",
+    "booking.offer-is-back": ({ trip, day, window }) => `Trip ${trip} is back: ${day}, pickup ${window}.`,
     "booking.offer-counted": "It is counted as a denial of the time that the rider asked for, and not as a cancellation by the rider.",
     "booking.change-of": ({ trip, rider }) => `Change trip ${trip} of ${rider}`,
     "booking.leave": "Close",

@@ -106,6 +106,7 @@ export const words = {
     "booking.offers-open": ({ rider, count }) => (count === 1 ? `Una oferta espera respuesta de ${rider}` : `${count} ofertas esperan respuesta de ${rider}`),
     "booking.offer-kept": ({ trip }) => `El viaje ${trip} se conserva.`,
     "booking.offer-given-up": "La oferta no se aceptó y quedó anulada.",
+    "booking.offer-is-back": ({ trip, day, window }) => `El viaje ${trip} volvió: ${day}, recogida ${window}.`,
     "booking.offer-counted": "Cuenta como denegación de la hora que pidió el pasajero, y no como cancelación del pasajero.",
     "booking.change-of": ({ trip, rider }) => `Cambiar el viaje ${trip} de ${rider}`,
     "booking.leave": "Cerrar",
