@@ -630,27 +630,6 @@ def what_is_sure_to_be_a_slip_is_asked_about_first(at):
     holds("the trip before is untouched", trip < other["trip"])
 
 
-BOOKED = """
-const [rider, day, done] = arguments;
-import("/parts/desk.js").then((desk) => desk.book({ rider, day, wish: 660, from: 3, to: 9, by: null, attendant: false, companions: 0 })).then(done);
-"""
-
-
-@check
-def who_leaves_before_the_question_comes_sends_nothing(at):
-    begin(at, "1002")
-    before = len(at.town.trips_of(1002))
-    wish(at, start="school", goal="library", day=THURSDAY, wish="2 pm")
-    with at.town.middle.gone():
-        at.browser.press(BOOK)
-        at.browser.sees("The desk does not answer.")
-        at.browser.script("location.hash = '#clerk/file'")
-        wait_for(at, "the other part", "!document.querySelector('form.wish')")
-    # (a further booking waits for what was sent before it)
-    at.browser.driver.execute_async_script(BOOKED, 1002, THURSDAY)
-    same("trips", before + 1, len(at.town.trips_of(1002)))
-
-
 @check
 def morning_or_evening_is_asked_only_where_both_are_possible(at):
     begin(at, "1004")
