@@ -562,7 +562,7 @@ def a_change_that_is_denied_says_how_the_trip_stands(at):
 
 @check
 def a_second_change_in_the_same_form_starts_from_the_first(at):
-    at.town.book(1007, WEDNESDAY, 660, 8, 1)
+    at.town.book(1007, THURSDAY, 660, 9, 7)
     number = last_trip(at, 1007)["trip"]
     begin(at, "1007")
     name = f"Change trip {number} of Walter Hughes (1007)"
@@ -575,7 +575,7 @@ def a_second_change_in_the_same_form_starts_from_the_first(at):
     trip = next(it for it in at.town.trips_of(1007) if it["trip"] == number)
     at.browser.fill("Pickup time", "4:00 am", whole)
     at.browser.press(name, within=whole)
-    at.browser.sees(f"Not changed. Trip {number} stays as it was: Wed, Mar 12, pickup "
+    at.browser.sees(f"Not changed. Trip {number} stays as it was: Thu, Mar 13, pickup "
                     f"{clock(trip['window_from']).rsplit(' ', 1)[0]}–{clock(trip['window_to'])}.")
 
 
@@ -628,48 +628,6 @@ def what_is_sure_to_be_a_slip_is_asked_about_first(at):
     at.browser.press("No, go back")
     same("trips", before + 1, len(at.town.trips_of(1003)))
     holds("the trip before is untouched", trip < other["trip"])
-
-
-BOOKED = """
-const [rider, day, done] = arguments;
-import("/parts/desk.js").then((desk) => desk.book({ rider, day, wish: 660, from: 3, to: 9, by: null, attendant: false, companions: 0 })).then(done);
-"""
-
-
-@check
-def who_leaves_before_the_question_comes_sends_nothing(at):
-    begin(at, "1002")
-    before = len(at.town.trips_of(1002))
-    wish(at, start="school", goal="library", day=THURSDAY, wish="2 pm")
-    with at.town.middle.gone():
-        at.browser.press(BOOK)
-        at.browser.sees("The desk does not answer.")
-        at.browser.script("location.hash = '#clerk/file'")
-        wait_for(at, "the other part", "!document.querySelector('form.wish')")
-    # (a further booking waits for what was sent before it)
-    at.browser.driver.execute_async_script(BOOKED, 1002, THURSDAY)
-    same("trips", before + 1, len(at.town.trips_of(1002)))
-
-
-@check
-def what_is_under_way_comes_to_its_end_before_the_form_is_sent_again(at):
-    begin(at, "1003")
-    at.town.book(1003, WEDNESDAY, 600, 7, 3)
-    first = last_trip(at, 1003)["trip"]
-    at.browser.script("window.dispatchEvent(new Event('focus'))")
-    at.browser.find("button", f"Book trip {first} again on another day")
-    wish(at, start="7 Elm", goal="Riverside", day="2025-03-19", wish="9 am", by="8:05 am")
-    at.browser.press(BOOK)
-    results(at, 1)
-    with at.town.middle.hold():
-        at.town.middle.writes()
-        at.browser.press("Try earlier and later times")
-        until("another time is asked for", at.town.middle.writes)
-        at.browser.press(f"Book trip {first} again on another day")
-        at.browser.press(BOOK)
-        same("what was typed stays", "9:00 AM", at.browser.value("Pickup time"))
-        same("what is asked stays", 1, at.browser.script("return document.querySelectorAll('.legs .refused').length"))
-    wait_for(at, "a ticket", "document.querySelectorAll('.legs .ticket').length === 1")
 
 
 @check
