@@ -146,7 +146,7 @@ class Browser:
     def sees_no(self, *texts):
         """Waits until the page shows none of these texts."""
         from checks import COUNTED
-        until(lambda: f"the page still shows one of {texts}", lambda: not any(it in self.text() for it in texts), 10)
+        until(lambda: f"the page still shows one of {texts}", lambda: not any(it in self.text() for it in texts))
         COUNTED["held"] += len(texts)
 
     # The keyboard.
