@@ -355,8 +355,11 @@ def told_file(at, minute, taps):
 @check
 def what_needs_a_person_stands_on_top_and_leads_to_its_row(at):
     text = at.town.get("dispatcher", f"/vehicles/1/manifest/{DAY}")
-    minutes, trip = next((int(it[1]) * 60 + int(it[2]), int(it[3])) for it in re.finditer(r"(\d\d):(\d\d) PICK trip (\d+)", text)
-                         if any(row["trip"] == it[3] and row["status"] == "booked" for row in rows_of(at, DAY)))
+    stops = [(int(it[1]) * 60 + int(it[2]), it[3], int(it[4])) for it in re.finditer(r"(\d\d):(\d\d) (PICK|DROP) trip (\d+)", text)]
+    open_trips = {int(row["trip"]) for row in rows_of(at, DAY) if row["status"] == "booked"}
+    # (where the van is goes by the last stop of a trip that ended, too)
+    begun = max([index for index, (_, _, trip) in enumerate(stops) if trip not in open_trips], default=-1) + 1
+    minutes, _, trip = next(it for it, after in zip(stops[begun:], stops[begun + 1:]) if it[1] == "PICK" and after[0] > it[0] + 1)
     late = minutes + 24
     told_file(at, late + 1, [{"trip": trip, "kind": "aboard", "minute": late}])
     sign_in(at, DAY, f"{(late + 1) // 60:02}:{(late + 1) % 60:02}")
