@@ -12,8 +12,8 @@ import { t } from "./words.js";
 /** @typedef {(path: string) => Promise<any>} Ask */
 /** @typedef {(ask: Ask, before: any) => Promise<any>} Reader how a path is read: before is the value that is kept of it, undefined where there is none */
 /** @typedef {{ act: () => void, shown: boolean }} Watcher */
-/** @typedef {{ path: string, read: Reader, period: number, kept: Kept, begun: number | null, waits: boolean, old: boolean,
- *   watchers: Map<HTMLElement, Watcher> }} Source */
+/** @typedef {{ path: string, read: Reader, period: number, kept: Kept, begun: number | null, waits: boolean, missed: boolean, old: boolean,
+ *   watchers: Map<HTMLElement, Watcher> }} Source missed: it was asked for while its first read was under way, and that may be of before */
 /** @typedef {{ reply: () => any, age: () => import("../types").Given, again: () => Promise<any>, watch: (place: HTMLElement, act: () => void) => () => void }} Reading
  *   again reads until it is answered; watch follows each reply as long as the place is on the page, or until what it gives is called */
 
@@ -57,6 +57,10 @@ async function readSurely(source) {
         return await readWith(source, desk.read);
     } finally {
         source.waits = false;
+        if (source.missed) {
+            source.missed = false;
+            renew(source);
+        }
     }
 }
 
@@ -70,7 +74,11 @@ const isWatched = (source) => [...source.watchers.keys()].some((place) => place.
 
 /** Reads all that is shown once more, whatever its age. */
 export function readAll() {
-    for (const source of sources.values()) if (isWatched(source) && !(source.waits && source.kept.reply === null)) renew(source);
+    for (const source of sources.values()) {
+        if (!isWatched(source)) continue;
+        if (source.waits && source.kept.reply === null) source.missed = true;
+        else renew(source);
+    }
 }
 
 /** @type {ReturnType<typeof setTimeout> | undefined} */
@@ -111,7 +119,7 @@ function ageOf(kept) {
 export function reading(path, { read = (ask) => ask(path), period = RENEWED } = {}) {
     /** @returns {Source} */
     const source = () => {
-        const known = sources.get(path) ?? { path, read, period, kept: NOTHING, begun: null, waits: false, old: false, watchers: new Map() };
+        const known = sources.get(path) ?? { path, read, period, kept: NOTHING, begun: null, waits: false, missed: false, old: false, watchers: new Map() };
         sources.set(path, known);
         return known;
     };
