@@ -1,7 +1,8 @@
 // What is known of one read, and how old it is. Nothing here knows of a page or of the desk.
 
-/** Milliseconds after which what is shown says as of when it is, and after which it is read again. */
-export const OLD = 60_000, RENEWED = 30_000;
+/** Milliseconds after which what is shown says as of when it is, after which it is read again, and after which it is where the last read was not
+ * answered. */
+export const OLD = 60_000, RENEWED = 30_000, RETRIED = 10_000;
 
 /** @typedef {{ at: number, day: string, minute: number }} Moment at is milliseconds of the server's clock, day and minute what the agency's clocks showed */
 /** @typedef {{ reply: any, moment: Moment | null, order: number, failed: boolean }} Kept the last reply, when it came, the place of its request among all,

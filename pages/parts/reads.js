@@ -2,7 +2,7 @@
 // their own. It is read again when somebody asks for it, when the window is looked at again, after each write of this window and of this
 // browser's other windows, and each half minute while it is seen.
 
-import { afterHearing, isDue, isOld, NOTHING, RENEWED } from "./ages.js";
+import { afterHearing, isDue, isOld, NOTHING, RENEWED, RETRIED } from "./ages.js";
 import { clock, dayShort, minuteNow, serverNow, today } from "./clock.js";
 import * as desk from "./desk.js";
 import { part } from "./element.js";
@@ -99,7 +99,7 @@ function look() {
     for (const [path, source] of sources) {
         if (source.old !== isOld(source.kept, now)) tell(source);
         if (isWatched(source)) {
-            if (!document.hidden && !source.waits && isDue(source.begun, now, source.period)) renew(source);
+            if (!document.hidden && !source.waits && isDue(source.begun, now, source.kept.failed ? Math.min(RETRIED, source.period) : source.period)) renew(source);
         } else if (!source.waits && isDue(source.begun, now, FORGOTTEN)) sources.delete(path);
     }
 }
