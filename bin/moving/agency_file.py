@@ -120,6 +120,14 @@ def time_kept(kind):
     return read
 
 
+def hold(value, *_):
+    """Why no record is removed now."""
+    try:
+        return lengths.hold_of(value)
+    except ValueError as error:
+        raise Fault(str(error)) from None
+
+
 def days_to_appeal(value, *_):
     if type(value) is not int or value != DAYS_TO_APPEAL:
         raise Fault(f"{shown(value)} is not {DAYS_TO_APPEAL}, the days within which the desk takes an appeal")
@@ -302,7 +310,7 @@ FIELDS = {
     "wait_minutes": whole(0, 60), "lead": whole(0, 60), "idle_minutes": whole(0, LAST_MINUTE),
     "board_minutes": whole(0, LAST_MINUTE + 1), "board_names": yes_or_no, "manifest_telephone": yes_or_no,
     "lock_minutes": whole(5, 720), "appeal": obj(APPEAL), "subscription_share": share, "closed": closed_days, "unproved": yes_or_no,
-    "retention": obj({it: time_kept(it) for it in lengths.DEFAULTS}),
+    "retention": obj({**{it: time_kept(it) for it in lengths.DEFAULTS}, lengths.HOLD: hold}),
     "places": records(PLACE, ["id"], PLACE_PAIRS),
     "routes": records(ROUTE, ["id", "width", "points"], ROUTE_PAIRS),
     "vehicles": records(VEHICLE, ["id"], []),

@@ -3,10 +3,11 @@ import datetime
 import hashlib
 import os
 
-from moving import agency_file, carry, feed as feeds, fewer, fixed, keys, plane as geometry, tables
+from moving import agency_file, carry, desk, feed as feeds, fewer, fixed, keys, plane as geometry, tables
 from moving.carry import Task, accepted
 from moving.desk import Caller, Journal, Line
-from moving.limits import DONE, GREATEST_WIDTH, MOST_PLACES, MOST_ROUTES, SOME_REFUSED, Wrong
+from moving.limits import DONE, GREATEST_WIDTH, MANY_VERSIONS, MOST_PLACES, MOST_ROUTES, MOST_VERSIONS, SOME_REFUSED, Wrong
+from moving.typed import holidays
 
 ROLES = ["admin", "clerk", "examiner", "dispatcher"]
 
@@ -52,14 +53,38 @@ def routes(words):
     print(f"plane: round {plane.latitude}, {plane.longitude}; "
           f"a length is wrong by {error * 1000:.3f} feet in a thousand at most")
     told_routes(numbered, retired, made)
-    carry.planned(refused, [*notes, *feed.notes, *notes_of_kinds(feed, made)])
+    closed, said = closed_of(feed, agency.get("closed", []))
+    told_closed(closed, agency.get("closed", []))
+    carry.planned(refused, [*notes, *said, *feed.notes, *notes_of_kinds(feed, made)])
     if words.plan:
         return ended(refused)
     said_of_agency(agency, feed.agency)
+    if closed:
+        agency["closed"] = closed
     admin = caller_of(words, "admin")
     if not os.path.exists(f"{words.folder}/plane.json"):
         geometry.keep_plane(words.folder, plane, error)
     return put_routes(words, admin, agency, [*bodies_of(numbered, retired)], refused)
+
+
+def closed_of(feed, known):
+    """The closed days of agency.json with those on which no bus of the feed runs, and notes where the two differ."""
+    found = {it["day"]: it for it in known}
+    for day in feeds.closed_days(feed):
+        name = holidays.name_of(day)
+        found.setdefault(day.isoformat(), {"day": day.isoformat(), **({"name": name} if name else {})})
+    running = {it.isoformat() for route in feed.routes for it in feed.days.get(route.key, ())}
+    notes = [f"{it['day']} is closed in agency.json, and buses run on it by the feed" for it in known if it["day"] in running]
+    return [found[it] for it in sorted(found)], notes
+
+
+def told_closed(closed, known):
+    """Says which days are closed, and which of them are new in agency.json."""
+    before = {it["day"] for it in known}
+    print(f"{len(closed)} closed days, on which no bus runs and no trip is taken:" if closed else "No day of the feed is closed.")
+    for it in closed:
+        word = f" ({it['name']})" if it.get("name") else ""
+        print(f"  {it['day']}{word}: {'in agency.json already' if it['day'] in before else 'new'}")
 
 
 def made_routes(feed, plane, making, most):
@@ -237,7 +262,7 @@ def vehicles(words):
         hours = f"{fixed.days_text(it['days'])} {fixed.clock(it['opens'])}-{fixed.clock(it['closes'])}"
         print(f"  {it['number']}: {it['name']}: from {it['from_day']}, {hours}, {it['capacity']} seats, "
               f"{it['chairs']} wheelchair places, depot {it['depot']}")
-    carry.planned(refused, unread_told(unread))
+    carry.planned(refused, [*unread_told(unread), *many_versions(records, desk.versions_put(words.folder))])
     if words.plan:
         return ended(refused)
     dispatcher = caller_of(words, "dispatcher")
@@ -250,6 +275,17 @@ def vehicles(words):
         agency["vehicles"][str(record["number"])] = {**agency["vehicles"].get(str(record["number"]), {}), **said}
     carry.keep_agency(words.folder, agency)
     return status
+
+
+def many_versions(records, put):
+    """A note for each vehicle that comes near the versions for which the desk has room."""
+    days = {vehicle: set(those) for vehicle, those in put.items()}
+    for it in records:
+        days.setdefault(it["number"], set()).add(str(it["from_day"]))
+    for vehicle, those in sorted(days.items()):
+        if len(those) >= MANY_VERSIONS and any(it["number"] == vehicle for it in records):
+            yield (f"vehicle {vehicle} has {len(those)} versions with this table, and the desk takes {MOST_VERSIONS} of a vehicle, for good. "
+                   "For a holiday take closed days of agency.json in their place")
 
 
 def vehicle_fault(record, depots):

@@ -146,6 +146,16 @@ class Journal:
                 os.fsync(file.fileno())
 
 
+def versions_put(folder):
+    """The first days of each vehicle's versions that this folder's file says the desk took, by the vehicle's number; of the desk that took most."""
+    found = {}
+    for entry in Journal(folder, None).entries():
+        path, body, _ = json.loads(entry["write"])
+        if path == "/vehicles" and entry.get("status") == 200:
+            found.setdefault(body["id"], {}).setdefault(entry["url"], set()).add(body["from_day"])
+    return {vehicle: max(by_desk.values(), key=len) for vehicle, by_desk in found.items()}
+
+
 def key_in(path):
     """The key that a file holds, without the newline at its end."""
     try:

@@ -20,12 +20,18 @@ Route = collections.namedtuple("Route", "key name kind runs")
 Stop = collections.namedtuple("Stop", "name latitude longitude")
 # A line: positions in order, whether they are a shape's (else those of its stops), and the keys of the stops along it.
 Line = collections.namedtuple("Line", "positions has_shape stops")
-# (agency.json's own names for what the feed says of its agency)
-Feed = collections.namedtuple("Feed", "agency routes lines stops notes")
+# (agency.json's own names for what the feed says of its agency; the days on which each route runs, as far as the feed tells)
+Feed = collections.namedtuple("Feed", "agency routes lines stops notes days")
+# For so many days from the first one closed days are looked for; a weekday is served where a bus runs on it so many days before or after.
+DAYS_OF_CLOSED, DAYS_ALIKE = 366, 28
 WEEKDAYS = ("monday", "tuesday", "wednesday", "thursday", "friday", "saturday", "sunday")
 NEEDED = ("agency", "routes", "trips", "stop_times", "stops")
 OTHERS = ("calendar", "calendar_dates", "shapes", "frequencies")
 TIME, NUMBER = re.compile(r"(\d{1,3}):([0-5]\d):([0-5]\d)"), re.compile(r"[+-]?(\d+\.?\d*|\.\d+)([eE][+-]?\d+)?")
+
+
+class NothingRuns(Wrong):
+    """A feed without a trip in the days that are asked about."""
 
 
 class Table:
@@ -95,20 +101,29 @@ def checked(archive, path):
     return archive
 
 
+def tables_of(archive, path):
+    """The feed's files by their names, all that are needed among them."""
+    names = {it.rpartition("/")[2]: it for it in archive.namelist()}
+    tables = {it: Table(archive, names, f"{it}.txt") for it in (*NEEDED, *OTHERS)}
+    for name in NEEDED:
+        if not tables[name]:
+            raise Wrong(f"{path} has no file {name}.txt")
+    if not tables["calendar"] and not tables["calendar_dates"]:
+        raise Wrong(f"{path} has neither calendar.txt nor calendar_dates.txt")
+    return tables
+
+
 def read_feed(path, first_day, days):
     """The feed with what runs on so many days from the first one."""
     with checked(opened(path), path) as archive:
-        names = {it.rpartition("/")[2]: it for it in archive.namelist()}
-        tables = {it: Table(archive, names, f"{it}.txt") for it in (*NEEDED, *OTHERS)}
-        for name in NEEDED:
-            if not tables[name]:
-                raise Wrong(f"{path} has no file {name}.txt")
-        if not tables["calendar"] and not tables["calendar_dates"]:
-            raise Wrong(f"{path} has neither calendar.txt nor calendar_dates.txt")
+        tables = tables_of(archive, path)
         services = services_of(tables, first_day, first_day + datetime.timedelta(days=days - 1))
         feed, days_of = feed_of(tables, services)
+        feed = feed._replace(days=route_days(tables, first_day))
+        closed = closed_days(feed)
         for route in feed.routes:
-            feed.notes.extend(notes_of_days(route.name, days_of[route.key], first_day, days))
+            feed.notes.extend(notes_of_days(route.name, days_of[route.key], [
+                it for it in (first_day + datetime.timedelta(days=at) for at in range(days)) if it not in closed]))
         return feed
 
 
@@ -138,13 +153,29 @@ def services_of(tables, first_day, last_day):
                 days.add(day) if row["exception_type"] == "1" else days.discard(day)
     if not any(running.values()):
         told = f"it tells of days from {min(known)} to {max(known)}" if known else "it tells of no day"
-        raise Wrong(f"nothing runs from {first_day} to {last_day} by this feed: {told}")
+        raise NothingRuns(f"nothing runs from {first_day} to {last_day} by this feed: {told}")
     return running
 
 
-def notes_of_days(name, running, first_day, days):
+def route_days(tables, first_day):
+    """The days on which each route runs, by its key, as far as the feed tells."""
+    services = services_of(tables, first_day, first_day + datetime.timedelta(days=DAYS_OF_CLOSED - 1))
+    days = collections.defaultdict(set)
+    for row in trips_of(tables["trips"], services).values():
+        days[row["route_id"]] |= services[row["service_id"]]
+    return days
+
+
+def closed_days(feed):
+    """The days on which none of the feed's routes runs, though buses run on that weekday some weeks before or after."""
+    running = set().union(*(feed.days.get(it.key, ()) for it in feed.routes))
+    weeks = [datetime.timedelta(days=it) for it in range(-DAYS_ALIKE, DAYS_ALIKE + 1, 7)]
+    span = [min(running) + datetime.timedelta(days=it) for it in range((max(running) - min(running)).days)] if running else []
+    return [day for day in span if day not in running and any(day + it in running for it in weeks)]
+
+
+def notes_of_days(name, running, span):
     """Where a route runs on some of the span's Mondays and not on all, and so on: the desk knows weekdays alone."""
-    span = [first_day + datetime.timedelta(days=it) for it in range(days)]
     for weekday in sorted({it.isoweekday() for it in running}):
         alike = [it for it in span if it.isoweekday() == weekday]
         there, missing = [it for it in alike if it in running], [it for it in alike if it not in running]
@@ -184,7 +215,7 @@ def feed_of(tables, services):
     routes = [Route(key, name, kind, list(runs.pop(key))) for key, name, kind in named if key in runs]
     if runs:
         raise Wrong(f"trips.txt names the route {min(runs)!r}, which routes.txt has not")
-    return Feed(agency_of(tables["agency"]), routes, lines, stops, notes), days_of
+    return Feed(agency_of(tables["agency"]), routes, lines, stops, notes, {}), days_of
 
 
 def agency_of(table):
@@ -230,13 +261,15 @@ def spans_of(visits, repeats):
     times = [time for visit in visits for time in visit[2:] if time is not None]
     if not repeats:
         return [(min(times), max(times))]
-    return [(start, end + max(times) - min(times)) for start, end in repeats]
+    return [(start, end + max(times) - min(times)) for start, end, _ in repeats]
 
 
 def repeats_of(table):
+    """For each trip that is repeated: from when to when, and after how many seconds each time, or 0."""
     repeats = collections.defaultdict(list)
     for row in table.rows("trip_id", "start_time", "end_time"):
-        repeats[row["trip_id"]].append((table.seconds(row, "start_time") or 0, table.seconds(row, "end_time") or 0))
+        pause = int(table.number(row, "headway_secs")) if row.get("headway_secs") else 0
+        repeats[row["trip_id"]].append((*(table.seconds(row, it) or 0 for it in ("start_time", "end_time")), max(0, pause)))
     return repeats
 
 

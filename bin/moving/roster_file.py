@@ -10,7 +10,7 @@ import re
 
 from moving.limits import HIGHEST_NUMBER, Wrong
 
-COLUMNS = ("rider", "name", "telephone", "language", "home", "usual", "aid", "note")
+COLUMNS = ("rider", "name", "telephone", "language", "home", "usual", "aid", "note", "attendant")
 NEEDED, LISTED = ("rider", "name"), {"home", "usual"}
 DRIVERS_COLUMNS = ("rider", "name", "note")
 # What a roster holds, as far as it is right, and a sentence for each thing that is wrong.

@@ -14,19 +14,21 @@ from moving.limits import Wrong
 PUBLIC = ("name", "telephone", "address", "zone", "first_weekday", "place_word", "clock", "languages", "wait_minutes",
           "lead", "idle_minutes", "lock_minutes", "board_minutes", "board_names", "manifest_telephone", "appeal", "closed",
           "unproved")
+# What is assumed to be true where it is not there: here a no is said.
+ASSUMED = ("board_names",)
 # Whoever serves the files is in the folder's group; nobody else reads them.
 FILE_MODE, FOLDER_MODE = 0o640, 0o2750
-FIXED = ("agency.json", "places.json", "staff/places.json", "staff/roster.csv", "drivers/places.json", "drivers/roster.csv")
+FIXED = ("agency.json", "places.json", "staff/places.json", "staff/roster.csv", "staff/duty.json", "drivers/places.json", "drivers/roster.csv")
 OWN_NAMES = ("places.json", "name.json")
 OWN = re.compile(r"own/[1-9][0-9]*/(?:places|name)\.json")
 
 
-def texts_of(agency, roster=None, drivers=None):
+def texts_of(agency, roster=None, drivers=None, duty=None):
     """Each file's text by its path in the folder."""
     lists = {name: agency.get(name, []) for name in agency_file.LISTS}
     hidden = {**lists, "places": [without_secrets(it) for it in lists["places"]]}
     texts = {
-        "agency.json": agency_file.text_of({it: agency[it] for it in PUBLIC if agency.get(it, False) is not False}),
+        "agency.json": agency_file.text_of({it: agency[it] for it in PUBLIC if it in agency and (agency[it] is not False or it in ASSUMED)}),
         "places.json": agency_file.text_of(hidden),
         "staff/places.json": agency_file.text_of(lists),
     }
@@ -38,6 +40,8 @@ def texts_of(agency, roster=None, drivers=None):
         # A letter that riders print themselves has to name them.
         for it in roster.riders:
             texts[f"own/{it['rider']}/name.json"] = agency_file.text_of({"name": it["name"]})
+    if duty:
+        texts["staff/duty.json"] = agency_file.text_of(duty)
     if drivers:
         # The site has no address for it: bin/driver-files takes from it what each van's driver needs.
         texts["drivers/roster.csv"] = roster_file.text_of(drivers.riders, roster_file.DRIVERS_COLUMNS)

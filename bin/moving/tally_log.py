@@ -16,7 +16,7 @@ PAGE = "page"
 RENAMED = {"from": "window_from", "to": "window_to"}
 NAMES = {kind: [RENAMED.get(it, it) for it in event.all_fields if it != "id"] for kind, event in EVENTS.items()}
 TUPLES = {kind: collections.namedtuple("Told", ["id", "received", *names, "told_by"]) for kind, names in NAMES.items()}
-Log = collections.namedtuple("Log", "denials stops cancellations broken of")
+Log = collections.namedtuple("Log", "denials stops cancellations broken of events")
 
 
 def read(paths):
@@ -28,7 +28,7 @@ def read(paths):
     of = {kind: [] for kind in EVENTS}
     for it in log.events:
         of[it.kind].append(told_of(it))
-    return Log(of["denials"], of["stops"], of["cancellations"], log.broken, of)
+    return Log(of["denials"], of["stops"], of["cancellations"], log.broken, of, log.events)
 
 
 def told_of(it):

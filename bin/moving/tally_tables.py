@@ -81,6 +81,8 @@ def denials_page(denials, name, broken):
     title = "Denied trips by month" + (f", {name}" if name else "")
     notes = [f"{it}: {RULES[it]}." for it in rules]
     notes += ["A trip is counted in the month for which it was asked, once for each time it was denied."]
+    lost = sum(it.leg is not None for it in denials)
+    notes += [f"{lost} of these are ways back that were lost, since the way there was denied."] if lost else []
     notes += [f"{broken} lines of the log could not be read, and are not counted."] if broken else []
     return "\n".join([
         "<!DOCTYPE html>", '<html lang="en">', f"<head><meta charset=\"utf-8\"><title>{html.escape(title)}</title>",

@@ -14,7 +14,7 @@ from office_parts import building, proxy
 from office_parts.serving import Trouble, end
 
 SITE, NGINX, TALLY, WAITING = "site", "nginx", "nginx/tally.log", "staff/worklist.html"
-DAY = "staff/today.json"
+DAY, NO_SHOWS = "staff/today.json", "staff/no-shows.json"
 # Lines of the site that only TLS has a use for.
 OF_TLS = re.compile(r"^ *(ssl_\w+|http2_\w+|add_header Strict-Transport-Security) .*;\n", re.MULTILINE)
 SSL = re.compile(r"^ *(listen .*ssl|ssl_)", re.MULTILINE)
@@ -159,7 +159,8 @@ class Day:
     def __init__(self, top, folder):
         served = f"{folder}/{SITE}"
         os.makedirs(f"{served}/staff", exist_ok=True)
-        words = [f"{top}/deploy/today", f"{folder}/{TALLY}", f"{served}/{DAY}", "--agency", f"{served}/agency.json"]
+        words = [f"{top}/deploy/today", f"{folder}/{TALLY}", f"{served}/{DAY}", "--no-shows", f"{served}/{NO_SHOWS}",
+                 "--agency", f"{served}/agency.json"]
         self.process = subprocess.Popen(
             words, stdout=subprocess.DEVNULL, stderr=subprocess.DEVNULL, stdin=subprocess.DEVNULL, start_new_session=True
         )

@@ -2,8 +2,14 @@
 tell people what waits."""
 import collections
 
+from moving.typed import on_record
+
 # After so many days without an answer an application is presumed granted (37.125(c)).
 DAYS_UNTIL_PRESUMED = 21
+# From so many days on an application stands first.
+DAYS_UNTIL_PRESSING = 15
+# An appeal stands first that was not heard for so many days.
+DAYS_UNTIL_UNHEARD = 30
 # So many days after its hearing an appeal against a refusal is overdue (37.125(g)).
 DAYS_UNTIL_OVERDUE = 30
 # A grant is listed where it ends within so many days.
@@ -27,6 +33,17 @@ def application(entries):
         elif it.kind in ("grant", "refuse"):
             waiting = None
     return waiting
+
+
+def part_waiting(entries):
+    """The refusal of a grant in part that no grant follows, and whether a new application is taken since; or None."""
+    refusal, is_taken = None, False
+    for it in entries:
+        if it.kind in ("grant", "refuse"):
+            refusal, is_taken = (it if it.kind == "refuse" and on_record.part_in(it.words) else None), False
+        elif it.kind == "complete":
+            is_taken = True
+    return (refusal, is_taken) if refusal else None
 
 
 def presumed_on(complete):

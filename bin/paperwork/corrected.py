@@ -2,10 +2,8 @@
 
 Its columns are `trip`, `outcome`, `who` and `why`. docs/WORKLIST.md, "Reports", says how it is kept.
 """
-import csv
-import io
-
-from moving.limits import HIGHEST_NUMBER, Wrong
+from moving import csv_rows
+from moving.limits import HIGHEST_NUMBER
 from paperwork import copies
 
 COLUMNS = ("trip", "outcome", "who", "why")
@@ -14,21 +12,21 @@ OUTCOMES = {"ridden": copies.RIDDEN, "missed-rider": copies.MISSED_BY_RIDER, "mi
 
 def read(path):
     """The right outcome by trip, as the file has it, and a sentence for each row that is wrong. The last row of a trip holds."""
-    try:
-        with open(path, encoding="utf-8-sig", newline="") as file:
-            rows = list(csv.DictReader(io.StringIO(file.read(), newline="")))
-    except (OSError, ValueError, csv.Error) as error:
-        raise Wrong(f"{path} can't be read: {error}") from None
-    if rows and not set(COLUMNS) <= {*rows[0]}:
-        raise Wrong(f"{path} lacks a column of {', '.join(COLUMNS)}")
     found, faults = {}, []
-    for number, row in enumerate(rows, 2):
+    for number, row in enumerate(csv_rows.read(path, COLUMNS), 2):
         said = fault_of(row)
         if said:
             faults.append(f"row {number}: {said}")
         else:
             found[int(row["trip"])] = OUTCOMES[row["outcome"].strip()]
     return found, faults
+
+
+def by_trip(path):
+    """The right outcome by trip, in the desk's words, and a sentence for each row that is wrong."""
+    found, faults = read(path)
+    words = {status: word for word, status in OUTCOMES.items()}
+    return {trip: words[status] for trip, status in found.items()}, faults
 
 
 def fault_of(row):

@@ -4,16 +4,28 @@ docs/WORKLIST.md says what each means.
 """
 import collections
 
-from moving.limits import DAYS_TO_APPEAL
+from moving.limits import DAYS_TO_APPEAL, MANY_VERSIONS, MOST_VERSIONS
 from moving.tally_log import AGENCY
+from moving.typed import offers as told_offers
+from moving.typed import today as day_file
 from paperwork import case_files, copies
+from paperwork.corrected import OUTCOMES
 from paperwork.copies import day_of, number_of
+
+# Over so many days it is looked whom a no-show policy would have met, and which policies.
+DAYS_LOOKED_BACK = 90
+POLICIES = [copies.Policy(*it) for it in [(1, 100, 1), (2, 10, 30), (3, 10, 30), (4, 15, 30), (4, 10, 60), (6, 10, 90)]]
+# What is to be done next for a grant in part; pages/words/on-record.js has the same words.
+TAKE, GRANT = "Take the new application", "Grant it with its conditions"
 
 # A list: its name, title, who works with it, what it means, its columns, and its rows of numbers, days and texts.
 Listed = collections.namedtuple("Listed", "name title reader note columns rows")
 Rider = collections.namedtuple("Rider", "number")
 # A figure or the head of a column of figures, which go to the right.
 Number = collections.namedtuple("Number", "text")
+
+# Lists of riders on whom an examiner or an officer has to decide.
+DECIDED_ON = ("applications", "in-part", "appeals", "missed")
 
 
 class Names:
@@ -26,16 +38,21 @@ class Names:
         return (Rider(number), self.riders.get(number, ""))
 
 
-def all_lists(copy, today, names, log=None):
-    """Each list, for today, and the riders whose case files somebody has to decide on. The log is the site's."""
+def all_lists(copy, today, names, log=None, corrected=None, closed=()):
+    """Each list, for today, and the riders whose case files somebody has to decide on. The log is the site's; corrected
+    has the outcomes of corrections.csv, by trip, and is None where there is no such file; closed has the words of the
+    days on which nobody is served."""
     files, now = copy.case_files(), number_of(today)
     patterns = patterns_of(copy, now)
     lists = [
-        applications(files, now, names), appeals(files, now, names), grants(files, now, names),
+        first(files, now, names), applications(files, now, names), in_part(files, now, names), appeals(files, now, names), grants(files, now, names),
         missed(files, patterns, now, names), suspended_trips(copy, files, now, names),
-        without_outcome(copy, now, names), vehicles(copy, now, names), not_rebooked(copy, log, now, names),
+        without_outcome(copy, now, names), vehicles(copy, now, names), *rebooked(copy, log, now, names, closed),
+        on_closed_days(copy, log, now, names, closed), versions(copy, names),
+        no_shows(copy, log, now, names), disagreements(copy, log, now, names), corrections(copy, log, corrected, names),
+        offers(copy, log, today, names), policies(copy, now),
     ]
-    deciding = {row[0].number for it in lists[:2] + lists[3:4] for row in it.rows}
+    deciding = {row[0].number for it in lists if it.name in DECIDED_ON for row in it.rows}
     return lists, {rider: files.get(rider, []) for rider in sorted(deciding)}
 
 
@@ -45,6 +62,40 @@ def days_from(now, day):
         return "today"
     count = abs(day - now)
     return f"{'in ' if day > now else ''}{count} day{'' if count == 1 else 's'}{'' if day > now else ' ago'}"
+
+
+def first(files, now, names):
+    """Applications and appeals for which the time is nearly over, or over: what has waited longest comes first."""
+    found = []
+    for rider, entries in files.items():
+        waiting, pending = case_files.application(entries), case_files.appeal(entries)
+        found += [(it, rider, *rest) for it, *rest in (pressing_application(waiting, now), pressing_appeal(pending, now)) if it is not None]
+    rows = [(*names.rider(rider), reader, said, day_of(day), f"{now - day} days") for day, rider, reader, said in sorted(found)]
+    return Listed(
+        "first", "What comes first", "examiner and officer",
+        f"Applications from day {case_files.DAYS_UNTIL_PRESSING} on, of the {case_files.DAYS_UNTIL_PRESUMED} days after which the rider is presumed "
+        f"eligible. Appeals that nobody heard for {case_files.DAYS_UNTIL_UNHEARD} days, or that were heard and not decided for {case_files.DAYS_UNTIL_OVERDUE}.",
+        ("Rider", "Name", "Who decides", "What waits", "Since", "How long"), rows)
+
+
+def pressing_application(waiting, now):
+    """Since which day an application waits, for whom, and what is said of it; or None three times."""
+    if waiting is None or now - waiting.day < case_files.DAYS_UNTIL_PRESSING:
+        return None, None, None
+    presumed = case_files.presumed_on(waiting)
+    said = f"application; presumed eligible from {day_of(presumed)}" if presumed > now else f"application; presumed eligible since {day_of(presumed)}"
+    return waiting.day, "examiner", said
+
+
+def pressing_appeal(pending, now):
+    """The same of an appeal: since it was entered, or since it was heard."""
+    if pending is None:
+        return None, None, None
+    if pending.heard is None:
+        is_late = now - pending.entry.day >= case_files.DAYS_UNTIL_UNHEARD
+        return (pending.entry.day, "officer", "appeal, not heard") if is_late else (None, None, None)
+    overdue = case_files.overdue_on(pending)
+    return (pending.heard.day, "officer", "appeal, heard and not decided") if overdue is not None and overdue <= now else (None, None, None)
 
 
 def applications(files, now, names):
@@ -57,6 +108,18 @@ def applications(files, now, names):
         f"Complete and not answered. {case_files.DAYS_UNTIL_PRESUMED} days after it was complete, the rider is "
         "presumed eligible until somebody decides.",
         ("Rider", "Name", "Complete on", "Presumed from", "When"), rows)
+
+
+def in_part(files, now, names):
+    """Grants in part of which the grant is not entered yet: the refusal's reasons name its conditions."""
+    found = [(rider, *it) for rider, entries in files.items() if (it := case_files.part_waiting(entries))]
+    rows = [(*names.rider(rider), refusal.place, day_of(refusal.day), GRANT if is_taken else TAKE, days_from(now, refusal.day))
+            for rider, refusal, is_taken in sorted(found, key=lambda it: (it[1].day, it[0]))]
+    return Listed(
+        "in-part", "Grants in part to finish", "clerk and examiner",
+        "What is not granted was refused with reasons. A clerk takes the new application, and the examiner grants it with "
+        "its conditions. Both decisions are one letter.",
+        ("Rider", "Name", "Entry", "Refused on", "Next", "When"), rows)
 
 
 def appeals(files, now, names):
@@ -102,6 +165,35 @@ def patterns_of(copy, now):
         copies.MISSED_BY_RIDER, copies.MISSED_BY_OPERATOR)
     patterns = {rider: case_files.Pattern(ended, missed_by) for rider, ended, missed_by in found}
     return {rider: it for rider, it in patterns.items() if case_files.is_pattern(it, copy.policy)}
+
+
+def riders_meeting(copy, now, policy, days=DAYS_LOOKED_BACK):
+    """How many riders would have met a no-show policy on some of the last days, and how many had a trip in them."""
+    found = collections.defaultdict(list)
+    for rider, day, status in copy.rows(
+            "SELECT rider, day, status FROM trips WHERE day >= ? AND day < ? AND status IN (?, ?, ?) ORDER BY rider, day",
+            now - days - policy.span_days, now, copies.RIDDEN, copies.MISSED_BY_RIDER, copies.MISSED_BY_OPERATOR):
+        found[rider].append((day, status == copies.MISSED_BY_RIDER))
+    recent = [trips for trips in found.values() if trips[-1][0] >= now - days]
+    return sum(any(meets(trips, day, policy) for day in range(now - days + 1, now + 1)) for trips in recent), len(recent)
+
+
+def meets(trips, today, policy):
+    """Whether a rider's trips with an outcome make a pattern on a day. A trip is its day and whether the rider missed it."""
+    counted = [is_missed for day, is_missed in trips if today - policy.span_days <= day < today]
+    return bool(counted) and case_files.is_pattern(case_files.Pattern(len(counted), sum(counted)), policy)
+
+
+def policies(copy, now):
+    """How many riders some no-show policies would have met, that in force first."""
+    own = copy.policy
+    rows = [(it.min_missed, f"{it.percent} %", it.span_days, *riders_meeting(copy, now, it), "in force" if it == own else "")
+            for it in [own, *(it for it in POLICIES if it != own)]]
+    return Listed(
+        "policies", "What a no-show policy would mean", "officer and manager",
+        f"How many riders would have met each on some of the last {DAYS_LOOKED_BACK} days. What is beyond a rider's control "
+        "is no ground (37.125(h)(1)): where many riders meet a policy, look at the vans first.",
+        ("No-shows", "Share", "Days", "Riders who meet it", "Riders with trips", ""), rows)
 
 
 def missed(files, patterns, now, names):
@@ -154,36 +246,190 @@ def without_outcome(copy, now, names):
         ("Day", "Vehicle", "Trips", "Their numbers"), rows)
 
 
-def not_rebooked(copy, log, now, names):
-    """Trips from today on that the agency canceled, whose riders have no other trip in their place."""
-    ours = {it.trip for it in log.cancellations if it.by == AGENCY} if log else set()
-    canceled, standing = [], collections.defaultdict(list)
+WITHOUT_LOG = "The site's log (--tally) was not given, so nobody knows what "
+
+
+def agency_canceled(log):
+    """The trips that the agency canceled, as far as the site's log says."""
+    return {it.trip for it in log.cancellations if it.by == AGENCY} if log else set()
+
+
+def on_closed_days(copy, log, now, names, closed):
+    """Trips of days on which nobody is served: those that are booked, and those that the agency canceled."""
+    days, ours = {number_of(it): word for it, word in dict(closed).items()}, agency_canceled(log)
+    rows = [(*names.rider(rider), day_of(day), days[day], f"{clock(begins)} to {clock(ends)}", trip, vehicle_named(vehicle, names),
+             "canceled: call the rider" if status == copies.CANCELLED else "booked: cancel it")
+            for trip, rider, day, vehicle, begins, ends, status in copy.rows(
+                "SELECT id, rider, day, vehicle, window_from, window_to, status FROM trips WHERE day >= ? ORDER BY day, window_from, id", now)
+            if day in days and (status == copies.BOOKED or status == copies.CANCELLED and trip in ours)]
+    return Listed(
+        "closed", "Trips on closed days", "dispatcher",
+        "The agency's file names these days as closed. Cancel what is booked as the agency, and call each rider.",
+        ("Rider", "Name", "Day", "Closed for", "Window", "Trip", "Vehicle", "What to do"), rows)
+
+
+def rebooked(copy, log, now, names, closed=()):
+    """Trips from today on that the agency canceled: those whose riders have no other trip in their place, and those whose
+    riders have one at another time and were not called. One of which the log says nothing may be the agency's: where a
+    browser ended in the middle, its last word did not come. Days on which nobody is served are a list of their own."""
+    by, free = {it.trip: it.by for it in log.cancellations} if log else {}, {number_of(it) for it in dict(closed)}
+    canceled, others = [], collections.defaultdict(list)
     for row in copy.rows("SELECT id, rider, day, vehicle, origin, goal, window_from, window_to, status FROM trips "
                          "WHERE day >= ? ORDER BY day, window_from, id", now):
-        if row[-1] != copies.CANCELLED:
-            standing[row[1], row[2]].append(row)
-        elif row[0] in ours:
+        is_ours = log and by.get(row[0], AGENCY) == AGENCY and row[2] not in free
+        if row[-1] != copies.CANCELLED or is_ours:
+            others[row[1], row[2]].append(row)
+        if row[-1] == copies.CANCELLED and is_ours:
             canceled.append(row)
-    rows = [(*names.rider(rider), day_of(day), f"{clock(begins)} to {clock(ends)}", trip, origin, goal,
-             vehicle_named(vehicle, names))
-            for trip, rider, day, vehicle, origin, goal, begins, ends, _ in canceled
-            if not taken_out(standing[rider, day], trip, (origin, goal), (begins, ends))]
-    note = ("The agency canceled these for a vehicle out of service, and no other trip of that day stands in their "
-            "place. Call the rider, and book again.")
-    return Listed(
+    calls, without, moved = calls_of(log), [], []
+    for it in others.values():
+        it.sort()
+    for trip, rider, day, vehicle, origin, goal, begins, ends, _ in sorted(canceled):
+        window = f"{clock(begins)} to {clock(ends)}"
+        new = taken_out(others[rider, day], trip, (origin, goal), (begins, ends))
+        if not new:
+            without.append((*names.rider(rider), day_of(day), window, trip, origin, goal, vehicle_named(vehicle, names),
+                            by.get(trip, "not known"), calls.get(trip, "")))
+        elif trip in by and new[8] != copies.CANCELLED and new[6:8] != (begins, ends) and calls.get(trip) != CALLED:
+            moved.append((*names.rider(rider), day_of(day), window, trip, f"{clock(new[6])} to {clock(new[7])}", new[0],
+                          vehicle_named(new[3], names), calls.get(trip, "")))
+    without.sort(key=lambda it: (it[2], it[3], it[4]))
+    moved.sort(key=lambda it: (it[2], it[3], it[4]))
+    yield Listed(
         "canceled", "Canceled by the agency and not booked again", "dispatcher",
-        note if log else "The site's log (--tally) was not given, so nobody knows what the agency canceled.",
-        ("Rider", "Name", "Day", "Window", "Trip", "From", "To", "Vehicle"), rows)
+        "The agency canceled these for a vehicle out of service, or the log does not say who did, and no other trip of that "
+        "day stands in their place. Call the rider, and book again." if log else f"{WITHOUT_LOG}the agency canceled.",
+        ("Rider", "Name", "Day", "Window", "Trip", "From", "To", "Vehicle", "Canceled by", "Call"), without)
+    yield Listed(
+        "moved", "Moved by the agency, rider not called", "dispatcher",
+        "The agency canceled these for a vehicle out of service, and the trip in their place has another window. Call the "
+        "rider; a tick on the call list takes the row away." if log else f"{WITHOUT_LOG}the agency moved.",
+        ("Rider", "Name", "Day", "Old window", "Old trip", "New window", "New trip", "Vehicle", "Call"), moved)
 
 
-def taken_out(standing, number, way, window):
-    """Takes out of a rider's trips of a day the one that stands in place of a canceled one; whether there is one."""
-    for row in standing:
+CALLED, NOT_HERE = "called", "not in this copy"
+
+
+def calls_of(log):
+    """What came of the last call about each trip, on whatever list; nothing where the tick was taken back."""
+    found = {}
+    for it in sorted(log.of["calls"], key=lambda it: it.at) if log else ():
+        found[it.trip] = {"called": CALLED, "not-reached": "not reached"}.get(it.result, "")
+    return found
+
+
+# What dispatch has to look at.
+
+
+def reviewed(log):
+    """The last review of each trip."""
+    return {it.trip: it for it in sorted(log.of["reviews"], key=lambda it: it.at)} if log else {}
+
+
+def waiting(log, kind, now):
+    """The events of a kind of the last days at which nobody has looked since, each with its day's number."""
+    seen = reviewed(log)
+    for it in sorted(log.of[kind], key=lambda it: it.at) if log else ():
+        day = number_of(getattr(it, "day", it.at.date()))
+        if now - day_file.DAYS_KEPT <= day <= now and not (it.trip in seen and seen[it.trip].at >= it.at):
+            yield it, day
+
+
+def trips_named(copy, numbers):
+    """The rider of trips and how each ended, by number."""
+    return {trip: (rider, copy.status_of(trip, status)) for trip, rider, status in copy.rows("SELECT id, rider, status FROM trips")
+            if trip in numbers}
+
+
+def outcome_named(outcome):
+    """An outcome of the log, as lists say it."""
+    return copies.STATUSES[OUTCOMES[outcome]]
+
+
+def no_shows(copy, log, now, names):
+    found = [*waiting(log, "no-shows", now)]
+    known, rows = trips_named(copy, {it.trip for it, _ in found}), []
+    for it, day in found:
+        rider, status = known.get(it.trip, (None, NOT_HERE))
+        rows.append((*(names.rider(rider) if rider else ("", "")), day_of(day), it.trip, f"{clock(it.window_from)} to {clock(it.window_to)}",
+                     "not tapped" if it.arrived is None else clock(it.arrived), it.wait, vehicle_named(it.vehicle, names), status, doubt_of(it)))
+    return Listed(
+        "no-shows", "No-shows to confirm", "dispatcher and officer",
+        "What the driver's phone has of each, until dispatch has settled it on Day. A van that came after the window was missed by "
+        "the agency." if log else f"{WITHOUT_LOG}speaks for a no-show.",
+        ("Rider", "Name", "Day", "Trip", "Window", "Arrived", "Minutes waited", "Vehicle", "On record", "Doubt"), rows)
+
+
+def doubt_of(it):
+    """What makes a no-show doubtful, in words; how long a driver waits is the agency's."""
+    if it.arrived is None:
+        return "no arrival"
+    if it.arrived > it.window_to:
+        return f"{it.arrived - it.window_to} minutes after the window"
+    return "before the window" if 60 * it.at.hour + it.at.minute < it.window_from else ""
+
+
+def disagreements(copy, log, now, names):
+    found = [*waiting(log, "disagreements", now)]
+    known = trips_named(copy, {it.trip for it, _ in found})
+    rows = []
+    for it, day in found:
+        rider, status = known.get(it.trip, (None, NOT_HERE))
+        rows.append((*(names.rider(rider) if rider else ("", "")), day_of(day), it.trip, vehicle_named(it.vehicle, names), status, outcome_named(it.told),
+                     clock(60 * it.at.hour + it.at.minute)))
+    return Listed(
+        "disagreements", "Entries that disagree", "dispatcher",
+        "A driver entered another outcome than the one on record. Ask the driver, and settle it on Day."
+        if log else f"{WITHOUT_LOG}was entered twice.",
+        ("Rider", "Name", "Day", "Trip", "Vehicle", "On record", "Entered too", "At"), rows)
+
+
+def corrections(copy, log, corrected, names):
+    """Trips of which dispatch found another outcome right than the one on record, and which no correction names."""
+    right = {trip: it.outcome for trip, it in reviewed(log).items()}
+    ended, rows = {copies.STATUSES[it]: word for word, it in OUTCOMES.items()}, []
+    for trip, (rider, status) in sorted(trips_named(copy, set(right)).items()):
+        record = ended.get(status)
+        if record and record != right[trip] and (corrected or {}).get(trip) != right[trip]:
+            rows.append((*names.rider(rider), trip, record, right[trip]))
+    return Listed(
+        "corrections", "Corrections to write down", "dispatcher and manager",
+        "Dispatch found another outcome right than the one on record. Add a line to corrections.csv, so that reports count it."
+        + ("" if corrected is not None else " That file (--corrections) was not given."),
+        ("Rider", "Name", "Trip", "On record", "Right"), rows)
+
+
+MEANT = {"around": "around", "not-before": "not before", "by": "be there by"}
+
+
+def offers(copy, log, today, names):
+    """Trips that the desk holds at another time than the rider asked for, and of which nobody told an answer."""
+    found = told_offers.open_offers(log.events, today) if log else {}
+    rows = []
+    for trip, rider, day, begins, ends, origin, goal in copy.rows(
+            "SELECT id, rider, day, window_from, window_to, origin, goal FROM trips WHERE status = ? AND day >= ? "
+            "ORDER BY day, window_from, id", copies.BOOKED, number_of(today)):
+        it = found.get(trip)
+        if it and (it.fields["from"], it.fields["to"]) == (begins, ends):
+            asked = f"{MEANT.get(it.fields['mode'], 'at')} {clock(it.fields['minute'])}"
+            rows.append((*names.rider(rider), day_of(day), asked, f"{clock(begins)} to {clock(ends)}", trip, origin, goal))
+    note = ("The desk holds these trips more than an hour from what the rider asked for, and the rider has not answered. "
+            "Call the rider: the trip is kept on a yes, and canceled as the agency's on a no.")
+    return Listed(
+        "offers", "Offers that wait for an answer", "clerk",
+        note if log else "The site's log (--tally) was not given, so nobody knows which offers wait.",
+        ("Rider", "Name", "Day", "Asked for", "Window", "Trip", "From", "To"), rows)
+
+
+def taken_out(others, number, way, window):
+    """Takes out of a rider's trips of a day, by number, the next one that came in place of a canceled one, and gives it;
+    None where there is none. It may be canceled itself: then the one after it stands for both."""
+    for row in others:
         trip, _, _, _, origin, goal, begins, ends, _ = row
         if trip > number and ((origin, goal) == way or begins <= window[1] and ends >= window[0]):
-            standing.remove(row)
-            return True
-    return False
+            others.remove(row)
+            return row
+    return None
 
 
 def vehicles(copy, now, names):
@@ -202,6 +448,17 @@ def vehicles(copy, now, names):
         "Trips from today on that stand after the vehicle's last version begins. A new version can begin on the last "
         "column's day; for an earlier day those trips have to be moved or cancelled first.",
         ("Vehicle", "Last version from", "Trips", "First day", "Last day", "Free from"), rows)
+
+
+def versions(copy, names):
+    """Vehicles that come near the versions for which the desk has room."""
+    rows = [(vehicle_named(vehicle, names), count, MOST_VERSIONS - count) for vehicle, count in copy.rows(
+        "SELECT id, count(*) FROM vehicles GROUP BY id HAVING count(*) >= ? ORDER BY count(*) DESC, id", MANY_VERSIONS)]
+    return Listed(
+        "versions", "Vehicles with many versions", "dispatcher and manager",
+        f"The desk takes {MOST_VERSIONS} versions of a vehicle, for good. After the last one nothing of the vehicle can change, and only another number helps. "
+        "Off duty and back are two versions. For a holiday take closed days in their place.",
+        ("Vehicle", "Versions", "Left"), rows)
 
 
 def vehicle_named(vehicle, names):

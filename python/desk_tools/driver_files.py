@@ -16,7 +16,6 @@ import json
 import logging
 import os
 import re
-import sys
 import urllib.error
 import urllib.request
 import zoneinfo
@@ -24,6 +23,8 @@ from collections.abc import Iterator
 from dataclasses import dataclass, field
 from pathlib import Path
 from typing import Any
+
+from desk_tools import ending
 
 LOG = logging.getLogger("desk-driver-files")
 HEAD = re.compile(r"VEHICLE (\d+) DAY \d{4}-\d{2}-\d{2}")
@@ -277,4 +278,4 @@ def main(arguments: list[str]) -> int:
 
 
 if __name__ == "__main__":
-    sys.exit(main(sys.argv[1:]))
+    ending.run("bin/driver-files", main)

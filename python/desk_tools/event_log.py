@@ -68,16 +68,22 @@ class Log:
 
 
 def read(paths: Iterable[str | Path]) -> Log:
-    """What logs hold, whatever their order. An UnreadableLog says which one can't be read."""
+    """What logs hold, whatever their order. An UnreadableLog says which one can't be read, or is none at all."""
     found: list[tuple[int, int, Told]] = []
     broken: list[tuple[int, int, str]] = []
     names = [str(it) for it in paths]
     for at, name in enumerate(names):
+        number, known_before = 0, len(found)
         for number, line in enumerate(lines_in(name), 1):
             try:
                 found.append((at, number, whole_of(line)))
             except ValueError as error:
                 broken.append((at, number, str(error)))
+        # A log of one line may be that of a machine that lost its power there. More lines than one are another file.
+        if number > 1 and len(found) == known_before:
+            raise UnreadableLog(
+                f"{name} is no log of a site: none of its {number:,} lines tells an event"
+            )
     known: dict[str, Told] = {}
     for at, number, told in sorted(found, key=lambda it: it[2].received.timestamp()):
         if not known.setdefault(told.id, told).says_the_same(told):

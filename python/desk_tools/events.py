@@ -16,6 +16,8 @@ from collections.abc import Iterable, Mapping, Sequence
 from dataclasses import dataclass
 from pathlib import Path
 
+from desk_tools import ending
+
 HERE = Path(__file__).resolve().parent
 TOP = HERE.parent.parent
 SCRIPT, SITE = Path("pages/parts/events.js"), Path("deploy/desk.nginx")
@@ -472,4 +474,4 @@ def main(arguments: list[str]) -> int:
 
 
 if __name__ == "__main__":
-    sys.exit(main(sys.argv[1:]))
+    ending.run("desk_tools.events", main)

@@ -16,6 +16,8 @@ import subprocess
 import sys
 from pathlib import Path
 
+from desk_tools import ending
+
 SUITE = "bookworm"
 SETTINGS = """Origin: Chervilnook
 Label: desk
@@ -93,4 +95,4 @@ def main(arguments: list[str]) -> int:
 
 
 if __name__ == "__main__":
-    sys.exit(main(sys.argv[1:]))
+    ending.run("bin/apt-repository", main)

@@ -1,4 +1,5 @@
-"""Makes the file of the day for staff: what drivers and clerks told the site today, out of the site's log.
+"""Makes the file of the day for staff: what drivers and clerks told the site today, out of the site's log. And with
+--no-shows the file of the no-shows of the last 90 days, with what was seen of each.
 
 It follows the log and writes the file anew every ten seconds, whole each time. The log may be rotated, cut short or
 missing; what is in it twice counts once. docs/SITE-FILES.md has the form of the file.
@@ -10,22 +11,24 @@ import json
 import logging
 import os
 import shutil
-import sys
 import time
 import zoneinfo
 from collections import defaultdict
-from collections.abc import Iterable, Iterator
+from collections.abc import Callable, Iterable, Iterator
 from dataclasses import dataclass, field
 from pathlib import Path
 from typing import BinaryIO
 
-from desk_tools import event_log
+from desk_tools import ending, event_log
 from desk_tools.event_log import LONGEST, Told, UnreadableLog
+from desk_tools.offers import open_offers
 
 log = logging.getLogger("today")
 EVERY = 10.0
 # How long a trip may be told before its day: what came before that is passed over.
 DAYS_KEPT = 16
+# For so long what was seen of a no-show is told to who writes a notice of a proposed suspension.
+DAYS_OF_NO_SHOWS = 90
 # Taps are many, and one that comes on a later day is of no day that is shown.
 DAYS_OF_TAPS = 1
 # How long a log that was rotated is still looked at, since the site may still write into it.
@@ -145,14 +148,20 @@ class Known:
     broken: int = 0
     first: datetime.date = datetime.date.min
     first_tap: datetime.date = datetime.date.min
+    first_no_show: datetime.date = datetime.date.min
 
     def take(self, lines: Iterable[bytes]) -> bool:
         """Takes the events of some lines with their ends; whether there was a new one."""
         oldest, count = self.first.isoformat().encode(), len(self.events)
         oldest_tap = self.first_tap.isoformat().encode()
+        oldest_no_show = self.first_no_show.isoformat().encode()
         for line in lines:
-            is_tap = b"\t/tally/stops\t" in line
-            if line[:10] < (oldest_tap if is_tap else oldest) and line[:2] == b"20":
+            first = oldest
+            if b"\t/tally/stops\t" in line:
+                first = oldest_tap
+            elif b"\t/tally/no-shows\t" in line:
+                first = oldest_no_show
+            if line[:10] < first and line[:2] == b"20":
                 continue
             try:
                 told = event_log.whole_of(line)
@@ -168,10 +177,12 @@ class Known:
         """Forgets what the file of a day does not need."""
         self.first = day - datetime.timedelta(days=DAYS_KEPT)
         self.first_tap = day - datetime.timedelta(days=DAYS_OF_TAPS)
+        self.first_no_show = day - datetime.timedelta(days=DAYS_OF_NO_SHOWS)
         self.events = {key: it for key, it in self.events.items() if self._is_kept(it)}
 
     def _is_kept(self, told: Told) -> bool:
-        return told.received.date() >= (self.first_tap if told.kind == "stops" else self.first)
+        firsts = {"stops": self.first_tap, "no-shows": self.first_no_show}
+        return told.received.date() >= firsts.get(told.kind, self.first)
 
 
 # The file.
@@ -204,6 +215,7 @@ def day_of(known: Known, today: datetime.date, zone: datetime.tzinfo) -> dict[st
             }
             for it in of["bookings"]
         },
+        "offers": _offers(events, today),
         "no_shows": [
             _row(it, zone, "trip", "vehicle", "from", "to", "arrived", "wait")
             for it in of["no-shows"]
@@ -211,8 +223,85 @@ def day_of(known: Known, today: datetime.date, zone: datetime.tzinfo) -> dict[st
         "disagreements": [
             _row(it, zone, "trip", "vehicle", "record", "told") for it in of["disagreements"]
         ],
-        "calls": _calls(of["calls"]),
+        "calls": _calls(of["calls"], lambda it: it.fields["result"]),
+        "call_times": _calls(of["calls"], lambda it: _spelled(moment_of(it, zone))),
+        "unreviewed": _unreviewed(events, today, zone),
+        "late": [_late(it, zone) for it in events if _is_late(it, today, zone)],
+        "denials": _denials(events, today, zone),
+        "partial_grants": _partial_grants(of["partial-grants"]),
     }
+
+
+def no_shows_of(known: Known, zone: datetime.tzinfo) -> dict[str, object]:
+    """What was seen of each no-show by its trip, as the file of no-shows has it but for `made`."""
+    events = sorted(known.events.values(), key=lambda it: _at(it, zone))
+    return {
+        "since": known.first_no_show.isoformat(),
+        "no_shows": {
+            str(it.fields["trip"]): _seen(it, zone) for it in events if it.kind == "no-shows"
+        },
+    }
+
+
+def _seen(told: Told, zone: datetime.tzinfo) -> dict[str, object]:
+    """What was seen of one no-show."""
+    day: dict[str, object] = {"day": str(told.fields["day"])}
+    return {**_row(told, zone, "vehicle", "from", "to", "arrived", "wait"), **day}
+
+
+def _partial_grants(events: list[Told]) -> list[dict[str, object]]:
+    """How far each grant in part has come: of each refusal the last step."""
+    found: dict[tuple[object, object], dict[str, object]] = {}
+    for it in events:
+        row: dict[str, object] = {name: it.fields[name] for name in ("rider", "entry", "step")}
+        found[row["rider"], row["entry"]] = {**row, "day": str(it.fields["day"])}
+    return [*found.values()]
+
+
+def _offers(events: Iterable[Told], today: datetime.date) -> dict[str, dict[str, object]]:
+    """What waits for a rider's answer, as far as somebody told of it."""
+    names = ("rider", "mode", "minute", "from", "to", "offer")
+    return {
+        str(trip): {"day": str(it.fields["day"]), **{name: it.fields[name] for name in names}}
+        for trip, it in open_offers(events, today).items()
+        if all(it.fields[name] is not None for name in names)
+    }
+
+
+def _denials(
+    events: list[Told], today: datetime.date, zone: datetime.tzinfo
+) -> list[dict[str, object]]:
+    """The denials of today for lack of a vehicle, each with the first mark that came for its day and minute since.
+
+    A way back that was lost was not asked for, and of an offer the desk had a vehicle: no log can say why not.
+    """
+    marks = [it for it in events if it.kind == "marks"]
+    return [
+        {
+            "id": it.id,
+            "day": str(it.fields["day"]),
+            **{name: it.fields[name] for name in ("minute", "mode", "channel")},
+            "at": _spelled(_at(it, zone)[0]),
+            "marked": _marked(it, marks, zone),
+        }
+        for it in events
+        if it.kind == "denials"
+        and it.fields["rule"] == "no vehicle"
+        and it.fields["leg"] is None
+        and it.fields["trip"] is None
+        and _at(it, zone)[0].date() == today
+    ]
+
+
+def _marked(denial: Told, marks: list[Told], zone: datetime.tzinfo) -> str | None:
+    """When a copy was first asked for of a trip of this day and minute, at or after its denial."""
+    asked = [denial.fields[name] for name in ("day", "minute", "mode")]
+    since = _at(denial, zone)[0]
+    for it in marks:
+        is_same = [it.fields[name] for name in ("day", "minute", "mode")] == asked
+        if is_same and _at(it, zone)[0] >= since:
+            return _spelled(_at(it, zone)[0])
+    return None
 
 
 def _taps(
@@ -228,12 +317,55 @@ def _taps(
     return found
 
 
-def _calls(events: list[Told]) -> dict[str, dict[str, object]]:
-    """What was ticked last for each trip of each list."""
+def _calls(events: list[Told], said: Callable[[Told], object]) -> dict[str, dict[str, object]]:
+    """What is said of the last tick of each trip of each list."""
     found: dict[str, dict[str, object]] = defaultdict(dict)
     for it in events:
-        found[str(it.fields["list"])][str(it.fields["trip"])] = it.fields["result"]
+        found[str(it.fields["list"])][str(it.fields["trip"])] = said(it)
     return found
+
+
+def _unreviewed(
+    events: list[Told], today: datetime.date, zone: datetime.tzinfo
+) -> dict[str, list[dict[str, object]]]:
+    """No-shows and disagreements of the last days at which nobody of dispatch has looked since, each with its day."""
+    reviewed = {it.fields["trip"]: _at(it, zone) for it in events if it.kind == "reviews"}
+    found: dict[str, list[dict[str, object]]] = {"no_shows": [], "disagreements": []}
+    for it in events:
+        if it.kind not in ("no-shows", "disagreements"):
+            continue
+        seen, day = reviewed.get(it.fields["trip"]), _day_of(it, zone)
+        if day > today or (seen and seen >= _at(it, zone)):
+            continue
+        names = (
+            ("trip", "vehicle", "from", "to", "arrived", "wait")
+            if it.kind == "no-shows"
+            else ("trip", "vehicle", "record", "told")
+        )
+        told: dict[str, object] = {"day": day.isoformat(), **_row(it, zone, *names)}
+        found[it.kind.replace("-", "_")].append(told)
+    return found
+
+
+def _day_of(told: Told, zone: datetime.tzinfo) -> datetime.date:
+    day = told.fields.get("day")
+    return day if isinstance(day, datetime.date) else moment_of(told, zone).date()
+
+
+def _is_late(told: Told, today: datetime.date, zone: datetime.tzinfo) -> bool:
+    """Whether a tap came today and is of an earlier day."""
+    received = told.received.astimezone(zone).date()
+    return told.kind == "stops" and received == today and moment_of(told, zone).date() < today
+
+
+def _late(told: Told, zone: datetime.tzinfo) -> dict[str, object]:
+    kind = KINDS[str(told.fields["event"])]
+    at = _spelled(moment_of(told, zone))
+    return {"vehicle": told.fields["vehicle"], "trip": told.fields["trip"], "kind": kind, "at": at}
+
+
+def _spelled(moment: datetime.datetime) -> str:
+    return moment.strftime("%Y-%m-%dT%H:%M:%S")
 
 
 def _at(told: Told, zone: datetime.tzinfo) -> tuple[datetime.datetime, datetime.datetime]:
@@ -243,8 +375,9 @@ def _at(told: Told, zone: datetime.tzinfo) -> tuple[datetime.datetime, datetime.
 
 
 def _is_of(told: Told, today: datetime.date, zone: datetime.tzinfo) -> bool:
-    """Whether the file of a day has an event: bookings of that day and later ones, all calls, and what was that day."""
-    if told.kind == "calls":
+    """Whether the file of a day has an event: bookings of that day and later ones, what was that day, and all calls,
+    reviews and grants in part."""
+    if told.kind in ("calls", "reviews", "partial-grants"):
         return True
     day = told.fields.get("day")
     if isinstance(day, datetime.date):
@@ -293,14 +426,17 @@ class Work:
     output: Path
     agency: Path | None = None
     group: str | None = None
+    no_shows: Path | None = None
     known: Known = field(default_factory=Known)
     made_for: tuple[datetime.date, str] | None = None
     told: dict[str, object] = field(default_factory=dict)
+    told_no_shows: dict[str, object] = field(default_factory=dict)
 
     def begin(self, now: datetime.datetime) -> None:
         """Reads what was told in the last days, also out of logs that were rotated since."""
         self.known.keep_for(now.date())
-        since = now.timestamp() - DAYS_KEPT * 86_400
+        days = DAYS_OF_NO_SHOWS if self.no_shows else DAYS_KEPT
+        since = now.timestamp() - days * 86_400
         for path in rotated(self.follower.path, since):
             try:
                 self.known.take(event_log.lines_in(path))
@@ -316,10 +452,14 @@ class Work:
         if is_new or self.made_for != (today, str(zone)):
             self.known.keep_for(today)
             self.told = day_of(self.known, today, zone)
+            self.told_no_shows = no_shows_of(self.known, zone)
             self.made_for = today, str(zone)
         made = now.astimezone(datetime.timezone.utc).strftime("%Y-%m-%dT%H:%M:%SZ")
         text = json.dumps({"day": today.isoformat(), "made": made, **self.told}, ensure_ascii=False)
         write_whole(self.output, text + "\n", self.group)
+        if self.no_shows:
+            seen = json.dumps({"made": made, **self.told_no_shows}, ensure_ascii=False)
+            write_whole(self.no_shows, seen + "\n", self.group)
 
 
 def _now() -> datetime.datetime:
@@ -333,10 +473,13 @@ def main(arguments: list[str]) -> int:
     reader.add_argument("output", type=Path, metavar="FILE", help="the file for staff")
     reader.add_argument("--agency", type=Path, metavar="FILE", help="agency.json, for its zone")
     reader.add_argument("--group", help="the group that may read the file, such as www-data")
+    reader.add_argument(
+        "--no-shows", type=Path, metavar="FILE", help="the file of no-shows for staff"
+    )
     reader.add_argument("--once", action="store_true", help="write the file once")
     words = reader.parse_args(arguments)
     logging.basicConfig(format="deploy/today: %(message)s")
-    work = Work(Follower(words.log), words.output, words.agency, words.group)
+    work = Work(Follower(words.log), words.output, words.agency, words.group, words.no_shows)
     is_begun, said = False, ""
     while True:
         try:
@@ -356,4 +499,4 @@ def main(arguments: list[str]) -> int:
 
 
 if __name__ == "__main__":
-    sys.exit(main(sys.argv[1:]))
+    ending.run("deploy/today", main)

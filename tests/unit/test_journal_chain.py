@@ -4,6 +4,8 @@ import base64
 import gzip
 import json
 import os
+import re
+import subprocess
 from datetime import date, datetime, timedelta, timezone
 from pathlib import Path
 
@@ -14,6 +16,7 @@ from hypothesis import strategies as some
 from desk_tools.journal import chain, lines, reading, retention, signing, taking, verifying
 from desk_tools.journal.places import Places, Wrong
 
+TOP = Path(__file__).resolve().parents[2]
 TODAY = datetime.now(timezone.utc).date()
 NO_NGINX = Path("/nonexistent")
 
@@ -141,7 +144,8 @@ def test_a_torn_last_line_is_named_then_kept_in_a_note(office: Office) -> None:
     status, said = office.verify()
     assert status == verifying.BROKEN and "it has no end" in said
     office.take(line(3))
-    assert office.verify()[0] == verifying.HOLDS
+    status, said = office.verify()
+    assert status == verifying.HOLDS and "half a line was found at entry " in said, said
     torn = [
         it.fields
         for it in chain.entries_of(chain.files_in(office.places.record)[-1])
@@ -282,6 +286,65 @@ def test_retention_removes_nothing_by_a_wrong_clock(office: Office) -> None:
     assert office.verify()[0] == verifying.HOLDS
 
 
+@pytest.mark.parametrize(
+    ("told", "gone", "why"),
+    [
+        ({}, ["desk-40.db", "machine-40.tar.gz"], "kept 35 days (five weeks: "),
+        (
+            {"retention": {"backups": "7 days"}},
+            ["desk-40.db", "desk-20.db", "machine-40.tar.gz"],
+            "kept 7 days (by ",
+        ),
+        (
+            {"retention": {"backups": "2 months"}},
+            [],
+            "kept 61 days (by agency.json): 0 files removed",
+        ),
+    ],
+)
+def test_backups_are_kept_by_the_agency_s_rule(
+    office: Office, tmp_path: Path, told: dict[str, object], gone: list[str], why: str
+) -> None:
+    """The newest stays in any case, and so does what is no backup of a night."""
+    office.take(line(1), day=day_after(0))
+    folder = tmp_path / "backups"
+    folder.mkdir()
+    for name in (
+        "desk-40.db",
+        "desk-20.db",
+        "desk-3.db",
+        "machine-40.tar.gz",
+        "machine-9.tar.gz",
+        "notes-40.txt",
+    ):
+        (folder / name).touch()
+        days = int(re.sub(r"\D", "", name))
+        moment = datetime.combine(TODAY - timedelta(days=days), datetime.min.time()).timestamp()
+        os.utime(folder / name, (moment, moment))
+    before = {it.name for it in folder.iterdir()}
+    rules = retention.rules_of(told)
+    planned = retention.keep(office.places, {"backups": folder}, rules, TODAY, is_plan=True)
+    assert {it.name for it in folder.iterdir()} == before
+    said = retention.keep(office.places, {"backups": folder}, rules, TODAY, is_plan=False)
+    assert before - {it.name for it in folder.iterdir()} == set(gone)
+    assert [it.replace("would be removed", "removed") for it in planned[1:]] == said[1:]
+    assert why in said[1] and all(it in said[1] for it in gone)
+
+
+def test_one_place_says_how_long_backups_are_kept() -> None:
+    """The unit of the backup removes none: two limits would make the shorter one the true one."""
+    for name in ("desk-backup.service", "desk-backup@.service"):
+        text = (TOP / "deploy" / name).read_text(encoding="utf-8")
+        removing = [it for it in text.splitlines() if "-delete" in it or "rm -rf" in it]
+        assert [it for it in removing if ".db.part" not in it and ".before-" not in it] == []
+    assert "rotate -1" in (TOP / "deploy/desk.logrotate").read_text(encoding="utf-8")
+
+
+def test_retention_of_a_record_that_has_not_begun(office: Office) -> None:
+    rule = retention.Rule("journal", 365, "")
+    assert retention.keep_journal(office.places, rule, TODAY, is_plan=False) == []
+
+
 @pytest.mark.parametrize("wrong", [5, "5", "soon", "1 day", "0 years", "-5 years", None])
 def test_a_retention_that_is_none_is_named(wrong: object) -> None:
     with pytest.raises(Wrong, match="retention: .*no time such as"):
@@ -317,3 +380,80 @@ def test_a_separator_of_unicode_is_no_end_of_a_line(office: Office) -> None:
     office.take(line(1, body="a\u2028b\u0085c\x0b"))
     assert office.requests() == ["/riders/1/trips"]
     assert os.listdir(office.places.record)
+
+
+def test_a_hold_stops_all_removing(office: Office, tmp_path: Path) -> None:
+    """Each kind stays while there is a reason; what would go is named."""
+    for count in (-800, -700, -1, 0):
+        office.take(line(1), day=day_after(count))
+    folder = tmp_path / "copies"
+    folder.mkdir()
+    for days in (100, 90, 0):
+        (folder / f"desk-{days}.db").touch()
+        moment = datetime.combine(TODAY - timedelta(days=days), datetime.min.time()).timestamp()
+        os.utime(folder / f"desk-{days}.db", (moment, moment))
+    agency: dict[str, object] = {
+        "retention": {"journal": "1 year", "backups": "7 days", "hold": "Diaz v. Town"}
+    }
+    rules = retention.rules_of(agency)
+    said = retention.keep(
+        office.places, {"backups": folder}, rules, TODAY, False, retention.hold_in(agency)
+    )
+    assert said[0] == "nothing is removed, for a hold: Diaz v. Town"
+    assert any("2 files would be removed" in it for it in said), said
+    assert len(list(folder.iterdir())) == 3
+    assert len(chain.files_in(office.places.record)) == 4
+    gone = retention.keep(office.places, {"backups": folder}, rules, TODAY, False)
+    assert any("2 files removed" in it for it in gone), gone
+
+
+@pytest.mark.parametrize("value", ["", "  ", False, True, None, 5, "x" * 201, ["a"]])
+def test_a_hold_without_a_reason_is_no_leave_to_remove(value: object) -> None:
+    with pytest.raises(Wrong, match="retention.hold"):
+        retention.hold_in({"retention": {"hold": value}})
+
+
+def test_a_closed_day_whose_signature_is_gone_does_not_hold(office: Office, tmp_path: Path) -> None:
+    office.take(line(1))
+    office.take(line(2), day=day_after(1))
+    key, public = tmp_path / "record", tmp_path / "record.pub"
+    signing.ran("ssh-keygen", "-q", "-t", "ed25519", "-N", "", "-f", str(key))
+    head = signing.head_of(chain.files_in(office.places.record)[0])
+    signing.sign(office.places.record, head, key)
+    today = TODAY + timedelta(days=1)
+    assert verifying.verify(office.places, public, None, today)[0] == verifying.HOLDS
+    said = verifying.verify(office.places, None, None, today)[1]
+    assert said.endswith("no signature was checked, for lack of the public key"), said
+    (office.places.record / f"{head.file}.head.sig").unlink()
+    status, said = verifying.verify(office.places, public, None, today)
+    assert status == verifying.BROKEN and said.endswith("is closed and has no signature"), said
+
+
+def test_a_copy_elsewhere_that_is_not_there_is_no_comparison(
+    office: Office, tmp_path: Path
+) -> None:
+    office.take(line(1))
+    status, said = office.verify(tmp_path / "unmounted")
+    assert status == verifying.BROKEN and said.startswith("nothing was compared: "), said
+    (tmp_path / "empty").mkdir()
+    status, said = office.verify(tmp_path / "empty")
+    assert status == verifying.BROKEN and said.endswith("has no head of the record"), said
+
+
+def test_a_day_that_does_not_hold_is_not_signed(office: Office, tmp_path: Path) -> None:
+    key = tmp_path / "key"
+    subprocess.run(["ssh-keygen", "-q", "-t", "ed25519", "-N", "", "-f", str(key)], check=True)
+    office.take(line(1), line(2), line(3), day=day_after(-1))
+    path = office.file()
+    whole = path.read_bytes()
+    path.write_bytes(whole.replace(b"/riders/2/trips", b"/riders/9/trips"))
+    said: list[str] = []
+    office.day = day_after(0)
+    taking.take(
+        office.places, NO_NGINX, lambda file: said.append(verifying.close(office.places, file, key))
+    )
+    assert len(said) == 1 and "was changed" in said[0]
+    assert not list(office.places.record.glob("*.head*"))
+    path.write_bytes(path.read_bytes().replace(b"/riders/9/trips", b"/riders/2/trips"))
+    assert verifying.close(office.places, chain.files_in(office.places.record)[0], key) == ""
+    assert list(office.places.record.glob("*.sig"))

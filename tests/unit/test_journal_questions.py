@@ -4,17 +4,20 @@ import csv
 import hashlib
 import io
 import json
-from datetime import timezone
+import string
+from dataclasses import replace
+from datetime import date, timezone
 from pathlib import Path
 
 import pytest
 from hypothesis import given
 from hypothesis import strategies as some
 
-from desk_tools.journal import lines, people, questions, reading, sheets
+from desk_tools.journal import chain, command, lines, people, questions, reading, sheets, words
 from desk_tools.journal.names import Names
 from desk_tools.journal.people import People, Person
 from desk_tools.journal.places import Places
+from desk_tools.journal.words import Words
 
 
 def digest(key: str) -> str:
@@ -92,6 +95,26 @@ def test_a_borrowed_key_is_found(tmp_path: Path, is_known: str) -> None:
     assert [it[2] for it in questions.of_caller(asked, 11).rows if "refusal" in str(it[2])]
 
 
+def test_a_deed_by_a_borrowed_key_says_so_and_the_own_key_is_not_accused(tmp_path: Path) -> None:
+    """A trip that was canceled by the key that an admin put over a clerk's, twice, is not simply the clerk's deed."""
+    found = [
+        put_key(1, "abc", 11, "own"),
+        request(2, "own", "POST", "/trips/9/change", body={}, reply={}),
+        put_key(3, "abc", 11, "mine"),
+        request(4, "mine", "POST", "/trips/9/cancel", reply={"done": True}),
+        put_key(5, "abc", 11, "own"),
+        put_key(6, "abc", 11, "mine"),
+        put_key(7, "abc", 11, "own"),
+        request(8, "own", "POST", "/trips/9/outcome", body={"outcome": "ridden"}, reply={}),
+    ]
+    asked = asked_of(tmp_path, found, [ADMIN])
+    told = questions.of_trip(asked, 9)
+    assert ["BORROWED" in str(it[1]) for it in told.rows] == [False, True, False], told.rows
+    assert any("BORROWED" in it for it in told.notes)
+    notes = notes_of(questions.of_keys(asked))
+    assert ["BORROWED" in it for it in notes] == [False, False, True, False, True], notes
+
+
 def test_a_lost_key_that_is_replaced_once_is_not_borrowed(tmp_path: Path) -> None:
     found = [
         put_key(1, "abc", 11, "own"),
@@ -116,7 +139,7 @@ def test_a_key_that_was_refused_is_no_deed(tmp_path: Path) -> None:
 def test_the_same_first_digits_are_shown(tmp_path: Path) -> None:
     rows = [ADMIN, Person(5, "", "officer", 0, "", "", digest("own")[:12])]
     assert (
-        "the same first digits as caller 5"
+        "begins with the same 12 digits as that of caller 5"
         in notes_of(questions.of_keys(asked_of(tmp_path, [put_key(1, "abc", 11, "own")], rows)))[0]
     )
 
@@ -259,3 +282,136 @@ def test_no_line_makes_telling_fail(fields: dict[str, object]) -> None:
         }
         line = lines.of_fields(1, {**raw, "reply": json.dumps(fields)})
         assert line is not None and isinstance(teller.event(line).what, str)
+
+
+def fields_in(text: str) -> set[str]:
+    return {name for _, name, _, _ in string.Formatter().parse(text) if name}
+
+
+def test_each_language_has_each_text_with_the_same_fields() -> None:
+    english, spanish = words.TEXTS["en"], words.TEXTS["es"]
+    assert list(english) == list(spanish)
+    assert {it: fields_in(english[it]) for it in english} == {
+        it: fields_in(spanish[it]) for it in spanish
+    }
+    assert all(fields_in(it) == fields_in(spanish[key]) for key, it in words.ASKED["es"].items())
+
+
+def test_an_answer_in_spanish_has_no_english(tmp_path: Path) -> None:
+    """Articles are those that names want, and what people wrote stays as it is."""
+    reasons = "he told us of pasajero 7, de pasajero 8"
+    found = [
+        request(1, "abc", "POST", "/trips", body={"rider": 8, "day": "2026-12-03", "wish": 65}),
+        request(
+            2, "abc", "POST", "/riders/8/entries", 422, body={"entry": "refuse", "reasons": reasons}
+        ),
+        request(3, "abc", "GET", "/riders/8/trips"),
+        put_key(4, "abc", 11, "own", name="Rosa Peña"),
+    ]
+    asked = asked_of(tmp_path, found, [ADMIN])
+    asked.names = Names(riders={7: "Ana"}, words=Words("es"))
+    told = questions.of_caller(asked, 1)
+    assert told.title == "Qué hizo administrador (usuario 1)"
+    said = [str(it[2]) for it in told.rows]
+    assert said == [
+        "reservó el viaje 0 para el pasajero 8",
+        "pidió anotar una negativa del pasajero 8",
+        "leyó todos los viajes del pasajero 8",
+        "puso una clave para el usuario 11 (Rosa Peña, examinador)",
+    ]
+    assert "recogida a la 1:05 a. m." in str(told.rows[0][4])
+    assert f"razones: {reasons}" in str(told.rows[1][4])
+    assert sheets.heads_of(told.columns, asked.words)[:3] == ["cuándo", "quién", "qué"]
+    page = sheets.as_page(told.title, ["cuándo"], [], [], asked.words)
+    assert '<html lang="es">' in page and "No hay nada en el registro" in page
+
+
+ALIKE = "00c0ffee1234"
+
+
+def alike_rows() -> list[Person]:
+    return [
+        ADMIN,
+        Person(4, "Rosa Peña", "examiner", 0, at(0), "", ALIKE),
+        Person(12, "Luis Vega", "officer", 0, at(2), "", ALIKE),
+    ]
+
+
+def with_digits(minute: int, digits: str, path: str) -> bytes:
+    fields = json.loads(request(minute, "x", "POST", path, body={"entry": "heard"}))
+    return json.dumps({**fields, "who": digits}).encode()
+
+
+def test_keys_that_begin_alike_are_named_both(tmp_path: Path) -> None:
+    """Before the second key was made, the line is the first one's; later nobody can say whose it is."""
+    found = [with_digits(1, ALIKE, "/riders/7/entries"), with_digits(3, ALIKE, "/riders/7/entries")]
+    asked = asked_of(tmp_path, found, alike_rows())
+    both = "not certain: Rosa Peña, examiner (caller 4) or Luis Vega, officer (caller 12)"
+    first = questions.of_caller(asked, 4)
+    assert [it[1] for it in first.rows] == ["Rosa Peña, examiner (caller 4)", both]
+    assert "begin with the same 12 digits" in " ".join(first.notes)
+    assert [it[1] for it in questions.of_caller(asked, 12).rows] == [both]
+    assert [it[1] for it in questions.of_standing(asked, 7).rows][1] == both
+    own = questions.of_own(asked, 7)
+    assert [it[1] for it in own.rows] == [
+        "the agency (examiner)",
+        "the agency (examiner) or the agency (officer)",
+    ]
+    assert not asked_of(tmp_path, found, alike_rows()[:2]).people.alike()
+
+
+def test_callers_csv_marks_keys_that_begin_alike(tmp_path: Path) -> None:
+    path = tmp_path / "callers.csv"
+    people.keep(path, People(alike_rows()))
+    rows = list(csv.DictReader(io.StringIO(path.read_text(encoding="utf-8"))))
+    assert [it["alike"] for it in rows if it["number"]] == ["", "12", "4"]
+    assert people.read(path).rows == sorted(alike_rows(), key=lambda it: it.number)
+
+
+def test_a_moment_in_seconds_is_the_same_as_one_in_utc() -> None:
+    """nginx writes plain reads by itself, with seconds since 1970."""
+    assert lines.moment_of("1796003605.976") == lines.moment_of("2026-11-30T01:53:25.976Z")
+    for wrong in ("", "1796003605", "1796003605.97", "-1796003605.976", "99999999999999.000"):
+        with pytest.raises(ValueError):
+            lines.moment_of(wrong)
+
+
+def test_an_answer_without_lines_says_what_it_cannot_know(tmp_path: Path) -> None:
+    """A caller whom callers.csv lacks may have done much, and days before the record are not days without deeds."""
+    asked = asked_of(tmp_path, [request(1, "own", "GET", "/riders/7/trips")], [ADMIN])
+    told = questions.of_caller(asked, 11)
+    assert not told.rows and "callers.csv has no caller 11" in told.notes[0], told
+    assert not questions.of_caller(asked, 1).notes
+    asked.places.record.mkdir()
+    writer = chain.Writer(asked.places.record)
+    writer.open("2026-11-29", "desk", at(0))
+    early = replace(asked, first=date(2026, 10, 1))
+    for answer in questions.of_rider(early, 7, False), questions.of_own(early, 7):
+        assert answer.title.endswith(", from 2026-10-01 on"), answer.title
+        assert answer.rows and "begins on 2026-11-29" in answer.notes[0], answer
+    assert "begins on" in questions.of_trip(asked, 5).notes[0]
+    assert not questions.of_rider(asked, 7, False).notes
+
+
+def test_a_riders_own_copy_calls_nobody_what_they_are_not(tmp_path: Path) -> None:
+    """Another rider is not the agency, and a key that the desk took is not that of a stranger."""
+    other = Person(22, "", "rider", 8, "", "", digest("other")[:12])
+    asks = [("other", 403), ("older", 200), ("guess", 401)]
+    found = [
+        request(it, key, "GET", "/riders/7/trips", status) for it, (key, status) in enumerate(asks)
+    ]
+    told = questions.of_own(asked_of(tmp_path, found, [other]), 7)
+    assert [it[1] for it in told.rows] == [
+        "another rider",
+        "somebody whose key is not on the list of callers",
+        "somebody without a key of the agency",
+    ]
+
+
+def test_days_that_are_turned_around_are_wrong_words(
+    tmp_path: Path, capsys: pytest.CaptureFixture[str]
+) -> None:
+    said = ["--folder", str(tmp_path), "trip", "7", "--from", "2026-12-05", "--to", "2026-12-01"]
+    with pytest.raises(SystemExit) as ended:
+        command.main(said)
+    assert ended.value.code == 2 and "is after --to" in capsys.readouterr().err

@@ -14,7 +14,7 @@ from hypothesis import given
 from hypothesis import strategies as some
 
 from desk_tools import events, today
-from desk_tools.event_log import told_of
+from desk_tools.event_log import UnreadableLog, read, told_of
 
 ZONE = zoneinfo.ZoneInfo("America/New_York")
 DAY = datetime.date(2026, 12, 7)
@@ -100,6 +100,59 @@ def test_bookings_are_those_of_today_and_later_and_the_last_one_counts() -> None
     }
 
 
+def test_an_offer_waits_until_its_trip_is_booked_or_cancelled() -> None:
+    def offer(number: int, trip: int, day: str, at: str = "2026-12-07T08:00:00") -> bytes:
+        named = {"trip": trip, "rider": 42, "from": 635, "to": 660, "offer": "booking"}
+        return line(
+            "denials",
+            number,
+            day=day,
+            minute=540,
+            rule="no vehicle",
+            mode="not-before",
+            at=at,
+            **named,
+        )
+
+    def booked(number: int, trip: int, at: str) -> bytes:
+        window = {"from": 635, "to": 660}
+        return line(
+            "bookings",
+            number,
+            day="2026-12-08",
+            trip=trip,
+            mode="not-before",
+            minute=540,
+            channel="page",
+            at=at,
+            **window,
+        )
+
+    told = made(
+        offer(1, 1, "2026-12-08"),
+        offer(2, 2, "2026-12-08"),
+        booked(3, 2, "2026-12-07T08:01:00"),
+        offer(4, 3, "2026-12-08"),
+        line("cancellations", 5, trip=3, by="agency", at="2026-12-06T08:01:00"),
+        offer(6, 4, "2026-12-06"),
+        booked(7, 5, "2026-12-07T07:00:00"),
+        offer(8, 5, "2026-12-08"),
+        line("denials", 9, day="2026-12-08", minute=540, rule="no vehicle"),
+        offer(10, 6, "2026-12-08", "2026-12-07T07:30:00"),
+        line("cancellations", 11, trip=6, by="agency", at="2026-12-07T08:01:00"),
+    )
+    waits = {
+        "day": "2026-12-08",
+        "rider": 42,
+        "mode": "not-before",
+        "minute": 540,
+        "from": 635,
+        "to": 660,
+        "offer": "booking",
+    }
+    assert told["offers"] == {"1": waits, "3": waits, "5": waits}
+
+
 def test_what_else_is_told_of_a_day() -> None:
     at = "2026-12-07T09:15:00"
     told = made(
@@ -146,6 +199,88 @@ def test_what_else_is_told_of_a_day() -> None:
         {"trip": 5, "vehicle": 109, "record": "ridden", "told": "missed-rider", "minute": 555}
     ]
     assert told["calls"] == {"out 109": {"5": "called"}}
+    assert told["call_times"] == {"out 109": {"5": "2026-12-07T09:16:00"}}
+
+
+def no_show(number: int, trip: int, at: str, **more: Any) -> bytes:
+    window = {"from": 545, "to": 560}
+    fields = {"vehicle": 109, "day": at[:10], "trip": trip, "wait": 5, "at": at, "arrived": 546}
+    return line("no-shows", number, f"{at}-05:00", **{**fields, **window, **more})
+
+
+def test_what_dispatch_has_not_looked_at_waits_over_days_and_comes_back_where_more_is_told() -> (
+    None
+):
+    lines = [
+        no_show(1, 5, "2026-12-05T09:15:00"),
+        no_show(2, 6, "2026-12-07T09:15:00"),
+        no_show(3, 7, "2026-12-07T09:15:00"),
+        line("reviews", 4, trip=6, outcome="missed-rider", at="2026-12-07T09:20:00"),
+        line(
+            "disagreements",
+            5,
+            vehicle=9,
+            trip=7,
+            record="missed-rider",
+            told="ridden",
+            at="2026-12-07T09:18:00",
+        ),
+    ]
+    waits = made(*lines)["unreviewed"]
+    assert [(it["day"], it["trip"]) for it in waits["no_shows"]] == [
+        ("2026-12-05", 5),
+        ("2026-12-07", 7),
+    ]
+    assert waits["no_shows"][0]["arrived"] == 546 and waits["no_shows"][0]["wait"] == 5
+    assert [(it["trip"], it["record"], it["told"]) for it in waits["disagreements"]] == [
+        (7, "missed-rider", "ridden")
+    ]
+    review = line(
+        "reviews",
+        6,
+        "2026-12-07T09:20:00-05:00",
+        trip=7,
+        outcome="ridden",
+        at="2026-12-07T09:19:00",
+    )
+    waits = made(*lines, review)["unreviewed"]
+    assert [it["trip"] for it in waits["no_shows"]] == [5] and not waits["disagreements"]
+    again = line(
+        "disagreements",
+        7,
+        vehicle=9,
+        trip=7,
+        record="missed-rider",
+        told="ridden",
+        at="2026-12-07T09:19:30",
+    )
+    assert [it["trip"] for it in made(*lines, review, again)["unreviewed"]["disagreements"]] == [7]
+
+
+def test_a_tap_that_comes_a_day_late_and_a_phone_with_the_wrong_date_are_named() -> None:
+    told = made(
+        stop(1, "2026-12-06T18:40:00", "dropped"),
+        stop(1, "2026-12-06T18:40:00", "dropped"),
+        stop(2, "2031-01-02T09:10:00"),
+        stop(3, "2024-02-29T09:10:00", trip=9),
+    )
+    assert trips(told) == [154]
+    assert told["vehicles"]["109"]["taps"][0]["minute"] == 560
+    assert [(it["vehicle"], it["trip"], it["kind"], it["at"]) for it in told["late"]] == [
+        (109, 9, "arrived", "2024-02-29T09:10:00"),
+        (109, 154, "dropped", "2026-12-06T18:40:00"),
+    ]
+
+
+def test_two_phones_of_one_van_are_one_list_and_each_tap_counts_once() -> None:
+    told = made(
+        stop(1, "2026-12-07T09:10:00"),
+        stop(2, "2026-12-07T09:11:00", "aboard"),
+        stop(3, "2026-12-07T09:10:30"),
+        stop(2, "2026-12-07T09:11:00", "aboard"),
+    )
+    kinds = [it["kind"] for it in told["vehicles"]["109"]["taps"]]
+    assert kinds == ["arrived", "arrived", "aboard"]
 
 
 # Following.
@@ -265,3 +400,111 @@ def test_what_cannot_be_read_is_one_sentence(
     path = tmp_path / "nowhere" / "today.json"
     assert today.main([str(tmp_path / "tally.log"), str(path), "--once"]) == 1
     assert "Traceback" not in capsys.readouterr().err
+
+
+def test_no_shows_of_ninety_days_are_kept_with_what_was_seen() -> None:
+    seen = {"vehicle": 109, "from": 545, "to": 560, "wait": 8, "at": "2026-12-07T09:20:00"}
+    old = datetime.date(2026, 12, 7) - datetime.timedelta(days=90)
+    known = today.Known()
+    known.keep_for(DAY)
+    known.take(
+        [
+            line("no-shows", 1, day="2026-12-07", trip=154, arrived=552, **seen),
+            line("no-shows", 2, f"{old}T09:20:00-05:00", day=str(old), trip=7, **seen),
+            line("no-shows", 3, "2026-09-07T09:20:00-04:00", day="2026-09-07", trip=8, **seen),
+            line(
+                "notes",
+                4,
+                f"{old}T09:20:00-05:00",
+                vehicle=1,
+                day=str(old),
+                trip=0,
+                text="x",
+                at=seen["at"],
+            ),
+        ]
+    )
+    known.keep_for(DAY)
+    told: dict[str, Any] = json.loads(json.dumps(today.no_shows_of(known, ZONE)))
+    assert (told["since"], set(told["no_shows"])) == (str(old), {"154", "7"})
+    assert (told["no_shows"]["154"]["arrived"], told["no_shows"]["7"]["arrived"]) == (552, None)
+    assert len(known.events) == 2
+
+
+def test_a_grant_in_part_has_its_last_step() -> None:
+    given = {"rider": 7, "entry": 1, "day": "2026-12-01"}
+    told = made(
+        line("partial-grants", 2, step="applied", at="2026-12-07T09:01:00", **given),
+        line("partial-grants", 1, step="refused", at="2026-12-07T09:00:00", **given),
+        line(
+            "partial-grants",
+            3,
+            step="refused",
+            at="2026-12-07T09:00:00",
+            rider=8,
+            entry=3,
+            day="2026-12-07",
+        ),
+    )
+    assert {it["rider"]: it["step"] for it in told["partial_grants"]} == {
+        7: "applied",
+        8: "refused",
+    }
+
+
+def denial(number: int, at: str, minute: int = 540, **more: Any) -> bytes:
+    fields = {"day": "2026-12-09", "minute": minute, "rule": "no vehicle", "channel": "page"}
+    return line("denials", number, **{**fields, "mode": "around", "at": at, **more})
+
+
+def mark(number: int, at: str, minute: int = 540, **more: Any) -> bytes:
+    fields = {"day": "2026-12-09", "minute": minute, "mode": "around", "at": at}
+    return line("marks", number, **{**fields, **more})
+
+
+def test_denials_of_today_say_which_of_them_were_marked_since() -> None:
+    told = made(
+        denial(1, "2026-12-07T09:01:00"),
+        mark(2, "2026-12-07T09:02:00"),
+        mark(3, "2026-12-07T09:03:00"),
+        denial(4, "2026-12-07T09:10:00"),
+        denial(5, "2026-12-07T09:11:00", minute=600, mode="by", channel="telephone"),
+        mark(6, "2026-12-07T09:12:00", minute=600),
+    )
+    rows = [(it["at"][11:16], it["minute"], it["marked"]) for it in told["denials"]]
+    wanted = [("09:01", 540, "2026-12-07T09:02:00"), ("09:10", 540, None), ("09:11", 600, None)]
+    assert rows == wanted
+    assert told["denials"][2] == {
+        "id": f"{5:026}",
+        "day": "2026-12-09",
+        "minute": 600,
+        "mode": "by",
+        "channel": "telephone",
+        "at": "2026-12-07T09:11:00",
+        "marked": None,
+    }
+
+
+def test_a_denial_of_another_kind_or_another_day_is_not_among_those_of_today() -> None:
+    offer = {"trip": 9, "rider": 8, "from": 700, "to": 720, "offer": "booking"}
+    told = made(
+        denial(1, "2026-12-06T09:01:00"),
+        denial(2, "2026-12-07T09:01:00", rule="37.131(a)"),
+        denial(3, "2026-12-07T09:01:00", leg="lost"),
+        denial(4, "2026-12-07T09:01:00", **offer),
+    )
+    assert told["denials"] == []
+
+
+def test_a_file_that_is_no_log_is_refused_and_a_torn_line_is_not(tmp_path: Path) -> None:
+    """A wrong file has no denials: read as a log, it would make every figure 0."""
+    wrong, torn = tmp_path / "agency.json", tmp_path / "tally.log"
+    wrong.write_text('{\n "name": "Chervil Falls Transit"\n}\n')
+    with pytest.raises(
+        UnreadableLog, match="is no log of a site: none of its 3 lines tells an event"
+    ):
+        read([wrong])
+    torn.write_bytes(stop()[:40])
+    assert read([torn]).events == [] and len(read([torn]).broken) == 1
+    torn.write_bytes(b"half a line\n" + stop())
+    assert len(read([torn]).events) == 1

@@ -1,6 +1,7 @@
 """A log of a refusal in plain sentences: its form, what was in the way, and that each minute is one of the log's own."""
 
 import re
+import sqlite3
 import subprocess
 from pathlib import Path
 
@@ -28,8 +29,7 @@ def test_the_page_to_check_by_pencil_is_told_in_a_sentence() -> None:
     assert f"```\n{EXAMPLE}```" in document
     told = run("-", text=EXAMPLE).stdout
     assert told.startswith(
-        "Van 1: 1 way to put the trip into its day was tried. In that one it would be back at 9:34 AM at the earliest, "
-        "after its day has ended.\n"
+        "Van 1 cannot take the trip: it would be back at 9:34 AM at the earliest, after its day has ended.\n"
     )
     assert "It is still a denial, for which the agency answers (49 CFR 37.131(f))." in told
 
@@ -37,8 +37,32 @@ def test_the_page_to_check_by_pencil_is_told_in_a_sentence() -> None:
 def test_what_a_copy_tells_of_a_van_is_said() -> None:
     facts = Facts({1: "The blue van"}, {1: 490})
     told = sentences(refusals(read(EXAMPLE))[0], facts, "en")
-    assert told.startswith("The blue van (van 1): 1 way")
-    assert told.endswith("It has to be back by 8:10 AM.")
+    assert told == (
+        "The blue van (van 1) cannot take the trip: it would be back at 9:34 AM at the earliest, "
+        "and has to be back by 8:10 AM."
+    )
+
+
+def test_a_day_that_would_be_too_long_is_named() -> None:
+    case = ["CASE 2 0 0", "A 3 1277", "T 0 647", "A 1 660", "W 1"]
+    told = sentences(refusals(read("\n".join(["AUDIT 1", *case, "DONE", ""])))[0], NO_FACTS, "en")
+    assert told == (
+        "Van 2 cannot take the trip: so that its day is not too long it would leave at 10:47 AM at the earliest, "
+        "and so reach a stop at 11:00 AM, after the time promised there."
+    )
+
+
+@pytest.mark.parametrize("language", LANGUAGES)
+def test_each_van_has_one_sentence_and_what_was_most_often_in_the_way_comes_first(
+    language: str,
+) -> None:
+    cases = ["CASE 2 0 0", "L 1", "CASE 2 0 1", "A 4 1140", "W 4", "CASE 2 1 1", "A 4 1150", "W 4"]
+    told = sentences(
+        refusals(read("\n".join(["AUDIT 1", *cases, "DONE", ""])))[0], NO_FACTS, language
+    )
+    assert told.count(". ") == told.count(". m. ") + told.count(" m. c") and told.endswith(".")
+    assert told.index("7:00") < told.index({"en": "too few seats", "es": "asientos"}[language])
+    assert "3" in told and "7:10" not in told
 
 
 @pytest.mark.parametrize(
@@ -51,10 +75,31 @@ def test_what_is_no_minute_is_told_without_one(end: str, words: str) -> None:
 
 def test_no_way_and_no_van_are_told() -> None:
     assert "no way at all" in run("-", text="AUDIT 1\nNODIRECT\nDONE\n").stdout
-    assert (
-        "No vehicle was on duty" in run("-", text="AUDIT 1\nDONE\n").stdout
-        or run("-", text="AUDIT 1\nDONE\n").returncode
-    )
+    empty = run("-", text="AUDIT 1\nDONE\n")
+    assert empty.stdout.startswith("The log has no vehicle. ") and "`desk audit`" in empty.stdout
+
+
+@pytest.mark.parametrize(
+    "day, log, said",
+    [
+        ("2025-03-11", EXAMPLE, ""),
+        ("2025-03-12", EXAMPLE, "the log has van 1, but {copy} has vans 1, 2 on duty"),
+        ("2025-03-16", EXAMPLE, "the log has van 1, but {copy} has no van on duty"),
+        ("2025-03-11", "AUDIT 1\nDONE\n", "the log has no van, but {copy} has van 1 on duty"),
+        ("2025-03-12", "AUDIT 1\nNODIRECT\nDONE\n", ""),
+    ],
+)
+def test_a_copy_of_another_day_is_named(day: str, log: str, said: str, tmp_path: Path) -> None:
+    copy = tmp_path / "copy.db"
+    with sqlite3.connect(copy) as database:
+        database.execute("CREATE TABLE vehicles (id, from_day, days, closes)")
+        # (van 1 works from Monday to Friday, and van 2 on Wednesdays)
+        database.executemany(
+            "INSERT INTO vehicles VALUES (?, 0, ?, 490)", [(1, 0b11111), (2, 0b100)]
+        )
+    ran = run("-", "--copy", str(copy), "--day", day, text=log)
+    assert (ran.returncode, len(ran.stderr.splitlines())) == ((1, 1) if said else (0, 0)), ran
+    assert said.format(copy=copy) in ran.stderr
 
 
 @pytest.mark.parametrize(
@@ -104,8 +149,10 @@ def logs(draw: st.DrawFn) -> str:
         for pickup in range(stops + 1):
             for drop in range(pickup, stops + 1):
                 visit = draw(st.integers(0, stops + 3))
+                day = [f"T 0 {draw(st.integers(1, 1500))}"] if draw(st.booleans()) else []
                 lines += [
                     f"CASE {vehicle} {pickup} {drop}",
+                    *day,
                     f"A {visit} {draw(st.integers(0, 1500))}",
                 ]
                 lines.append(draw(st.sampled_from([f"W {visit}", f"L {visit}", f"M {visit}", "S"])))
@@ -120,12 +167,17 @@ def test_each_minute_is_one_that_a_line_of_the_van_raised_and_each_way_is_counte
     for refusal in refusals(log):
         cases = log.vehicles()[refusal.vehicle]
         assert sum(it.places for it in refusal.reasons) == refusal.places == len(cases)
-        raised = {minute for case in cases for minute in case.bounds.values()}
+        blocks = re.findall(rf"(?m)^CASE {refusal.vehicle} .*\n((?:[FAPT] .*\n)*)", text)
+        raised = {int(it) for block in blocks for it in re.findall(r" (\d+)\n", block)}
         for language in LANGUAGES:
             told = sentences(refusal, NO_FACTS, language)
             minutes = [
-                clock(it.minute, language) for it in refusal.reasons if it.minute is not None
+                clock(minute, language)
+                for it in refusal.reasons
+                for minute in (it.minute, it.leaves)
+                if minute is not None
             ]
+            assert {it.leaves for it in refusal.reasons if it.leaves is not None} <= raised
             assert {it.minute for it in refusal.reasons if it.minute is not None} <= raised
             assert len(re.findall(r"\d{1,2}:\d\d", told)) == len(minutes) and all(
                 it in told for it in minutes

@@ -19,8 +19,8 @@ from pathlib import Path
 from types import TracebackType
 
 SECONDS_TO_BOOT = 60
-SECONDS_TO_WAIT = 30
-GROUPS = Path("/sys/fs/cgroup")
+SECONDS_TO_WAIT, SECONDS_TO_END = 30, 10
+GROUPS, GROUP = Path("/sys/fs/cgroup"), "desk-booted-"
 
 
 class NoBoot(Exception):
@@ -57,8 +57,42 @@ def control_groups(name: str) -> list[Path]:
         if number == "0" and not tree.exists():
             tree = GROUPS
         if tree.exists():
-            found.append(tree / path.lstrip("/") / f"desk-booted-{name}-{os.getpid()}")
+            found.append(tree / path.lstrip("/") / f"{GROUP}{name}-{os.getpid()}")
     return found
+
+
+def remove_group(group: Path) -> None:
+    """Ends what still runs in a control group of a trial, and removes it with those in it."""
+    end = time.monotonic() + SECONDS_TO_END
+    while (left := processes_in(group)) and time.monotonic() < end:
+        for number in left:
+            with contextlib.suppress(ProcessLookupError):
+                os.kill(number, signal.SIGKILL)
+        time.sleep(0.05)
+    for inner in sorted(group.rglob("*"), reverse=True):
+        if inner.is_dir():
+            with contextlib.suppress(OSError):
+                inner.rmdir()
+    with contextlib.suppress(OSError):
+        group.rmdir()
+
+
+def processes_in(group: Path) -> list[int]:
+    """The processes of a control group and of those in it."""
+    found: list[int] = []
+    for path in group.rglob("cgroup.procs"):
+        # (a group may go meanwhile, and one that holds groups lists none)
+        with contextlib.suppress(OSError):
+            found += [int(it) for it in path.read_text(encoding="ascii").split() if it != "0"]
+    return found
+
+
+def forget_groups() -> None:
+    """Removes the control groups of trials that were killed."""
+    for place in control_groups("any"):
+        for group in place.parent.glob(f"{GROUP}*"):
+            if not Path(f"/proc/{group.name.rpartition('-')[2]}").exists():
+                remove_group(group)
 
 
 class Machine:
@@ -112,7 +146,7 @@ class Machine:
     def in_groups(self) -> list[str]:
         """A command that enters the machine's control groups, and then becomes what follows it."""
         enter = "".join(f"echo $$ >{shlex.quote(str(it / 'cgroup.procs'))}; " for it in self.groups)
-        return ["sh", "-c", f'{enter}exec "$@"', "sh"]
+        return ["setpriv", "--pdeathsig", "KILL", "sh", "-c", f'{enter}exec "$@"', "sh"]
 
     def child(self) -> int | None:
         """The process number of the machine's systemd."""
@@ -128,7 +162,7 @@ class Machine:
         return ["nsenter", "-t", str(self.systemd), "-m", "-u", "-i", "-n", "-p", "-r", "-w"]
 
     def run(
-        self, command: str, *, check: bool = True, stdin: str = "", enough: float | bool = 300
+        self, command: str, *, check: bool = True, stdin: str = "", enough: float | bool = 180
     ) -> Ran:
         """Runs a line of shell in the machine as root. With `check` a status other than 0 raises.
 
@@ -191,16 +225,24 @@ class Machine:
                 self.process.wait()
         self.process, self.systemd = None, 0
         for group in self.groups:
-            for inner in sorted(group.rglob("*"), reverse=True):
-                if inner.is_dir():
-                    with contextlib.suppress(OSError):
-                        inner.rmdir()
-            with contextlib.suppress(OSError):
-                group.rmdir()
+            remove_group(group)
+
+    def kill(self) -> None:
+        """Ends the machine as a cut of its power does."""
+        if self.process and self.process.poll() is None:
+            # (systemd-nspawn that is killed leaves what runs in the machine behind)
+            if self.systemd:
+                os.kill(self.systemd, signal.SIGKILL)
+            self.process.kill()
+            self.process.wait()
+        self.halt()
 
 
-def link(one: Machine, other: Machine, network: str = "10.85.0") -> None:
-    """Ties two machines by a line of their own. Each knows both by name: NETWORK.1 and NETWORK.2."""
+def link(one: Machine, other: Machine, also: str = "", network: str = "10.85.0") -> None:
+    """Ties two machines by a line of their own. Each knows both by name: NETWORK.1 and NETWORK.2, which `also` names too.
+
+    Their names in documents are those with .example.org.
+    """
     ends = [f"dk{os.getpid() % 100_000}{it}" for it in "ab"]
     words = ["ip", "link", "add", ends[0], "type", "veth", "peer", "name", ends[1]]
     subprocess.run(words, check=True)
@@ -208,7 +250,8 @@ def link(one: Machine, other: Machine, network: str = "10.85.0") -> None:
         subprocess.run(["ip", "link", "set", end, "netns", str(machine.systemd)], check=True)
         machine.run(f"ip link set {end} name link0 && ip address add {network}.{at}/24 dev link0")
         machine.run("ip link set link0 up")
-    names = f"{network}.1 {one.name}\n{network}.2 {other.name}\n"
+    names = f"{network}.1 {one.name} {one.name}.example.org\n"
+    names += f"{network}.2 {other.name} {other.name}.example.org {also}\n"
     for machine in (one, other):
         machine.run("cat >>/etc/hosts", stdin=names)
 

@@ -16,6 +16,8 @@ def check(town: Town) -> None:
     """All of this part that is quick."""
     check_hours(town)
     check_work(town)
+    check_retention(town)
+    check_record(town)
     check_watch(town)
 
 
@@ -40,7 +42,7 @@ def check_work(town: Town) -> None:
         ran = machine.run(f"systemctl start desk-{name}.service", check=False)
         log = machine.run(f"journalctl -u desk-{name} -n 5 -o cat").output
         checks.holds(f"desk-{name}.service", ran.is_well, ran.output + log)
-    copies = machine.run("ls /var/backups/desk").output.split()
+    copies = machine.run("ls -p /var/backups/desk | grep -v /").output.split()
     checks.equal(
         "a copy and the machine's files", ["desk", "machine"], [it.split("-")[0] for it in copies]
     )
@@ -57,9 +59,53 @@ def check_work(town: Town) -> None:
     checks.equal("no unit of the desk is unsafe", "", machine.run(unsafe).output)
 
 
+def check_retention(town: Town) -> None:
+    """One unit removes old backups, by the agency's rule, and says what."""
+    checks, machine = town.checks, town.machine
+    for days in (40, 20):
+        machine.run(f"touch -d '{days} days ago' /var/backups/desk/desk-of-{days}.db")
+    there = "cd /var/backups/desk && ls desk-of-*"
+    longer = 'sed -i \'s/^{/{"retention": {"backups": "60 days"},/\' /etc/desk/agency.json'
+    machine.run(f"cp /etc/desk/agency.json /root/agency.json && {longer}")
+    for rule, kept in (("60 days", "desk-of-20.db desk-of-40.db"), ("35 days", "desk-of-20.db")):
+        ran = machine.run("systemctl start desk-retention.service", check=False)
+        log = machine.run("journalctl --sync; journalctl -u desk-retention -n 5 -o cat").output
+        checks.holds("desk-retention.service", ran.is_well, log)
+        checks.equal(f"backups are kept {rule}", kept.split(), machine.run(there).output.split())
+        machine.run("mv /root/agency.json /etc/desk/agency.json 2>/dev/null; true")
+    said = machine.run("journalctl --sync; journalctl -u desk-retention -o cat").output
+    checks.has("it says what it removed", "1 file removed: desk-of-40.db", said)
+    checks.has("and by which rule", "backups, kept 60 days (by agency.json): 0 files removed", said)
+    machine.run("rm -f /var/backups/desk/desk-of-*")
+
+
+def check_record(town: Town) -> None:
+    """nginx's workers open the record again once it was taken in; nobody else of the machine looks into it."""
+    checks, machine, folder = town.checks, town.machine, "/var/log/desk/journal"
+    said = machine.run(f"stat -c '%a %U %G' {folder}").output.strip()
+    checks.equal("the record's folder", "710 root www-data", said)
+    for turn in ("before", "after"):
+        office.ask(machine, f"/riders/4711/trips?{turn}", key=town.admin)
+        machine.wait_for(f"grep -q 4711 {folder}/requests", 5)
+        if turn == "before":
+            machine.run("systemctl start desk-journal.service")
+    count = machine.run(f"grep -c /riders/4711/trips {folder}/requests", check=False).output.strip()
+    checks.equal("the line of after is in the new file", "1", count)
+    refused = machine.run(
+        "grep -c 'Permission denied' /var/log/nginx/error.log", check=False
+    ).output.strip()
+    checks.equal("what nginx may not open", "0", refused)
+    told = machine.run(
+        "setpriv --reuid=nobody --clear-groups ls /var/log/desk/journal", check=False
+    )
+    checks.holds("nobody else lists the record", not told.is_well, told.output)
+
+
 def check_watch(town: Town) -> None:
     """The watch looks by itself, tells once, and leaves the journal alone."""
     checks, machine = town.checks, town.machine
+    said = machine.run("stat -c '%a %U' /etc/desk/watch.conf /etc/desk/setup.json").output
+    checks.equal("what may hold an alarm's secret", "600 root\n600 root\n", said)
     is_told = f"! {NO_BACKUP} /root/last-alarm"
     checks.holds("the night's backup is seen", machine.wait_for(is_told, 60))
     machine.run("rm -f /var/backups/desk/*.db")
@@ -88,7 +134,7 @@ def check_full_disk(town: Town) -> None:
     place: dict[str, object] = {}
     for _ in range(400):
         number = town.next_number()
-        place = {"id": number, "x": number, "y": 0, "core": False}
+        place = {"id": 1_000 + number, "x": number, "y": 0, "core": False}
         status = office.ask(machine, "/places", key=town.admin, body=place, number=number).status
         if status != 200:
             break

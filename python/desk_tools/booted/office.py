@@ -2,8 +2,10 @@
 
 from __future__ import annotations
 
+import hashlib
 import json
 import re
+import shlex
 import shutil
 from dataclasses import dataclass
 from pathlib import Path
@@ -38,6 +40,11 @@ def key_in(said: str, name: str = "1-admin") -> str:
     return found[1] if found else ""
 
 
+def digest_of(key: str) -> str:
+    """What the desk keeps of a key."""
+    return hashlib.sha256(key.encode()).hexdigest()
+
+
 @dataclass(frozen=True)
 class Reply:
     """A reply of the site: its status, its headers in small letters, its body."""
@@ -63,7 +70,8 @@ def ask(
     if body is not None:
         words += f" -H 'Desk-Number: {number}' --data-binary @-"
     text = "" if body is None else json.dumps(body)
-    ran = machine.run(f"{words} https://{NAME}:{PORT}{path}", check=False, stdin=text)
+    address = shlex.quote(f"https://{NAME}:{PORT}{path}")
+    ran = machine.run(f"{words} {address}", check=False, stdin=text)
     first, _, rest = ran.output.partition("\n")
     if not first.startswith("HTTP/"):
         return Reply(0, {}, ran.output)
@@ -82,3 +90,9 @@ def answers(machine: Machine, seconds: float = 30) -> bool:
 def process(machine: Machine, unit: str = "desk") -> str:
     """The number of a unit's process."""
     return machine.run(f"systemctl show -P MainPID {unit}").output.strip()
+
+
+def make_backup(machine: Machine) -> None:
+    """The night's backup by its unit. Its name has the minute, so that of the one before is waited for."""
+    machine.wait_for("! test -e /var/backups/desk/desk-$(date +%F-%H%M).db", 65)
+    machine.run("systemctl start desk-backup.service")

@@ -2,6 +2,7 @@
 
 from __future__ import annotations
 
+import os
 import re
 import subprocess
 from pathlib import Path
@@ -17,9 +18,14 @@ esac
 
 
 def made(program: Path, folder: Path) -> Path:
-    """The package of this tree with a program, for trial."""
+    """The package of this tree with a program, for trial. Raises RuntimeError with what bin/package says."""
     words = [str(TOP / "bin/package"), "--for-trial", "--program", str(program)]
-    subprocess.run([*words, "--output", str(folder)], check=True, capture_output=True)
+    # (it is thrown away, so it need not be small)
+    quickly = {**os.environ, "DPKG_DEB_COMPRESSOR_LEVEL": "1"}
+    words += ["--output", str(folder)]
+    ran = subprocess.run(words, check=False, capture_output=True, text=True, env=quickly)
+    if ran.returncode:
+        raise RuntimeError(f"no package was made: {ran.stderr.strip()[-300:]}")
     return next(folder.glob("desk_*.deb"))
 
 

@@ -21,10 +21,8 @@ def check(town: Town) -> None:
         machine.run(LISTENING, check=False).output,
     )
     checks.holds("the data stay", machine.run("test -s /var/lib/desk/desk.db", check=False).is_well)
-    office.install(machine, "/root/desk.deb", "--allow-downgrades")
-    checks.holds("installed again, the desk answers", office.answers(machine))
-    reply = office.ask(machine, "/days/2026-01-01/sheet", key=town.admin)
-    checks.equal("by the site and its own keys", 403, reply.status)
+    if town.is_whole:
+        check_back(town)
     told = machine.run("apt-get purge -y -q desk").output
     for folder in FOLDERS.split():
         checks.has("a purge names what stays", folder, told)
@@ -33,6 +31,24 @@ def check(town: Town) -> None:
         "ls /etc/systemd/system | grep ^desk; ls /etc/nginx/conf.d", check=False
     ).output
     checks.equal("no settings of units and no site are left", "", left)
+    if town.is_whole:
+        check_purge_of_all(town)
+    failed = machine.run("systemctl --failed --no-legend --plain", check=False).output
+    checks.equal("no unit failed", "", failed)
+
+
+def check_back(town: Town) -> None:
+    """With the package the site comes back."""
+    checks, machine = town.checks, town.machine
+    office.install(machine, "/root/desk.deb", "--allow-downgrades")
+    checks.holds("installed again, the desk answers", office.answers(machine))
+    reply = office.ask(machine, "/days/2026-01-01/sheet", key=town.admin)
+    checks.equal("by the site and its own keys", 403, reply.status)
+
+
+def check_purge_of_all(town: Town) -> None:
+    """A yes to debconf's question removes the data too."""
+    checks, machine = town.checks, town.machine
     office.install(machine, "/root/desk.deb")
     machine.run("echo 'desk desk/remove-data boolean true' | debconf-set-selections")
     machine.run("apt-get purge -y -q desk")
@@ -40,5 +56,3 @@ def check(town: Town) -> None:
         "ls -d /var/lib/desk* /etc/desk /etc/ssl/desk /var/log/desk 2>/dev/null", check=False
     )
     checks.equal("a purge with a yes leaves nothing of them", "", data.output)
-    failed = machine.run("systemctl --failed --no-legend --plain", check=False).output
-    checks.equal("no unit failed", "", failed)

@@ -6,6 +6,7 @@ import hashlib
 import os
 import shutil
 import subprocess
+import time
 import uuid
 from pathlib import Path
 
@@ -23,7 +24,7 @@ MASKED = (
 ).split()
 TOOLS = ("mmdebstrap", "systemd-nspawn", "nsenter", "unshare", "ip", "dpkg-deb")
 KEPT = Path("~/.cache/desk-booted").expanduser()
-SECONDS_TO_MAKE = 600
+SECONDS_TO_MAKE, SECONDS_KEPT = 300, 86_400
 
 
 class NoRoot(Exception):
@@ -42,18 +43,30 @@ def missing() -> str | None:
 
 
 def archive(packages: list[str] | None = None) -> Path:
-    """The archive of a root with these packages. Where none is kept it is made, which takes Debian's archive.
+    """The archive of a root with these packages. Where none of this day is kept it is made, from Debian's archive.
 
-    Raises NoRoot where that fails.
+    Where that cannot be reached an older one counts. Raises NoRoot where there is none.
     """
     names = sorted(packages or PACKAGES)
     key = hashlib.sha256(f"{SUITE} {' '.join(names)}".encode()).hexdigest()[:16]
     path = KEPT / f"{SUITE}-{key}.tar"
-    if path.exists():
+    if path.exists() and time.time() - path.stat().st_mtime < SECONDS_KEPT:
         return path
     KEPT.mkdir(parents=True, exist_ok=True)
+    try:
+        return made_archive(path, names)
+    except NoRoot as reason:
+        if not path.exists():
+            raise
+        print(f"tests/booted: {reason}; the root is an older one", flush=True)
+        return path
+
+
+def made_archive(path: Path, names: list[str]) -> Path:
+    """The archive, made now. Raises NoRoot where that fails; then an older one stays."""
     made = path.with_suffix(f".{os.getpid()}.tar")
     words = ["mmdebstrap", "--quiet", "--variant=minbase", "--skip=cleanup/apt/lists"]
+    words += ["--dpkgopt=force-unsafe-io"]
     words += [f"--include={','.join(names)}", SUITE, str(made)]
     try:
         ran = subprocess.run(
@@ -86,4 +99,9 @@ def unpacked(folder: Path, packages: list[str] | None = None) -> Path:
     (units / "multi-user.target.wants/nginx.service").unlink(missing_ok=True)
     (folder / "etc/resolv.conf").unlink(missing_ok=True)
     (folder / "etc/resolv.conf").write_text("", encoding="ascii")
+    # (it is thrown away, so dpkg need not wait for the disk; and whoever plays a document's commands says yes to apt)
+    (folder / "etc/dpkg/dpkg.cfg.d/trial").write_text("force-unsafe-io\n", encoding="ascii")
+    (folder / "etc/apt/apt.conf.d/90trial").write_text(
+        'APT::Get::Assume-Yes "true";\n', encoding="ascii"
+    )
     return folder

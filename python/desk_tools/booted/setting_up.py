@@ -7,6 +7,9 @@ import json
 from desk_tools.booted import office
 from desk_tools.booted.town import Town
 
+# What waits for a key, or for something that is marked.
+REST = "desk-closed-days.timer desk-denials.timer desk-driver-files.timer"
+
 # Takes what the watch sends, as an agency's own service would.
 HOOK = """
 import http.server
@@ -55,7 +58,7 @@ def check_setup(town: Town) -> None:
     checks.holds("it shows the admin's key", len(town.admin) > 20, ran.output)
     checks.has("it sent a test line", "this is a test", machine.run("cat /root/alarms").output)
     units = "desk.service desk-health.service nginx.service desk-watch.timer desk-backup.timer"
-    for unit in f"{units} desk-restart.timer desk-worklist.timer".split():
+    for unit in f"{units} desk-restart.timer desk-worklist.timer {REST}".split():
         said = machine.run(f"systemctl is-active {unit}; systemctl is-enabled {unit}", check=False)
         checks.equal(f"{unit} runs and is enabled", "active\nenabled\n", said.output)
     words = f"openssl x509 -in {office.CERTIFICATE} -noout -ext basicConstraints,extendedKeyUsage"
@@ -72,7 +75,7 @@ def check_site(town: Town) -> None:
     checks.equal(
         "the admin is known", (403, "desk.caller"), (reply.status, json.loads(reply.body)["denied"])
     )
-    body = {"id": 1, "x": 0, "y": 0, "core": False}
+    body = {"id": 90, "x": 0, "y": 0, "core": False}
     reply = office.ask(machine, "/places", key=town.admin, body=body, number=town.next_number())
     checks.equal("a write", (200, '{"done":true}'), (reply.status, reply.body.strip()))
     reply = office.ask(machine, "/days/2026-01-01/sheet", key="nobody")

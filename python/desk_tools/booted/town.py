@@ -11,13 +11,14 @@ from desk_tools.booted.machines import Machine
 
 @dataclass
 class Town:
-    """One agency on one machine."""
+    """One agency on one machine. `is_whole` is whether the slow checks are made too."""
 
     machine: Machine
     package: Path
     checks: Checks
     admin: str = ""
     number: int = 0
+    is_whole: bool = False
 
     def next_number(self) -> int:
         """The number of the admin's next write."""

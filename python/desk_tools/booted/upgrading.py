@@ -9,12 +9,13 @@ from desk_tools.booted.town import Town
 def check(town: Town) -> None:
     """All of this part."""
     later = packages.other(town.package, "0.98.0")
-    refusing = packages.other(town.package, "0.99.0", packages.REFUSING)
-    for package in (later, refusing):
-        office.bring(town.machine, package, package.name)
+    office.bring(town.machine, later, later.name)
     check_without_room(town, f"/root/{later.name}")
     check_with_room(town, f"/root/{later.name}")
-    check_refusal(town, f"/root/{refusing.name}")
+    if town.is_whole:
+        refusing = packages.other(town.package, "0.99.0", packages.REFUSING)
+        office.bring(town.machine, refusing, refusing.name)
+        check_refusal(town, f"/root/{refusing.name}")
 
 
 def check_without_room(town: Town, package: str) -> None:

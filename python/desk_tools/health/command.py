@@ -20,6 +20,7 @@ import time
 from dataclasses import dataclass, field
 from pathlib import Path
 
+from desk_tools import ending
 from desk_tools.health.access_log import Follower
 from desk_tools.health.figures import Figures, text_of
 
@@ -158,4 +159,4 @@ def main(arguments: list[str]) -> int:
 
 
 if __name__ == "__main__":
-    sys.exit(main(sys.argv[1:]))
+    ending.run("deploy/health", main)

@@ -1,7 +1,6 @@
 """Starts `bin/journal`."""
 
-import sys
-
+from desk_tools import ending
 from desk_tools.journal.command import main
 
-sys.exit(main(sys.argv[1:]))
+ending.run("bin/journal", main)

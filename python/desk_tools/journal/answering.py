@@ -13,12 +13,14 @@ from pathlib import Path
 
 from desk_tools.journal import questions
 from desk_tools.journal.places import Wrong
+from desk_tools.journal.words import LANGUAGES
 
 # A question may take as long as the site waits for its answer.
 SECONDS = 150
 HIGHEST = 4_294_967_295
 LOG = logging.getLogger("journal")
-Ask = Callable[[date | None, date | None], questions.Asked]
+# All that a question needs, for its first and last day and in its language.
+Ask = Callable[[date | None, date | None, str], questions.Asked]
 OF_NUMBER: dict[str, Callable[[questions.Asked, int], questions.Answer]] = {
     "trip": questions.of_trip,
     "rider": lambda asked, number: questions.of_rider(asked, number, False),
@@ -36,7 +38,7 @@ def day_in(given: dict[str, str], name: str) -> date | None:
 
 
 def answered(path: str, ask: Ask) -> questions.Answer | None:
-    """The answer to a path such as /record/trip?number=4711; None where it is no question."""
+    """The answer to a path such as /record/trip?number=4711&language=es; None where it is no question."""
     parts = urllib.parse.urlsplit(path)
     name = parts.path.removeprefix("/record/")
     given = dict(urllib.parse.parse_qsl(parts.query))
@@ -44,17 +46,19 @@ def answered(path: str, ask: Ask) -> questions.Answer | None:
         first, last = day_in(given, "from"), day_in(given, "to")
     except ValueError:
         return None
-    if name in OF_ALL:
-        return OF_ALL[name](ask(first, last))
+    language = given.get("language", LANGUAGES[0])
+    if name in OF_ALL and language in LANGUAGES:
+        return OF_ALL[name](ask(first, last, language))
     number = given.get("number", "")
     if (
         name not in OF_NUMBER
+        or language not in LANGUAGES
         or not number.isascii()
         or not number.isdecimal()
         or not 0 < int(number) <= HIGHEST
     ):
         return None
-    return OF_NUMBER[name](ask(first, last), int(number))
+    return OF_NUMBER[name](ask(first, last, language), int(number))
 
 
 class Server(socketserver.ThreadingMixIn, socketserver.UnixStreamServer):

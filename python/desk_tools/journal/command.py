@@ -7,6 +7,7 @@ from collections.abc import Callable
 from datetime import date, datetime
 from pathlib import Path
 
+from desk_tools import ending
 from desk_tools.journal import (
     answering,
     chain,
@@ -20,6 +21,7 @@ from desk_tools.journal import (
 )
 from desk_tools.journal import sheets, signing, taking, travelling, verifying
 from desk_tools.journal.places import AGENCY, FOLDER, Places, Wrong, agency_of, zone_of
+from desk_tools.journal.words import LANGUAGES, Words
 
 DONE, NOT_DONE, WRONG_WORDS, ENDS_EARLY, UNEXPLAINED = 0, 1, 2, 3, 4
 ROSTER, KEY, PUBLIC = (
@@ -52,7 +54,7 @@ def asked_of(words: argparse.Namespace) -> questions.Asked:
     if not places.folder.is_dir():
         raise Wrong(f"there is no record in {places.folder}")
     riders = names.riders_of_trips(words.copy) if words.copy else {}
-    known = names.of_agency(agency_of(words.agency), words.roster)
+    known = names.of_agency(agency_of(words.agency), words.roster, Words(words.language))
     return questions.Asked(
         places, reading.people_of(places), known, riders, words.first, words.last
     )
@@ -60,26 +62,31 @@ def asked_of(words: argparse.Namespace) -> questions.Asked:
 
 def show(words: argparse.Namespace, answer: questions.Answer) -> int:
     """Prints an answer as text, as CSV or as a page."""
+    said = Words(words.language)
+    heads = sheets.heads_of(answer.columns, said)
     if words.csv:
-        print(sheets.as_csv(answer.columns, answer.rows), end="")
+        print(sheets.as_csv(heads, answer.rows), end="")
     elif words.html:
-        print(sheets.as_page(answer.title, answer.columns, answer.rows, answer.notes), end="")
+        print(sheets.as_page(answer.title, heads, answer.rows, answer.notes, said), end="")
     else:
-        print(sheets.as_text(answer.title, answer.columns, answer.rows), end="")
+        print(sheets.as_text(answer.title, heads, answer.rows, said.said("nothing")), end="")
         for note in answer.notes:
             print(note)
     return DONE
 
 
 def take(words: argparse.Namespace) -> int:
-    """Takes what the site wrote into the record, closes days that are over, and sends the copy elsewhere."""
-    places = places_of(words)
+    """Takes what the site wrote into the record, closes days that are over, and sends the copy elsewhere.
+
+    A day that does not hold gets no signature, and the status says so each time.
+    """
+    places, broken = places_of(words), list[str]()
+    if not words.key.exists():
+        logging.warning("there is no %s, so closed days get no signature: put it back", words.key)
 
     def finish(file: chain.File) -> None:
-        if file.is_packed and (places.record / f"{file.name}.head.sig").exists():
-            return
-        signing.sign(places.record, signing.head_of(file), words.key)
-        chain.pack(file)
+        if said := verifying.close(places, file, words.key):
+            broken.append(said)
 
     added = taking.take(places, words.nginx_pid, finish)
     added += corrections.take(places, words.corrections)
@@ -91,7 +98,9 @@ def take(words: argparse.Namespace) -> int:
         else:
             signing.marked(places.record, head)
     print(f"{added} lines taken; the record ends with entry {head.last}")
-    return DONE
+    for said in broken:
+        logging.error("the record does not hold, and this day is not signed: %s", said)
+    return NOT_DONE if broken else DONE
 
 
 def verify(words: argparse.Namespace) -> int:
@@ -99,6 +108,8 @@ def verify(words: argparse.Namespace) -> int:
     places = places_of(words)
     today = words.today or datetime.now(places.zone).date()
     public = words.public if words.public.exists() else None
+    if not public and words.public != PUBLIC:
+        raise Wrong(f"there is no {words.public}")
     status, said = verifying.verify(places, public, words.elsewhere, today)
     print(said)
     return status
@@ -109,7 +120,8 @@ def check(words: argparse.Namespace) -> int:
     places = places_of(words)
     known = reading.people_of(places)
     people.of_copy(words.before, "", known)
-    found = replaying.check(places, known, words.before, words.after, words.program, words.zone)
+    given = words.before, words.after, words.program, words.zone, words.first
+    found = replaying.check(places, known, *given)
     for said in found.differing + found.otherwise:
         print(said)
     for said in found.unsure:
@@ -151,8 +163,8 @@ def serve(words: argparse.Namespace) -> int:
     """Answers the page *Record* until it is ended."""
     places = places_of(words)
 
-    def ask(first: date | None, last: date | None) -> questions.Asked:
-        known = names.of_agency(agency_of(words.agency), words.roster)
+    def ask(first: date | None, last: date | None, language: str) -> questions.Asked:
+        known = names.of_agency(agency_of(words.agency), words.roster, Words(language))
         return questions.Asked(places, reading.people_of(places), known, {}, first, last)
 
     answering.serve(words.socket, ask)
@@ -162,10 +174,11 @@ def serve(words: argparse.Namespace) -> int:
 def keep(words: argparse.Namespace) -> int:
     """Removes what is kept long enough, and says what."""
     places = places_of(words)
-    rules = retention.rules_of(agency_of(words.agency))
+    agency = agency_of(words.agency)
+    rules, hold = retention.rules_of(agency), retention.hold_in(agency)
     folders = {"tally": words.tally, "exports": words.exports, "backups": words.backups}
     today = datetime.now(places.zone).date()
-    for said in retention.keep(places, folders, rules, today, words.plan):
+    for said in retention.keep(places, folders, rules, today, words.plan, hold):
         print(said)
     return DONE
 
@@ -192,6 +205,7 @@ def question(
     parser.add_argument(
         "--roster", type=Path, default=ROSTER, help=f"the names of riders ({ROSTER})"
     )
+    parser.add_argument("--language", choices=LANGUAGES, default=LANGUAGES[0], help="en or es")
     form = parser.add_mutually_exclusive_group()
     form.add_argument("--csv", action="store_true", help="as CSV")
     form.add_argument("--html", action="store_true", help="as a page to print")
@@ -293,6 +307,13 @@ def add_tasks(parsers: "argparse._SubParsersAction[argparse.ArgumentParser]") ->
         required=True,
         help="the zone rule of the desk's unit, such as CST6CDT,M3.2.0,M11.1.0",
     )
+    one.add_argument(
+        "--from",
+        dest="first",
+        type=day,
+        metavar="DAY",
+        help="read the record from this day on, such as that of BEFORE.db; without it, the whole record",
+    )
     one = parsers.add_parser(
         "callers", help="adds the callers of a copy, whose keys are older than the record"
     )
@@ -363,7 +384,11 @@ def main(arguments: list[str]) -> int:
     """Does what the words say."""
     logging.basicConfig(format="bin/journal: %(message)s", level=logging.WARNING)
     try:
-        words = parser_of().parse_args(arguments)
+        parser = parser_of()
+        words = parser.parse_args(arguments)
+        first, last = getattr(words, "first", None), getattr(words, "last", None)
+        if first and last and first > last:
+            parser.error(f"--from {first} is after --to {last}")
         status: int = words.do(words)
         sys.stdout.flush()
         return status
@@ -373,4 +398,4 @@ def main(arguments: list[str]) -> int:
 
 
 if __name__ == "__main__":
-    sys.exit(main(sys.argv[1:]))
+    ending.run("bin/journal", main)

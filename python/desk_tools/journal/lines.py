@@ -12,6 +12,9 @@ DONE, UNKNOWN_FROM = 200, 499
 # Paths by which the desk takes writes; others are the site's own.
 OF_DESK = re.compile(r"/(callers|policy|places|routes|vehicles|riders|trips)(/|$)")
 MOMENT = re.compile(r"\d{4}-\d\d-\d\dT\d\d:\d\d:\d\d\.\d{3}Z")
+# The moment of a plain read, as nginx itself writes it: seconds since 1970.
+SECONDS = re.compile(r"(\d{9,11})\.(\d{3})")
+EPOCH = datetime(1970, 1, 1, tzinfo=timezone.utc)
 
 
 @dataclass(frozen=True)
@@ -80,6 +83,9 @@ def text_of(fields: dict[str, Any], name: str) -> str:
 
 def moment_of(text: str) -> datetime:
     """The moment, in UTC; ValueError where the text is none."""
+    seconds = SECONDS.fullmatch(text)
+    if seconds:
+        return EPOCH + timedelta(seconds=int(seconds[1]), milliseconds=int(seconds[2]))
     if not MOMENT.fullmatch(text):
         raise ValueError(text)
     return datetime.strptime(text, "%Y-%m-%dT%H:%M:%S.%fZ").replace(tzinfo=timezone.utc)

@@ -8,6 +8,7 @@ from dataclasses import dataclass, field
 from pathlib import Path
 
 from desk_tools.journal.places import Wrong
+from desk_tools.journal.words import Words
 
 HOUR, NOON, MIDNIGHT = 60, 12, 1440
 
@@ -20,21 +21,26 @@ class Names:
     vehicles: dict[int, str] = field(default_factory=dict)
     riders: dict[int, str] = field(default_factory=dict)
     has_noon: bool = True
+    words: Words = Words()
+
+    def called(self, kind: str, name: str | None, number: object) -> str:
+        """A thing by its name, where it has one, and its number."""
+        return self.words.said(f"{kind}-named" if name else kind, name=name, number=number)
 
     def place(self, number: object) -> str:
         """A place by its name and number."""
         name = self.places.get(number) if isinstance(number, int) else None
-        return f"{name} (place {number})" if name else f"place {number}"
+        return self.called("place", name, number)
 
     def vehicle(self, number: object) -> str:
         """A van by its name and number."""
         name = self.vehicles.get(number) if isinstance(number, int) else None
-        return f"{name} (vehicle {number})" if name else f"vehicle {number}"
+        return self.called("vehicle", name, number)
 
     def rider(self, number: object) -> str:
         """A rider by name and number."""
         name = self.riders.get(number) if isinstance(number, int) else None
-        return f"{name} (rider {number})" if name else f"rider {number}"
+        return self.called("rider", name, number)
 
     def clock(self, minute: object) -> str:
         """A minute of the day as the agency's clock shows it."""
@@ -43,7 +49,8 @@ class Names:
         hour, rest = divmod(minute, HOUR)
         if not self.has_noon:
             return f"{hour:02}:{rest:02}"
-        return f"{(hour + NOON - 1) % NOON + 1}:{rest:02} {'PM' if hour >= NOON else 'AM'}"
+        half = self.words.said("pm" if hour >= NOON else "am")
+        return f"{(hour + NOON - 1) % NOON + 1}:{rest:02} {half}"
 
 
 def named(records: object) -> dict[int, str]:
@@ -59,8 +66,8 @@ def named(records: object) -> dict[int, str]:
     }
 
 
-def of_agency(agency: dict[str, object], roster: Path | None) -> Names:
-    """The names of the agency's file and of its roster, where there is one."""
+def of_agency(agency: dict[str, object], roster: Path | None, words: Words = Words()) -> Names:
+    """The names of the agency's file and of its roster, where there is one; and the language in which they are said."""
     riders: dict[int, str] = {}
     if roster and roster.exists():
         try:
@@ -76,6 +83,7 @@ def of_agency(agency: dict[str, object], roster: Path | None) -> Names:
         named(agency.get("vehicles")),
         riders,
         agency.get("clock") != 24,
+        words,
     )
 
 

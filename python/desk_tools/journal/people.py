@@ -12,6 +12,7 @@ import io
 import sqlite3
 from collections.abc import Iterable
 from dataclasses import dataclass, replace
+from itertools import combinations
 from pathlib import Path
 
 from desk_tools.journal import lines
@@ -19,9 +20,11 @@ from desk_tools.journal.lines import Line
 from desk_tools.journal.places import Wrong
 from desk_tools.journal.sheets import as_csv
 from desk_tools.journal.signing import written
+from desk_tools.journal.words import Words
 from desk_tools.tables import ROLES
 
-COLUMNS = ("number", "name", "role", "subject", "from", "to", "digits")
+# The last column has the callers whose keys begin with the same digits at the same time: their lines are nobody's.
+COLUMNS = ("number", "name", "role", "subject", "from", "to", "digits", "alike")
 DIGITS = 12
 UPTO = "up to entry "
 
@@ -42,15 +45,16 @@ class Person:
         """Whether the key was the caller's at that moment."""
         return self.since <= moment and (not self.until or moment < self.until)
 
-    def title(self, with_name: bool = True) -> str:
+    def title(self, words: Words) -> str:
         """The person as an answer names them."""
-        whose = (
-            f" of {'rider' if self.role == 'rider' else 'vehicle'} {self.subject}"
-            if self.subject
-            else ""
+        kind = "subject-rider" if self.role == "rider" else "subject-vehicle"
+        return words.said(
+            "caller",
+            name=f"{self.name}, " if self.name else "",
+            role=words.said(f"role-{self.role}"),
+            subject=words.said(kind, number=self.subject) if self.subject else "",
+            number=self.number,
         )
-        name = f"{self.name}, " if self.name and with_name else ""
-        return f"{name}{self.role}{whose} (caller {self.number})"
 
 
 def digits_of(digest: str) -> str:
@@ -69,14 +73,70 @@ class People:
 
     def __init__(self, rows: Iterable[Person] = (), upto: int = 0) -> None:
         self.rows, self.upto = list(rows), upto
+        self.by_digits: dict[str, list[Person]] | None = None
+        self.found_alike: list[list[Person]] | None = None
+        self.found_borrowed: set[Person] | None = None
 
-    def of_digits(self, digits: str, moment: str) -> Person | None:
-        """Whose key had these digits at that moment; where nobody's, who had it last before."""
-        rows = [it for it in self.rows if it.digits == digits]
-        held = [it for it in rows if it.held_at(moment)]
+    def of_digits(self, digits: str, moment: str) -> list[Person]:
+        """Whose key had these digits at that moment; where nobody's, who had it last before.
+
+        They are two where keys of two callers begin alike: then nobody can say whose line it is.
+        """
+        if self.by_digits is None:
+            self.by_digits = {}
+            for row in self.rows:
+                self.by_digits.setdefault(row.digits, []).append(row)
+        rows = self.by_digits.get(digits, [])
+        held = {it.number: it for it in rows if it.held_at(moment)}
         before = [it for it in rows if it.since <= moment]
-        found = held or before or rows
-        return found[-1] if found else None
+        return list(held.values()) or (before or rows)[-1:]
+
+    def alike(self) -> list[list[Person]]:
+        """Keys of different callers that began alike at one time, each time with all of them."""
+        if self.found_alike is not None:
+            return self.found_alike
+        first: dict[str, list[Person]] = {}
+        for row in self.rows:
+            if row.digits:
+                first.setdefault(row.digits, []).append(row)
+        self.found_alike = [
+            it
+            for it in first.values()
+            if any(
+                one.number != other.number
+                and (not one.until or other.since < one.until)
+                and (not other.until or one.since < other.until)
+                for one, other in combinations(it, 2)
+            )
+        ]
+        return self.found_alike
+
+    def borrowed(self) -> set[Person]:
+        """Keys that stood for a while between two times of an older key of the same caller: another person may have used them."""
+        if self.found_borrowed is not None:
+            return self.found_borrowed
+        self.found_borrowed = set()
+        of_number: dict[int, list[Person]] = {}
+        for row in sorted(self.rows, key=lambda it: it.since):
+            of_number.setdefault(row.number, []).append(row)
+        for rows in of_number.values():
+            first: dict[str, int] = {}
+            for at, row in enumerate(rows):
+                first.setdefault(row.digits, at)
+            self.found_borrowed |= {
+                row
+                for row, after in zip(rows, rows[1:])
+                if row.digits and first[after.digits] < first[row.digits]
+            }
+        return self.found_borrowed
+
+    def add(self, *rows: Person) -> None:
+        """Adds rows."""
+        self.put_rows([*self.rows, *rows])
+
+    def put_rows(self, rows: list[Person]) -> None:
+        """Has these rows from now on."""
+        self.rows, self.by_digits, self.found_alike, self.found_borrowed = rows, None, None, None
 
     def now(self, number: int) -> Person | None:
         """The row of the caller's key now, or the last one."""
@@ -108,13 +168,13 @@ class People:
         ]
         if same and (same[0].role, same[0].subject) == (new.role, new.subject):
             # The same key again: a write that was sent twice, or a key that a row by hand names already.
-            self.rows = [replace(it, name=name) if it is same[0] else it for it in self.rows]
+            self.put_rows([replace(it, name=name) if it is same[0] else it for it in self.rows])
             return
-        self.rows = [
+        ended = [
             replace(it, until=moment) if it.number == number and not it.until else it
             for it in self.rows
         ]
-        self.rows.append(new)
+        self.put_rows([*ended, new])
 
 
 def read(path: Path) -> People:
@@ -156,14 +216,30 @@ def row_of(fields: dict[str, str], at: int) -> Person:
     )
 
 
+def others_of(row: Person, alike: list[list[Person]]) -> str:
+    """The numbers of the callers whose keys begin as this one does."""
+    found = {it.number for rows in alike if row in rows for it in rows if it.number != row.number}
+    return " ".join(map(str, sorted(found)))
+
+
 def keep(path: Path, people: People) -> None:
     """Writes the file, whole or not at all."""
     rows = sorted(people.rows, key=lambda it: (it.number, it.since))
+    alike = people.alike()
     cells = [
-        (it.number, it.name, it.role, it.subject or "", it.since, it.until, it.digits)
+        (
+            it.number,
+            it.name,
+            it.role,
+            it.subject or "",
+            it.since,
+            it.until,
+            it.digits,
+            others_of(it, alike),
+        )
         for it in rows
     ]
-    text = as_csv(COLUMNS, [*cells, ("", "", "", "", "", "", f"{UPTO}{people.upto}")])
+    text = as_csv(COLUMNS, [*cells, ("", "", "", "", "", "", f"{UPTO}{people.upto}", "")])
     if not path.exists() or path.read_text(encoding="utf-8") != text:
         written(path, text.encode())
 
@@ -183,9 +259,8 @@ def of_copy(path: Path, moment: str, people: People) -> int:
         if digits not in people.all_digits(number):
             last = people.now(number)
             since = moment if last and not last.until else ""
-            people.rows.append(
-                Person(number, last.name if last else "", ROLES[role], subject, since, "", digits)
-            )
+            name = last.name if last else ""
+            people.add(Person(number, name, ROLES[role], subject, since, "", digits))
             added += 1
     return added
 

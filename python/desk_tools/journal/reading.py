@@ -1,6 +1,8 @@
 """The lines of the record in order: the chained files, and behind them what is not chained yet."""
 
+import logging
 from collections.abc import Callable, Iterator
+from datetime import date, timedelta
 from pathlib import Path
 from typing import Any
 
@@ -10,6 +12,7 @@ from desk_tools.journal.people import People
 from desk_tools.journal.places import Places
 
 CALLERS = b"/callers"
+LOG = logging.getLogger("journal")
 Wanted = Callable[[bytes], bool]
 
 
@@ -29,17 +32,25 @@ def files_after(places: Places, after: int) -> list[chain.File]:
     return kept
 
 
-class Reader:
-    """Reads a record behind a place. `unreadable` says how many lines could not be read so far."""
+def files_from(files: list[chain.File], first: date | None) -> list[chain.File]:
+    """The files from a day on, and the one before it; the file of an earlier day that a wrong clock opened later is among them."""
+    if first is None:
+        return files
+    day = (first - timedelta(days=1)).isoformat()
+    return files[next((at for at, it in enumerate(files) if it.day >= day), len(files)) :]
 
-    def __init__(self, places: Places, after: int = 0) -> None:
-        self.places, self.after = places, after
+
+class Reader:
+    """Reads a record behind a place, or the files from a day on. `unreadable` says how many lines could not be read so far."""
+
+    def __init__(self, places: Places, after: int = 0, first: date | None = None) -> None:
+        self.places, self.after, self.first = places, after, first
         self.unreadable = 0
         self.part, self.taken = 0, 0
 
     def raw(self) -> Iterator[tuple[int, bytes]]:
         """Each request's line with its place in the record; 0 where it is not chained yet."""
-        for file in files_after(self.places, self.after):
+        for file in files_from(files_after(self.places, self.after), self.first):
             for entry in chain.entries_of(file):
                 note = entry.note
                 if note == "opened":
@@ -96,10 +107,16 @@ def people_of(places: Places) -> People:
 def keep_people(places: Places) -> None:
     """Brings callers.csv up to the last entry of the record."""
     known = people.read(places.callers)
-    reader = Reader(places, known.upto)
+    reader, before = Reader(places, known.upto), known.alike()
     for place, raw in reader.raw():
         line = lines.read(place, raw) if place and CALLERS in raw else None
         if line is not None:
             known.put(line)
         known.upto = max(known.upto, place)
     people.keep(places.callers, known)
+    was_alike = {row.digits for rows in before for row in rows}
+    for alike in known.alike():
+        if alike[0].digits in was_alike:
+            continue
+        numbers = " and ".join(str(it) for it in sorted({it.number for it in alike}))
+        LOG.warning("the keys of callers %s begin alike, so lines of either are nobody's", numbers)

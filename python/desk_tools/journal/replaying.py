@@ -7,37 +7,40 @@ since numbers rise; so no clock decides it. The desk serves under a clock that s
 import contextlib
 import hashlib
 import http.client
-import itertools
 import json
 import os
 import random
 import secrets
 import shlex
+import shutil
 import socket
 import sqlite3
 import subprocess
 import tempfile
 from collections.abc import Iterator
 from dataclasses import dataclass, field
-from datetime import datetime, timedelta, timezone
+from datetime import date, datetime, timedelta, timezone
 from pathlib import Path
 from typing import Any
 
 from desk_tools.journal import lines, reading
 from desk_tools.journal.lines import Line, object_of
-from desk_tools.journal.people import People, digits_of
+from desk_tools.journal.people import People
 from desk_tools.journal.places import Places, Wrong
 from desk_tools.tables import KEYS
 
-FIRST_PORT, LAST_PORT, SECONDS = 10_000, 32_767, 60
+FIRST_PORT, LAST_PORT, SECONDS, TRIES = 10_000, 32_767, 60, 3
 WRAPPER = """#!/bin/sh
 export LD_PRELOAD={library} FAKETIME_TIMESTAMP_FILE={moment} FAKETIME_NO_CACHE=1 FAKETIME_DONT_FAKE_MONOTONIC=1 TZ=UTC0
 exec {program} "$@"
 """
-# How far moments of lines may be off, and how many writes at once are tried in each order.
-ROUNDED, MOST_AT_ONCE = timedelta(milliseconds=2), 5
+# How far moments of lines may be off, and how near the edge of a minute both minutes are tried.
+ROUNDED, NEAR, QUARTER = timedelta(milliseconds=2), timedelta(seconds=0.5), 15
+# Of writes at once: how many may come next, how many writes are made anew for one order, and how far the search goes back.
+MOST_AT_ONCE, MOST_TRIES, MOST_FORKS = 8, 400, 16
 Rows = dict[tuple[Any, ...], dict[str, Any]]
-Write = tuple[Line, int]
+# A line with the callers whose it may be: more than one where keys begin alike.
+Write = tuple[Line, list[int]]
 
 
 @dataclass
@@ -56,18 +59,28 @@ class Found:
 
 
 def library() -> str:
-    """The library by which `faketime` shows another clock."""
-    with contextlib.suppress(OSError, subprocess.TimeoutExpired):
-        told = subprocess.run(
-            ["faketime", "2025-03-10 08:00:00", "env"],
-            capture_output=True,
-            text=True,
-            check=False,
-            timeout=SECONDS,
-        )
+    """The library by which `faketime` shows another clock. It is asked again where it fails once, as by a leftover in /dev/shm."""
+    said = ""
+    for _ in range(TRIES):
+        try:
+            told = subprocess.run(
+                ["faketime", "2025-03-10 08:00:00", "env"],
+                capture_output=True,
+                text=True,
+                check=False,
+                timeout=SECONDS,
+            )
+        except FileNotFoundError:
+            break
+        except (OSError, subprocess.TimeoutExpired) as error:
+            said = str(error)
+            continue
         for line in told.stdout.splitlines():
             if line.startswith("LD_PRELOAD="):
                 return line.partition("=")[2].split(":")[0]
+        said = told.stderr.strip() or f"it ended with status {told.returncode}"
+    if said:
+        raise Wrong(f"faketime doesn't work: {said}")
     raise Wrong("faketime is not installed, and the replay shows the desk each line's moment by it")
 
 
@@ -88,6 +101,40 @@ def numbers_of(path: Path) -> dict[int, int]:
     """The number of each caller's last accepted write."""
     with contextlib.closing(sqlite3.connect(path)) as file:
         return dict(file.execute("SELECT caller, number FROM kept").fetchall())
+
+
+class Digests:
+    """The digests that each caller's key may have, by the earlier copy and by the record's lines."""
+
+    def __init__(self, before: Path) -> None:
+        self.known = {number: {digest} for number, digest in digests_in(before).items()}
+
+    def put(self, group: list[Write]) -> None:
+        """Takes in writes that were under way at once: any of them may have come last, and one without a reply may not count."""
+        found: dict[int, set[str]] = {}
+        for line, _ in group:
+            number = line.fields.get("id")
+            if line.path == "/callers" and isinstance(number, int):
+                found.setdefault(number, set()).add(lines.text_of(line.fields, "digest").lower())
+                if not line.is_done:
+                    found[number] |= self.known.get(number, set())
+        self.known.update(found)
+
+    def others(self, after: Path) -> Iterator[str]:
+        """A sentence for each caller of the later copy whose key is none of these."""
+        for number, digest in digests_in(after).items():
+            wanted = self.known.get(number, {digest})
+            # (a line without its digest can't be compared)
+            if digest not in wanted and "" not in wanted:
+                put = " or ".join(sorted(it[:12] for it in wanted))
+                yield f"callers, id {number}: the key is {digest[:12]}, by the record {put}"
+
+
+def digests_in(path: Path) -> dict[int, str]:
+    """The digest of each caller's key."""
+    with contextlib.closing(sqlite3.connect(path)) as file:
+        found = file.execute("SELECT id, digest FROM callers ORDER BY id").fetchall()
+    return {number: bytes(digest).hex() for number, digest in found}
 
 
 class Keys:
@@ -118,11 +165,9 @@ class Replay:
 
     def __init__(self, program: Path, folder: Path, zone: str, keys: Keys) -> None:
         self.folder, self.zone, self.keys = folder, zone, keys
-        self.file, self.moment, self.program = (
-            folder / "replay.db",
-            folder / "moment",
-            folder / "desk",
-        )
+        self.file, self.moment = folder / "replay.db", folder / "moment"
+        self.program, self.after = folder / "desk", folder / "after.db"
+        self.told = (0, "")
         names = {
             "library": library(),
             "moment": str(self.moment),
@@ -133,30 +178,35 @@ class Replay:
         )
         self.program.chmod(0o755)
         self.process: subprocess.Popen[bytes] | None = None
-        self.port = 0
+        self.port, self.shown = 0, ""
 
     def kept(self, name: str) -> Path:
-        """A copy of the file as it is now."""
-        self.stop()
-        path = self.folder / f"{name}.kept"
-        path.unlink(missing_ok=True)
-        copied(self.file, path)
+        """A copy of the file as it is now. The desk may serve it meanwhile: between two requests it writes nothing."""
+        path = self.folder / name
+        for end in "", "-wal":
+            one, other = self.file.with_name(self.file.name + end), path.with_name(name + end)
+            other.unlink(missing_ok=True)
+            if one.exists():
+                shutil.copyfile(one, other)
         return path
 
     def go_back(self, kept: Path) -> None:
         """Has the file as it was when the copy was made."""
         self.stop()
         for end in "", "-wal", "-shm":
-            self.file.with_name(self.file.name + end).unlink(missing_ok=True)
-        copied(kept, self.file)
+            one, other = kept.with_name(kept.name + end), self.file.with_name(self.file.name + end)
+            other.unlink(missing_ok=True)
+            if one.exists():
+                shutil.copyfile(one, other)
 
     def show(self, moment: datetime) -> None:
-        """The desk's clock shows this moment from now on."""
-        new = self.moment.with_suffix(".new")
-        new.write_text(
-            moment.astimezone(timezone.utc).strftime("%Y-%m-%d %H:%M:%S\n"), encoding="ascii"
-        )
-        os.replace(new, self.moment)
+        """The desk's clock shows this moment, by the second, from now on."""
+        told = moment.astimezone(timezone.utc).strftime("%Y-%m-%d %H:%M:%S\n")
+        if told != self.shown:
+            new = self.moment.with_suffix(".new")
+            new.write_text(told, encoding="ascii")
+            os.replace(new, self.moment)
+            self.shown = told
 
     def start(self) -> None:
         """Has the desk serve."""
@@ -231,23 +281,49 @@ class Replay:
         )
         return (200 if ran.returncode == 0 else 422), ran.stdout.decode("latin-1").strip()
 
-    def tried(self, line: Line, caller: int) -> tuple[int, str]:
-        """The write at its moment; near a minute's edge, at both minutes, and the one with the line's reply counts."""
-        first, last = (
-            it.replace(second=0, microsecond=0)
-            for it in (line.began, line.at + timedelta(seconds=0.5))
-        )
+    def is_answered(self, line: Line, caller: int) -> bool:
+        """Makes a write anew at its moment. Whether it is answered as its line says.
+
+        Near the edge of a minute it is made at both. Where each is answered as the line says and a day may have ended
+        between them, that one counts whose rows the later copy has.
+        """
         self.show(line.began)
-        if first == last or line.method == "TRAVEL":
-            return self.post(line, caller)
-        self.stop()
+        minutes = [it.replace(second=0, microsecond=0) for it in (line.began, line.at + NEAR)]
+        if minutes[0] == minutes[1]:
+            return self.answers(line, caller)
         kept = self.kept("minute")
-        told = self.post(line, caller)
-        if told == (line.status, line.reply):
-            return told
+        first = self.answers(line, caller)
+        # (a day ends on a quarter of an hour, in whatever zone)
+        if first and minutes[1].minute % QUARTER:
+            return True
+        after_first = self.kept("first")
         self.go_back(kept)
-        self.show(last)
-        return self.post(line, caller)
+        self.show(minutes[1])
+        second = self.answers(line, caller)
+        if first and not (second and self.is_nearer(kept, self.kept("second"), after_first)):
+            self.go_back(after_first)
+        return first or second
+
+    def answers(self, line: Line, caller: int) -> bool:
+        """Makes a write anew by the clock as it is. Whether it is answered as its line says."""
+        self.told = self.post(line, caller)
+        return self.told == (line.status, line.reply)
+
+    def is_nearer(self, before: Path, one: Path, other: Path) -> bool:
+        """Whether fewer of the rows that one copy changed are otherwise in the later file of the check."""
+        return self.compared(before, one)[1] < self.compared(before, other)[1]
+
+    def compared(self, before: Path, now: Path) -> tuple[int, int]:
+        """How many of the rows that changed between two copies the later file of the check has so, and otherwise."""
+        same = other = 0
+        for table in KEYS:
+            old, new, wanted = (rows_of(it, table) for it in (before, now, self.after))
+            keys = [it for it in {*old, *new} if old.get(it) != new.get(it)]
+            alike = sum(new.get(it) == wanted.get(it) for it in keys)
+            # (the numbers of last writes and of the last trip say nothing of one write)
+            same += alike if table not in ("kept", "desk") else 0
+            other += len(keys) - alike
+        return same, other
 
 
 def free_port() -> int:
@@ -260,17 +336,27 @@ def free_port() -> int:
 
 
 def writes_since(
-    places: Places, people: People, before: dict[int, int], after: dict[int, int]
-) -> Iterator[tuple[Line, int]]:
+    places: Places,
+    people: People,
+    before: dict[int, int],
+    after: dict[int, int],
+    first: date | None,
+) -> Iterator[Write]:
     """The writes that may have changed the file between two copies, each with its caller."""
-    for line in reading.Reader(places).lines(lambda raw: b'"method":"GET"' not in raw):
-        is_asked = line.is_write and (line.is_done or line.status >= lines.UNKNOWN_FROM)
-        person = people.of_digits(line.who, lines.told(line.at)) if is_asked else None
-        # (a write that replaced the caller's own key ended when the key did)
-        if person is None or line.number is None:
+    reader = reading.Reader(places, first=first)
+    for line in reader.lines(lambda raw: b'"method":"GET"' not in raw):
+        if line.number is None or not line.is_write:
             continue
-        if before.get(person.number, 0) < line.number <= after.get(person.number, 0):
-            yield line, person.number
+        if not line.is_done and line.status < lines.UNKNOWN_FROM:
+            continue
+        # (a write that replaced the caller's own key ended when the key did)
+        callers = [
+            it.number
+            for it in people.of_digits(line.who, lines.told(line.at))
+            if before.get(it.number, 0) < line.number <= after.get(it.number, 0)
+        ]
+        if callers:
+            yield line, callers
 
 
 def rows_of(path: Path, table: str) -> Rows:
@@ -310,21 +396,29 @@ def difference(ours: dict[str, Any] | None, theirs: dict[str, Any] | None) -> st
 
 
 def check(
-    places: Places, people: People, before: Path, after: Path, program: Path, zone: str
+    places: Places,
+    people: People,
+    before: Path,
+    after: Path,
+    program: Path,
+    zone: str,
+    day: date | None = None,
 ) -> Found:
-    """Replays what came between two copies, and compares."""
+    """Replays what came between two copies, and compares. The record is read from a day on, or whole."""
     found = Found()
     with tempfile.TemporaryDirectory() as name:
         folder, keys = Path(name), Keys()
         replay = Replay(program, folder, zone, keys)
         copied(before, replay.file)
-        copied(after, folder / "after.db")
-        first, last = numbers_of(replay.file), numbers_of(folder / "after.db")
+        copied(after, replay.after)
+        first, last = numbers_of(replay.file), numbers_of(replay.after)
+        digests = Digests(replay.file)
         keys.put_in(replay.file)
         reached = dict(first)
         try:
-            for group in groups_of(writes_since(places, people, first, last)):
+            for group in groups_of(writes_since(places, people, first, last, day)):
                 replay_group(replay, group, found, reached)
+                digests.put(group)
         finally:
             replay.stop()
         for caller, number in sorted(last.items()):
@@ -333,7 +427,8 @@ def check(
                     f"kept, caller {caller}: its last write has the number {number}, and no line names it"
                 )
         copied(replay.file, folder / "ended.db")
-        found.differing += compared(folder / "ended.db", folder / "after.db")
+        found.differing += compared(folder / "ended.db", replay.after)
+        found.differing += digests.others(replay.after)
     return found
 
 
@@ -341,66 +436,146 @@ def groups_of(writes: Iterator[Write]) -> Iterator[list[Write]]:
     """The writes in groups: those of one group were under way at once, so that the desk may have had them in any order."""
     group: list[Write] = []
     end = datetime.min.replace(tzinfo=timezone.utc)
-    for line, caller in writes:
+    for line, callers in writes:
         if group and line.began >= end - ROUNDED:
             yield group
             group = []
-        group.append((line, caller))
+        group.append((line, callers))
         end = max(end, line.at) if len(group) > 1 else line.at
     if group:
         yield group
 
 
-def orders_of(group: list[Write]) -> Iterator[tuple[Write, ...]]:
-    """The orders in which the desk may have had a group: each caller's own writes come by their numbers."""
-    for order in itertools.permutations(group) if len(group) <= MOST_AT_ONCE else [tuple(group)]:
-        last: dict[int, int] = {}
-        for line, caller in order:
-            if last.get(caller, 0) > (line.number or 0):
-                break
-            last[caller] = line.number or 0
-        else:
-            yield order
+def choices_of(group: list[Write], made: list[int]) -> list[int]:
+    """Which write of a group the desk may have had next: none that had ended has to come before it, and each caller's own
+    writes come by their numbers."""
+    left = [it for it in range(len(group)) if it not in made][:MOST_AT_ONCE]
+    return [
+        it
+        for it in left
+        if not any(
+            group[other][0].at + ROUNDED < group[it][0].began
+            or (group[other][1] == group[it][1] and is_lower(group[other][0], group[it][0]))
+            for other in left
+        )
+    ] or left[:1]
+
+
+def is_lower(one: Line, other: Line) -> bool:
+    """Whether a line has a lower number than another one, or comes before it with the same."""
+    return ((one.number or 0), one.at) < ((other.number or 0), other.at)
+
+
+def is_open(group: list[Write]) -> bool:
+    """Whether two writes of a group put the same record, so that their replies don't tell which one came last."""
+    put = [
+        (line.path, str(line.fields.get("id")))
+        for line, _ in group
+        if line.path != "/trips" and line.is_done
+    ]
+    return len(set(put)) < len(put)
+
+
+@dataclass
+class Fork:
+    """A place in the order of a group: how many writes were made, the file as it was then, and what may come next."""
+
+    length: int
+    kept: Path | None
+    left: list[int]
+
+
+def in_order(replay: Replay, group: list[Write], start: Path) -> bool:
+    """Makes the writes of a group anew, in an order in which each is answered as its line says. Whether there is one.
+
+    Where the replies don't tell the order, that one counts whose rows the later copy has.
+    """
+    made: list[int] = []
+    best = replay.folder / "best"
+    least, forks, is_any = -1, [Fork(0, start, choices_of(group, made))], is_open(group)
+    for count in range(MOST_TRIES + len(group)):
+        while forks and not forks[-1].left:
+            forks.pop()
+            if forks and forks[-1].left and forks[-1].kept:
+                replay.go_back(forks[-1].kept)
+        if not forks:
+            break
+        del made[forks[-1].length :]
+        at = forks[-1].left.pop(0)
+        if not is_told(replay, group[at]):
+            if forks[-1].kept and forks[-1].left:
+                replay.go_back(forks[-1].kept)
+            continue
+        made.append(at)
+        if len(made) < len(group):
+            left = choices_of(group, made)
+            kept = replay.kept(f"fork-{count % (2 * MOST_FORKS)}") if len(left) > 1 else None
+            forks = [*forks, Fork(len(made), kept, left)][-MOST_FORKS:]
+            continue
+        far = replay.compared(start, replay.kept("order"))[1] if is_any else 0
+        if least < 0 or far < least:
+            least = far
+            replay.kept("best")
+        if not least:
+            return True
+        forks.append(Fork(len(made), None, []))
+    if least >= 0:
+        replay.go_back(best)
+    return least >= 0
 
 
 def replay_group(replay: Replay, group: list[Write], found: Found, reached: dict[int, int]) -> None:
-    """Makes the writes of a group anew, in the order in which each is answered as its line says, if there is one."""
-    if len(group) > 1:
-        kept = replay.kept("group")
-        for order in orders_of(group):
-            if all(replay.tried(*it) == (it[0].status, it[0].reply) for it in order):
-                found.writes += len(group)
-                for line, caller in group:
-                    reached[caller] = max(reached.get(caller, 0), line.number or 0)
-                return
-            replay.go_back(kept)
-    for line, caller in group:
-        replay_line(replay, line, caller, found, reached)
+    """Makes the writes of a group anew. Where no order has every reply, what goes otherwise is named line by line."""
+    is_done = len(group) > 1 and all(line.is_done for line, _ in group)
+    start = replay.kept("start") if is_done else None
+    if start and in_order(replay, group, start):
+        found.writes += len(group)
+        for line, callers in group:
+            for caller in callers:
+                reached[caller] = max(reached.get(caller, 0), line.number or 0)
+        return
+    if start:
+        replay.go_back(start)
+    for write in group:
+        replay_line(replay, *write, found, reached)
+
+
+def is_told(replay: Replay, write: Write) -> bool:
+    """Makes a write anew for the caller, or each of those, whose it may be. Whether it is answered as its line says."""
+    line, callers = write
+    return any(replay.is_answered(line, caller) for caller in callers)
 
 
 def replay_line(
-    replay: Replay, line: Line, caller: int, found: Found, reached: dict[int, int]
+    replay: Replay, line: Line, callers: list[int], found: Found, reached: dict[int, int]
 ) -> None:
     """Makes one write anew, and says where it goes otherwise than its line."""
-    assert line.number is not None
-    place = f"entry {line.place or '(not chained yet)'}, caller {caller}, number {line.number}, {line.path}"
+    whose = " or ".join(map(str, callers))
+    place = f"entry {line.place or '(not chained yet)'}, caller {whose}, number {line.number}, {line.path}"
+    if len(callers) > 1:
+        found.unsure.append(f"{place}: the keys of callers {whose} begin alike")
     if not line.is_whole:
         found.unsure.append(f"{place}: the line has not the whole body")
-    status, reply = replay.tried(line, caller)
     found.writes += 1
-    if line.is_done:
-        reached[caller] = max(reached.get(caller, 0), line.number)
-    if line.status >= lines.UNKNOWN_FROM:
+    if not line.is_done:
+        replay_unknown(replay, line, callers[0])
         found.unsure.append(
             f"{place}: its line says {line.status}, so the desk may have done it or not"
         )
-    elif (status, reply) != (line.status, line.reply):
+        return
+    for caller in callers:
+        reached[caller] = max(reached.get(caller, 0), line.number or 0)
+    if not is_told(replay, (line, callers)):
+        status, reply = replay.told
         found.otherwise.append(
             f"{place}: answered {line.status} {line.reply}, by the replay {status} {reply}"
         )
 
 
-def digits_in(path: Path) -> set[str]:
-    """The first digits of all callers' digests in a copy."""
-    with contextlib.closing(sqlite3.connect(path)) as file:
-        return {digits_of(bytes(it).hex()) for it, in file.execute("SELECT digest FROM callers")}
+def replay_unknown(replay: Replay, line: Line, caller: int) -> None:
+    """Makes a write anew of which nobody knows whether it was done. It is taken back where the later copy has no row of it."""
+    kept = replay.kept("unknown")
+    replay.is_answered(line, caller)
+    same, _ = replay.compared(kept, replay.kept("order"))
+    if replay.told[0] == lines.DONE and not same:
+        replay.go_back(kept)

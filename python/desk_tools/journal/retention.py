@@ -1,17 +1,19 @@
 """How long each kind of record is kept, and what is removed when its time is over."""
 
+import contextlib
 import logging
 from dataclasses import dataclass
 from datetime import date, timedelta
 from pathlib import Path
 
 from desk_tools.journal import chain, lines, taking
-from desk_tools.journal.lengths import DEFAULTS, days_of
+from desk_tools.journal.lengths import DEFAULTS, HOLD, days_of, hold_of
 from desk_tools.journal.places import Places, Wrong
 
 LOG = logging.getLogger("journal")
 # However wrong a clock is, one night removes no more days of the record than this.
 MOST_DAYS, MOST_BEHIND = 31, 2
+BY_AGENCY = "by agency.json"
 
 
 @dataclass(frozen=True)
@@ -29,15 +31,29 @@ def rules_of(agency: dict[str, object]) -> list[Rule]:
     if not isinstance(given, dict):
         raise Wrong("retention: not an object")
     for name in given:
-        if name not in DEFAULTS:
-            raise Wrong(f"retention.{name}: there is no such kind; there are {', '.join(DEFAULTS)}")
+        if name not in DEFAULTS and name != HOLD:
+            kinds = ", ".join([*DEFAULTS, HOLD])
+            raise Wrong(f"retention.{name}: there is no such kind; there are {kinds}")
     try:
         return [
-            Rule(kind, days_of(kind, given[kind]) if kind in given else days, why)
+            Rule(kind, days_of(kind, given[kind]), BY_AGENCY)
+            if kind in given
+            else Rule(kind, days, why)
             for kind, (days, why) in DEFAULTS.items()
         ]
     except ValueError as error:
         raise Wrong(f"retention: {error}") from None
+
+
+def hold_in(agency: dict[str, object]) -> str:
+    """Why nothing is to be removed now; empty where nothing stops it."""
+    given = agency.get("retention", {})
+    if not isinstance(given, dict) or HOLD not in given:
+        return ""
+    try:
+        return hold_of(given[HOLD])
+    except ValueError as error:
+        raise Wrong(f"retention.{HOLD}: {error}") from None
 
 
 def age(path: Path, today: date) -> int:
@@ -50,9 +66,9 @@ def last_day(places: Places) -> date:
     files = chain.files_in(places.record)
     found = date.min
     for entry in chain.entries_of(files[-1]) if files else []:
-        at = entry.fields.get("at")
-        if isinstance(at, str) and lines.MOMENT.fullmatch(at):
-            found = lines.moment_of(at).astimezone(places.zone).date()
+        with contextlib.suppress(ValueError):
+            moment = lines.moment_of(lines.text_of(entry.fields, "at"))
+            found = moment.astimezone(places.zone).date()
     return found
 
 
@@ -71,10 +87,14 @@ def old_files(places: Places, rule: Rule, today: date) -> list[chain.File]:
 
 def keep_journal(places: Places, rule: Rule, today: date, is_plan: bool) -> list[str]:
     """Removes the oldest files of the record. The note of it comes first, and so the record says why they are gone."""
-    behind = (today - last_day(places)).days
+    last_of_record = last_day(places)
+    if last_of_record == date.min:
+        # (a record that has not begun has nothing to remove, and no day to hold the clock against)
+        return []
+    behind = (today - last_of_record).days
     if behind > MOST_BEHIND or behind < 0:
         raise Wrong(
-            f"the clock says {today}, and the record's last entry is of {last_day(places)}: nothing is removed"
+            f"the clock says {today}, and the record's last entry is of {last_of_record}: nothing is removed"
         )
     old = old_files(places, rule, today)
     if not old or is_plan:
@@ -111,15 +131,21 @@ def keep_files(
 
 
 def keep(
-    places: Places, folders: dict[str, Path], rules: list[Rule], today: date, is_plan: bool
+    places: Places,
+    folders: dict[str, Path],
+    rules: list[Rule],
+    today: date,
+    is_plan: bool,
+    hold: str = "",
 ) -> list[str]:
-    """Keeps to the rules; returns a sentence for each kind."""
+    """Keeps to the rules; returns a sentence for each kind. Where there is a hold, nothing is removed."""
     patterns = {
         "tally": ["tally*.log-*"],
         "exports": ["*"],
         "backups": ["desk-*.db", "machine-*.tar.gz", "before-*.db"],
     }
-    said = []
+    said = [f"nothing is removed, for a hold: {hold}"] if hold else []
+    is_plan = is_plan or bool(hold)
     for rule in rules:
         if rule.kind == "journal":
             gone = keep_journal(places, rule, today, is_plan)
@@ -129,5 +155,6 @@ def keep(
             continue
         verb = "would be removed" if is_plan else "removed"
         named = f": {', '.join(gone)}" if gone else ""
-        said.append(f"{rule.kind}, kept {rule.days} days: {len(gone)} files {verb}{named}")
+        files = f"{len(gone)} file{'' if len(gone) == 1 else 's'}"
+        said.append(f"{rule.kind}, kept {rule.days} days ({rule.why}): {files} {verb}{named}")
     return said

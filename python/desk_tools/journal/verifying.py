@@ -21,6 +21,7 @@ class Seen:
     files: int = 0
     requests: int = 0
     unreadable: int = 0
+    torn: list[int] = field(default_factory=list)
     last: str = ""
     begins: str = ""
     removed: dict[int, str] = field(default_factory=dict)
@@ -63,6 +64,20 @@ def read_file(seen: Seen, file: chain.File, is_last: bool) -> None:
     seen.files += 1
 
 
+def close(places: Places, file: chain.File, key: Path) -> str:
+    """Signs and packs the file of a day that is over. A file that does not hold stays as it is, unsigned, and what is
+    wrong with it is returned; else the text is empty."""
+    if file.is_packed and (places.record / f"{file.name}.head.sig").exists():
+        return ""
+    try:
+        read_file(Seen(), file, False)
+    except chain.Broken as error:
+        return str(error)
+    signing.sign(places.record, signing.head_of(file), key)
+    chain.pack(file)
+    return ""
+
+
 def begin(seen: Seen, file: chain.File, entry: chain.Entry) -> None:
     """The first entry of a file says what it goes on from."""
     fields = entry.fields
@@ -84,6 +99,8 @@ def count(seen: Seen, entry: chain.Entry, note: str) -> None:
     fields = entry.fields if note else {}
     if note == "removed":
         seen.removed[int(fields.get("last_file", 0))] = str(fields.get("digest"))
+    elif note == "torn":
+        seen.torn.append(entry.place)
     elif not note:
         seen.requests += 1
         seen.unreadable += entry.line.startswith(b'{"unreadable":')
@@ -107,8 +124,10 @@ def marks_in(folder: Path) -> dict[int, str]:
 
 
 def check_heads(places: Places, files: list[chain.File], public: Path | None) -> str:
-    """Each closed file has the head that was signed. Returns a sentence on what has no signature."""
-    unsigned = 0
+    """Each closed file has the head that was signed. Returns words on signatures that nobody looked at.
+
+    A file without a signature is as bad as one with a false one: who can't sign would leave it out.
+    """
     for file in files:
         path = places.record / f"{file.name}.head"
         if not path.exists():
@@ -116,11 +135,13 @@ def check_heads(places: Places, files: list[chain.File], public: Path | None) ->
         text, signature = path.read_bytes(), path.with_name(f"{path.name}.sig")
         if text != signing.head_of(file).text().encode():
             raise chain.Broken(f"{file.name} has a head of other entries")
-        if not signature.exists() or public is None:
-            unsigned += 1
-        elif not signing.is_signed(text, signature, public):
+        if public is None:
+            continue
+        if not signature.exists():
+            raise chain.Broken(f"{file.name} is closed and has no signature")
+        if not signing.is_signed(text, signature, public):
             raise chain.Broken(f"{file.name} has a signature that is not by {public.name}")
-    return f"; {unsigned} closed files have no signature that was looked at" if unsigned else ""
+    return "; no signature was checked, for lack of the public key" if files and not public else ""
 
 
 def check_begin(seen: Seen, files: list[chain.File]) -> str:
@@ -140,6 +161,9 @@ def verify(
 ) -> tuple[int, str]:
     """A status and one sentence."""
     seen = Seen()
+    if elsewhere and not (elsewhere.is_dir() and marks_in(elsewhere)):
+        what = "has no head of the record" if elsewhere.is_dir() else "is no folder here"
+        return BROKEN, f"nothing was compared: {elsewhere} {what}"
     try:
         marks = [marks_in(it) for it in (places.folder / "heads", elsewhere) if it and it.is_dir()]
         for found in marks:
@@ -162,7 +186,9 @@ def verify(
     except chain.Broken as broken:
         return BROKEN, f"the record does NOT hold: {broken}"
     unreadable = f"; {seen.unreadable} lines could not be read" if seen.unreadable else ""
-    told = f"{seen.requests} requests in {seen.files} files, up to entry {seen.place}, {seen.day}{unreadable}{notes}"
+    places_torn = ", ".join(map(str, seen.torn))
+    torn = f"; half a line was found at entry {places_torn}, and is kept there" if seen.torn else ""
+    told = f"{seen.requests} requests in {seen.files} files, up to entry {seen.place}, {seen.day}{unreadable}{torn}{notes}"
     far = max([*seen.marks, 0])
     if far > seen.place:
         return ENDS_EARLY, f"the record ends too early: {told}; a head names entry {far}"

@@ -13,6 +13,7 @@ import os
 import sys
 from pathlib import Path
 
+from desk_tools import ending
 from desk_tools.why.facts import NoFacts, facts_of
 from desk_tools.why.log import Log, NoLog, read
 from desk_tools.why.reasons import refusals
@@ -102,7 +103,10 @@ def main(arguments: list[str]) -> int:
     """Runs the command; its exit status is 0 where the sentences were written, 1 where they could not be."""
     words = words_of(arguments)
     try:
-        log, facts = read(text_in(words.log)), facts_of(words.copy, words.day, words.agency)
+        log = read(text_in(words.log))
+        # (where there is no way at all, a log names no vehicle)
+        copy = None if log.has_no_way else words.copy
+        facts = facts_of(copy, words.day, words.agency, log.vehicles().keys())
         if words.html:
             words.html.write_text(page(log, facts, words.language), "utf-8")
         else:
@@ -120,4 +124,4 @@ def main(arguments: list[str]) -> int:
 
 
 if __name__ == "__main__":
-    sys.exit(main(sys.argv[1:]))
+    ending.run("bin/why", main)

@@ -28,6 +28,14 @@ class Case:
     bounds: dict[int, int] = field(default_factory=dict)
     end: str = ""
     visit: int = 0
+    # When the vehicle leaves at the earliest, so that its day is not too long, and which visits were raised after that.
+    leaves: int = 0
+    since: set[int] = field(default_factory=set)
+
+    @property
+    def is_too_long(self) -> bool:
+        """Whether the visit that comes too late was raised after the line that puts off the beginning of the day."""
+        return self.end == "W" and self.leaves > 0 and self.visit in self.since
 
 
 @dataclass(frozen=True)
@@ -58,7 +66,7 @@ def read(text: str) -> Log:
     del lines[-1]
     if lines[0] != FIRST or lines[-1] != LAST:
         raise NoLog(
-            f"the text is no log of a refusal: it begins with {FIRST!r} and ends with {LAST!r}"
+            f"the text is no log of a refusal: such a log begins with {FIRST!r} and ends with {LAST!r}"
         )
     if lines[1:-1] == [NO_WAY]:
         return Log([], True, lines)
@@ -85,6 +93,9 @@ def _takes(case: Case, line: str) -> bool:
     if raised := RAISE.fullmatch(line):
         visit, minute = map(int, raised.groups())
         case.bounds[visit] = max(minute, case.bounds.get(visit, 0))
+        if line.startswith("T"):
+            case.leaves, case.since = max(case.leaves, minute), {0}
+        case.since.add(visit)
         return True
     if ended := END.fullmatch(line):
         case.end, case.visit = ended[1] or ended[3], int(ended[2] or 0)

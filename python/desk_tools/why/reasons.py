@@ -6,8 +6,9 @@ from dataclasses import dataclass
 from desk_tools.why.log import Case, Log, stops_of
 
 # What may be in the way, in the order in which it is told where two are as frequent.
-HOURS, PICKUP, DROP, OTHERS, LOAD, NO_ROAD, LENGTH = (
+HOURS, DAY, PICKUP, DROP, OTHERS, LOAD, NO_ROAD, LENGTH = (
     "hours",
+    "day",
     "pickup",
     "drop",
     "others",
@@ -15,19 +16,21 @@ HOURS, PICKUP, DROP, OTHERS, LOAD, NO_ROAD, LENGTH = (
     "no-road",
     "length",
 )
-KINDS = (PICKUP, DROP, OTHERS, HOURS, LOAD, NO_ROAD, LENGTH)
+KINDS = (PICKUP, DROP, OTHERS, DAY, HOURS, LOAD, NO_ROAD, LENGTH)
 
 
 @dataclass(frozen=True)
 class Reason:
     """One thing that was in the way of a vehicle: in how many of its places, and the earliest minute that a raise line
     of these cases gives for the visit that comes too late, with the row of that case; None where no minute is in the way.
+    `leaves` is when the vehicle would leave in that case, so that its day is not too long.
     """
 
     kind: str
     places: int
     minute: int | None
     row: int
+    leaves: int | None = None
 
 
 @dataclass(frozen=True)
@@ -45,6 +48,8 @@ def kind_of(case: Case, stops: int) -> str:
         return {"L": LOAD, "M": NO_ROAD, "S": LENGTH}[case.end]
     if case.visit >= stops + 3:
         return HOURS
+    if case.is_too_long:
+        return DAY
     if case.visit == case.pickup + 1:
         return PICKUP
     return DROP if case.visit == case.drop + 2 else OTHERS
@@ -69,4 +74,5 @@ def reason_of(kind: str, cases: list[Case]) -> Reason:
     """One reason out of the cases that it ends."""
     timed = [case for case in cases if case.end == "W"]
     best = min(timed or cases, key=lambda case: case.bounds.get(case.visit, 0))
-    return Reason(kind, len(cases), best.bounds.get(best.visit, 0) if timed else None, best.row)
+    minute = best.bounds.get(best.visit, 0) if timed else None
+    return Reason(kind, len(cases), minute, best.row, best.leaves if kind == DAY else None)

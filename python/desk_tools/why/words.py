@@ -3,7 +3,7 @@
 from collections.abc import Mapping
 from dataclasses import dataclass
 
-from desk_tools.why.reasons import Reason, Refusal
+from desk_tools.why.reasons import HOURS, Reason, Refusal
 
 LANGUAGES = ("en", "es")
 
@@ -22,19 +22,19 @@ TEXTS: dict[str, dict[str, str]] = {
     "en": {
         "title": "Why there was no vehicle for this trip",
         "no-way": "The driving times have no way at all between the two places.",
-        "none": "No vehicle was on duty on that day.",
+        "none": "The log has no vehicle. Either none was on duty on that day, or the log leaves some out: `desk audit` decides.",
         "vehicle": "Van {number}",
         "named": "{name} (van {number})",
-        "back-by": " It has to be back by {closes}.",
-        "one": "{who}: 1 way to put the trip into its day was tried. {because}",
-        "many": "{who}: {places} ways to put the trip into its day were tried. {because}",
-        "in": "In {places} of them {what}.",
-        "alone": "In that one {what}.",
-        "all": "In all of them {what}.",
+        "alone": "{who} cannot take the trip: {what}.",
+        "several": "{who} cannot take the trip in any of the {places} ways to put it into its day: {parts}.",
+        "part": "in {count}, {what}",
         "pickup": "it would reach the pickup at {minute} at the earliest, after the hour in which the rider can be picked up",
         "drop": "it would reach the drop-off at {minute} at the earliest, after the minute by which the rider has to be there",
         "others": "it would reach another rider's stop at {minute} at the earliest, after the time promised to that rider",
         "hours": "it would be back at {minute} at the earliest, after its day has ended",
+        "hours-until": "it would be back at {minute} at the earliest, and has to be back by {closes}",
+        "day": "so that its day is not too long it would leave at {leaves} at the earliest, and so reach a stop at {minute}, "
+        "after the time promised there",
         "load": "it would have too few seats or wheelchair places at some stop",
         "no-road": "the driving times have no way on from some stop",
         "length": "its day would have too many stops",
@@ -48,19 +48,19 @@ TEXTS: dict[str, dict[str, str]] = {
     "es": {
         "title": "Por qué no hubo vehículo para este viaje",
         "no-way": "En la tabla de recorridos no hay ningún camino entre los dos lugares.",
-        "none": "Ningún vehículo estaba en servicio ese día.",
+        "none": "El registro no tiene ningún vehículo. O ninguno estaba en servicio ese día, o al registro le faltan vehículos: `desk audit` lo decide.",
         "vehicle": "La van {number}",
         "named": "{name} (van {number})",
-        "back-by": " Tiene que regresar a más tardar a las {closes}.",
-        "one": "{who}: se probó 1 manera de poner el viaje en su día. {because}",
-        "many": "{who}: se probaron {places} maneras de poner el viaje en su día. {because}",
-        "in": "En {places} de ellas {what}.",
-        "alone": "En esa {what}.",
-        "all": "En todas {what}.",
+        "alone": "{who} no puede hacer el viaje: {what}.",
+        "several": "{who} no puede hacer el viaje en ninguna de las {places} maneras de ponerlo en su día: {parts}.",
+        "part": "en {count}, {what}",
         "pickup": "llegaría a recoger al pasajero a las {minute} como muy temprano, después de la hora en que se le puede recoger",
         "drop": "llegaría al destino a las {minute} como muy temprano, después del minuto en que el pasajero tiene que estar allí",
         "others": "llegaría a la parada de otro pasajero a las {minute} como muy temprano, después de la hora prometida a ese pasajero",
         "hours": "regresaría a las {minute} como muy temprano, cuando su día ya terminó",
+        "hours-until": "regresaría a las {minute} como muy temprano, y tiene que regresar a más tardar a las {closes}",
+        "day": "para que su día no sea demasiado largo saldría a las {leaves} como muy temprano, y llegaría a una parada a las {minute}, "
+        "después de la hora prometida ahí",
         "load": "le faltarían asientos o espacios para silla de ruedas en alguna parada",
         "no-road": "la tabla de recorridos no tiene camino desde alguna parada",
         "length": "su día tendría demasiadas paradas",
@@ -83,21 +83,21 @@ def clock(minute: int, language: str) -> str:
 
 
 def sentences(refusal: Refusal, facts: Facts, language: str) -> str:
-    """What kept a vehicle from taking the trip."""
+    """What kept a vehicle from taking the trip, as one sentence: what was in the way most often comes first."""
     texts = TEXTS[language]
     name = facts.names.get(refusal.vehicle)
     who = texts["named" if name else "vehicle"].format(name=name, number=refusal.vehicle)
-    because = " ".join(_because(it, refusal.places, texts, language) for it in refusal.reasons)
     closes = facts.closes.get(refusal.vehicle)
-    if closes is not None and any(it.kind == "hours" for it in refusal.reasons):
-        because += texts["back-by"].format(closes=clock(closes, language))
-    return texts["one" if refusal.places == 1 else "many"].format(
-        who=who, places=refusal.places, because=because
-    )
+    whats = [(it.places, _what(it, closes, texts, language)) for it in refusal.reasons]
+    if len(whats) == 1:
+        return texts["alone"].format(who=who, what=whats[0][1])
+    parts = "; ".join(texts["part"].format(count=count, what=what) for count, what in whats)
+    return texts["several"].format(who=who, places=refusal.places, parts=parts)
 
 
-def _because(reason: Reason, places: int, texts: Mapping[str, str], language: str) -> str:
+def _what(reason: Reason, closes: int | None, texts: Mapping[str, str], language: str) -> str:
     minute = "" if reason.minute is None else clock(reason.minute, language)
-    what = texts[reason.kind].format(minute=minute)
-    frame = "alone" if places == 1 else "all" if reason.places == places else "in"
-    return texts[frame].format(places=reason.places, what=what)
+    if reason.kind == HOURS and closes is not None:
+        return texts["hours-until"].format(minute=minute, closes=clock(closes, language))
+    leaves = "" if reason.leaves is None else clock(reason.leaves, language)
+    return texts[reason.kind].format(minute=minute, leaves=leaves)

@@ -1,0 +1,103 @@
+"""Gives a letter in the form in which a rider asks for it: text, large print, audio, or braille (49 CFR 37.125(b)).
+
+  bin/letters audio letter.wav --text letter-1-of-1009.txt --language es
+  bin/letters braille letter.brf --url http://127.0.0.1:8437 --key FILE --agency agency.json --rider 1009 --entry 1
+
+The text is one that a page saved ("Text for e-mail"), or the letter is read from the desk: with --entry that one, else
+the last. `text` is for an e-mail, `large` a page of 18 points to print, `audio` a WAV file, `braille` a BRF file of 25
+lines of 40 cells. The exit status is 0 where the file is written, 1 where it can't be, and 2 for wrong words.
+"""
+
+import argparse
+import os
+import sys
+from pathlib import Path
+
+from desk_tools import ending
+from desk_tools.letters import asking, forms
+from desk_tools.letters.forms import NoForm
+
+FORMS = ("text", "large", "audio", "braille")
+LARGEST = 200_000
+
+
+def words_of(arguments: list[str]) -> argparse.Namespace:
+    """The command's words."""
+    parser = argparse.ArgumentParser(
+        "bin/letters", description=__doc__, formatter_class=argparse.RawDescriptionHelpFormatter
+    )
+    parser.add_argument("form", choices=FORMS, help="the form of the letter")
+    parser.add_argument("output", type=Path, metavar="FILE", help="the file to write")
+    parser.add_argument("--text", type=Path, metavar="FILE", help="a letter that a page saved")
+    parser.add_argument("--language", choices=forms.LANGUAGES, help="the roster's, or English")
+    parser.add_argument("--url", help="the desk's address, such as http://127.0.0.1:8437")
+    parser.add_argument("--key", type=Path, metavar="FILE", help="a clerk's or examiner's key")
+    parser.add_argument("--rider", type=int, metavar="NUMBER", help="whose letter it is")
+    parser.add_argument("--entry", type=int, metavar="NUMBER", help="which letter, by its entry")
+    parser.add_argument("--agency", type=Path, metavar="FILE", help="agency.json, for letters read")
+    parser.add_argument("--roster", type=Path, metavar="FILE", help="the roster, for names")
+    words = parser.parse_args(arguments)
+    of_desk = [words.url, words.key, words.rider, words.agency]
+    if words.text is None and None in of_desk:
+        parser.error("give --text, or all of --url, --key, --rider and --agency")
+    if words.text is not None and any(it is not None for it in of_desk):
+        parser.error("give --text, or the letter of a desk, and not both")
+    return words
+
+
+def text_in(path: Path) -> str:
+    """The text of a file."""
+    with open(path, "rb") as file:
+        content = file.read(LARGEST + 1)
+    if len(content) > LARGEST:
+        raise NoForm(f"{path} has more than {LARGEST:,} bytes: it is no letter")
+    try:
+        return content.decode("utf-8-sig").replace("\r\n", "\n")
+    except UnicodeDecodeError as error:
+        raise NoForm(f"{path} is no text in UTF-8: byte {error.start + 1} is none") from None
+
+
+def content_of(words: argparse.Namespace) -> bytes:
+    """The bytes of the file."""
+    if words.text:
+        text, language = text_in(words.text), words.language or "en"
+    else:
+        key = words.key.read_text("ascii").strip()
+        asked = asking.Asked(
+            words.url, key, words.rider, words.entry, words.agency, words.roster, words.language
+        )
+        text, language = asking.text_of(asked)
+    if words.form == "text":
+        return text.encode()
+    paragraphs = forms.paragraphs_in(text, language)
+    if words.form == "audio":
+        return forms.audio(paragraphs, language)
+    made = forms.braille if words.form == "braille" else forms.large
+    return made(paragraphs, language).encode()
+
+
+def written(path: Path, content: bytes) -> None:
+    """Writes a file whole; whoever may not read the letter reads nothing of it."""
+    new = path.with_name(f".{path.name}.new")
+    with open(os.open(new, os.O_WRONLY | os.O_CREAT | os.O_TRUNC, 0o600), "wb") as file:
+        file.write(content)
+    os.replace(new, path)
+
+
+def main(arguments: list[str]) -> int:
+    """Runs the command."""
+    words = words_of(arguments)
+    try:
+        written(words.output, content_of(words))
+        return 0
+    except NoForm as error:
+        print(f"bin/letters: {error}", file=sys.stderr)
+    except UnicodeDecodeError:
+        print(f"bin/letters: {words.key} is no key", file=sys.stderr)
+    except OSError as error:
+        print(f"bin/letters: {error.filename or words.output}: {error.strerror}", file=sys.stderr)
+    return 1
+
+
+if __name__ == "__main__":
+    ending.run("bin/letters", main)
