@@ -4,9 +4,13 @@ const crypto = require('crypto');
 
 // How many digits of a key's digest name its caller, and how many bytes stay of a body that was refused or a path.
 const DIGITS = 12, MOST_REFUSED = 2048, MOST_PATH = 512, MOST_REPLY = 2048;
+const AWAY = /^\/away\.(html|json)$/;
+const BEYOND = /[^\x20-\x7e]/;
 const BLANKS = [0x20, 0x09];
 // A key as the pages make them: 26 signs of base32.
-const KEY_SHAPE = /(?<![0-9a-z])[0-9a-hjkmnp-tv-z]{26}(?![0-9a-z])/gi;
+const KEY_SHAPE = /(?<![0-9a-z])[0-9a-hjkmnp-tv-z]{26}(?![0-9a-z])/gi, SHAPED = /[0-9a-hjkmnp-tv-z]{26}/i;
+const KEY_IN_PATH = /([?&]id=|%[0-9a-f]{2}|[^0-9a-z%])[0-9a-hjkmnp-tv-z]{26}(?![0-9a-z])/gi;
+const SIGNS = 26, LEAST = 8;
 // What the desk reads of a caller's record, and the name that the pages send beside it.
 const OF_CALLER = ['id', 'role', 'subject', 'digest', 'name'];
 
@@ -22,11 +26,16 @@ function keyOf(r) {
 
 const digestOf = (key) => crypto.createHash('sha256').update(key).digest('hex');
 
-// The text without anything that could be a key.
+// The text without anything that could be a key. (Most texts have nothing of it, and looking costs less than replacing.)
 function without(key, text) {
-    let told = text.replace(KEY_SHAPE, '(key)');
-    // (a shorter key than that is a word of many texts)
-    return key && key.length > 7 ? told.split(key.toString()).join('(key)') : told;
+    return withoutOwn(key, text.length >= SIGNS && SHAPED.test(text) ? text.replace(KEY_SHAPE, '(key)') : text);
+}
+
+// The text without the request's own key. A shorter key than that is a word of many texts.
+function withoutOwn(key, text) {
+    if (!key || key.length < LEAST) return text;
+    const own = key.toString();
+    return text.indexOf(own) < 0 ? text : text.split(own).join('(key)');
 }
 
 // A caller's record as the desk reads it. A digest that is none could be a key, and is left out.
@@ -54,22 +63,26 @@ function addBody(line, r, key) {
     }
     const text = kept.toString();
     if (Buffer.from(text).equals(kept)) line.body = without(key, text);
-    else if (!key || key.length < 8 || sent.indexOf(key) < 0) line.body64 = kept.toString('base64');
+    else if (!key || key.length < LEAST || sent.indexOf(key) < 0) line.body64 = kept.toString('base64');
     if (line.body64 === undefined && line.body !== text) line.hidden = true;
     if (kept.length < sent.length) line.bytes = sent.length;
+}
+
+// The path without keys, also behind a sign in percent. The number of a report has a key's shape, and stays.
+function withoutKeys(key, path) {
+    return withoutOwn(key, path.length < SIGNS || !SHAPED.test(path) ? path
+        : path.replace(KEY_IN_PATH, (found, before) => before.slice(-3) === 'id=' ? found : `${before}(key)`));
 }
 
 function pathOf(r, key) {
     const sent = r.variables.request_uri || '', at = sent.indexOf('?');
     const isWhole = r.uri.startsWith('/tally/') || r.uri.startsWith('/record/');
-    const path = isWhole || at < 0 ? sent : sent.slice(0, at);
-    if (isWhole) return (key && key.length > 7 ? path.split(key.toString()).join('(key)') : path).slice(0, MOST_PATH);
-    return without(key, path).slice(0, MOST_PATH);
+    return withoutKeys(key, isWhole || at < 0 ? sent : sent.slice(0, at)).slice(0, MOST_PATH);
 }
 
 // Every sign beside those of ASCII as JSON writes it, so that each tool reads the line as one.
 function ascii(text) {
-    return text.replace(/[^\x20-\x7e]/g, (sign) => {
+    return !BEYOND.test(text) ? text : text.replace(/[^\x20-\x7e]/g, (sign) => {
         const code = sign.codePointAt(0), unit = (it) => '\\u' + ('0000' + it.toString(16)).slice(-4);
         return code < 0x10000 ? unit(code) : unit(0xd800 + ((code - 0x10000) >> 10)) + unit(0xdc00 + ((code - 0x10000) & 0x3ff));
     });
@@ -92,8 +105,8 @@ function lineOf(r) {
     if (number !== undefined) told.number = /^[0-9]{1,10}$/.test(number) ? number : '?';
     told.method = /^[A-Z]{1,10}$/.test(r.method) ? r.method : '?';
     told.path = pathOf(r, key);
-    // As nginx reads it, which finds the agency's files by it.
-    if (r.uri !== told.path.split('?')[0]) told.read = without(key, r.uri).slice(0, MOST_PATH);
+    // As nginx reads it, which finds the agency's files by it. (Where the desk is away, it reads another page.)
+    if (r.uri !== told.path.split('?')[0] && !AWAY.test(r.uri)) told.read = without(key, r.uri).slice(0, MOST_PATH);
     told.status = Number(v.status);
     told.took = Number(v.request_time);
     if (r.method === 'POST' && told.status !== 401 && told.status !== 429) {
@@ -109,4 +122,10 @@ function reply(r, data, flags) {
     r.sendBuffer(data, flags);
 }
 
-export default { line, reply };
+// The digits of the key, for a line that nginx writes. A key of figures alone could be a number in a path, so its lines are made here.
+function digits(r) {
+    const key = keyOf(r);
+    return !key || /^[0-9-]*$/.test(key.toString()) ? '' : digestOf(key).slice(0, DIGITS);
+}
+
+export default { line, reply, digits };

@@ -41,7 +41,7 @@ def cause_of_disk(desk):
     if os.statvfs(desk.folder).f_flag & os.ST_RDONLY:
         return (f"the file system of {desk.folder} is read only: look into `dmesg` for errors of the disk, make a "
                 f"copy of both files, and only "
-                f"then mount it anew for writing")
+                f"then mount it again for writing")
     return None
 
 

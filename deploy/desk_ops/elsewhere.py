@@ -54,7 +54,7 @@ class Settings:
         said = subprocess.run([*shell, place.machine, command], stdin=source or subprocess.DEVNULL, capture_output=True,
                               check=False)
         if said.returncode:
-            why = (said.stderr or said.stdout).decode(errors="replace").strip()
+            why = " ".join((said.stderr or said.stdout).decode(errors="replace").split())
             raise Failure(f"{place.machine}: {why or f'ended with status {said.returncode}'}")
         return said.stdout.decode(errors="replace").strip()
 

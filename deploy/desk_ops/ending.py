@@ -4,6 +4,10 @@ import sqlite3
 import subprocess
 import sys
 
+from . import typed  # noqa: F401  (it leads to the package `desk_tools`)
+
+from desk_tools import ending
+
 WRONG_WORDS, FAILED = 2, 1
 
 
@@ -48,7 +52,12 @@ def run_script(name, task, words):
     """Runs `task(words)`. What it raises is told as one sentence; the exit status."""
     end_by_signals()
     try:
-        return task(words) or 0
+        return ending.flushed(f"deploy/{name}", task(words) or 0)
+    except BrokenPipeError:
+        ending.leave_out_rest()
+        return FAILED
+    except SystemExit as ended:
+        return ending.flushed(f"deploy/{name}", ended.code if isinstance(ended.code, int) else FAILED)
     except Failure as failure:
         status = failure.status
         told = str(failure)

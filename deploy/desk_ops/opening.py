@@ -63,15 +63,24 @@ class Opening:
         copies = self.copies()
         if not copies:
             raise Failure(f"{self.folder}/copies has no copy")
-        if standby.is_opened(self.folder):
-            raise Failure(f"this machine has opened the desk already: {self.folder}/{standby.OPENED} says when. To put a "
-                          "copy in place of what it has written since, run deploy/restore")
+        if standby.is_opened(self.folder) and not self.was_cut_off():
+            raise Failure(f"this machine has opened the desk already: {self.folder}/{standby.OPENED} says when. If it does "
+                          f"not run, say systemctl start {self.desk.unit}. To put a copy in place of what it has written "
+                          "since, run deploy/restore")
         if not self.first and not self.first_is_off:
             raise Failure("name the first machine by --first, or say --first-is-off once its power or its network is "
                           "gone", WRONG_WORDS)
         program_to_start()
         check_zone(self.desk)
         check_room(self.desk.folder, COPIES * size_of(f"{self.folder}/copies/{copies[0]}"), "opening the newest copy")
+
+    def was_cut_off(self):
+        """Whether an opening was killed before the copy was in its place: then nothing was served here, and this goes on."""
+        try:
+            with open(f"{self.folder}/{standby.OPENED}", encoding="utf-8") as file:
+                return json.load(file).get("placed") is False
+        except (OSError, ValueError, AttributeError):
+            return False
 
     def copies(self):
         return copies_in(os.listdir(f"{self.folder}/copies"))
@@ -161,22 +170,25 @@ class Opening:
 
     def restored(self, copy):
         """From the mark on the first machine is told so, whenever it asks. An old file of this machine never serves."""
-        self.mark_opened()
+        self.mark_opened(False)
         with contextlib.suppress(FileNotFoundError):
             with open(self.desk.fence, encoding="utf-8") as file:
                 self.fence_before = file.read()
             os.remove(self.desk.fence)
-        return Restore(self.desk, copy, migrate=True, another=True, starts_old=False).make()
+        return Restore(self.desk, copy, migrate=True, another=True, starts_old=False,
+                       is_placed=lambda: self.mark_opened(True)).make()
 
-    def mark_opened(self):
+    def mark_opened(self, is_placed):
         path = f"{self.folder}/{standby.OPENED}"
-        said = {"at": f"{datetime.datetime.utcnow():%Y-%m-%dT%H:%M:%SZ}", "how": self.told[0], "fence": self.desk.fence}
-        with open(path, "w", encoding="utf-8") as file:
+        said = {"at": f"{datetime.datetime.utcnow():%Y-%m-%dT%H:%M:%SZ}", "how": self.told[0], "fence": self.desk.fence,
+                "placed": is_placed}
+        with open(f"{path}.new", "w", encoding="utf-8") as file:
             json.dump(said, file)
         # (the user who takes the copies reads it)
-        os.chmod(path, 0o644)
+        os.chmod(f"{path}.new", 0o644)
+        synced(f"{path}.new")
+        os.rename(f"{path}.new", path)
         self.is_marked = True
-        synced(path)
         synced(self.folder)
 
     def enabled(self):

@@ -8,6 +8,10 @@ from .ending import WRONG_WORDS, Failure
 
 PROGRAM = "/usr/local/bin/desk"
 SETTINGS = "/etc/desk"
+# What runs beside a desk that serves: for its agency, and for all desks of the machine. The night's work is another matter.
+BESIDE = "desk-today.service", "desk-record.service", "desk-journal.timer", "desk-retention.timer", \
+    "desk-driver-files.timer", "desk-closed-days.timer", "desk-denials.timer"
+OF_MACHINE = "desk-health.service", "desk-watch.timer", "desk-restart.timer"
 AGENCY_NAME = re.compile(r"[a-z0-9]+(-[a-z0-9]+)*")
 
 
@@ -46,9 +50,10 @@ class Desk:
         """The desk, and what runs beside it by desk-setup's answers, begin at each start of the machine."""
         nightly = ["backup"] if self.agency else nightly_in(f"{os.environ.get('SETTINGS') or SETTINGS}/setup.json")
         end = f"@{self.agency}" if self.agency else ""
-        timers = " ".join(f"desk-{it}{end}.timer" for it in nightly)
-        command = (f"systemctl enable {self.unit} && "
-                   f"systemctl enable --now {timers} desk-watch.timer desk-restart.timer")
+        units = [*(f"desk-{it}{end}.timer" for it in nightly), *(it.replace(".", f"{end}.") for it in BESIDE), *OF_MACHINE]
+        # (a unit that is not installed here is none of this machine's)
+        command = (f"systemctl enable {self.unit} && for it in {' '.join(units)}; do "
+                   "! systemctl cat $it >/dev/null 2>&1 || systemctl enable --now $it || exit 1; done")
         answer_of(os.environ.get("ENABLE") or command)
 
     def is_served(self):

@@ -69,11 +69,12 @@ class Restore:
     """Puts the backup `copy` in the place of the database of a desk.
 
     `starts_old` is whether the old file is served again where this fails: not where another machine has served since.
+    `is_placed` is called once the backup is in its place, and before the desk starts.
     """
 
-    def __init__(self, desk, copy, migrate=False, another=False, starts_old=True):
+    def __init__(self, desk, copy, migrate=False, another=False, starts_old=True, is_placed=lambda: None):
         self.desk, self.copy = desk, os.path.abspath(copy)
-        self.migrate, self.another, self.starts_old = migrate, another, starts_old
+        self.migrate, self.another, self.starts_old, self.is_placed = migrate, another, starts_old, is_placed
         self.kept = None
         self.moved = []
         self.placed = self.stopped = False
@@ -106,6 +107,7 @@ class Restore:
             self.check_agency()
             self.put_aside()
             self.put_in_place(file)
+            self.is_placed()
             self.desk.start()
         except BaseException:
             self.put_back()

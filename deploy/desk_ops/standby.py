@@ -82,7 +82,7 @@ class Settings:
         said = subprocess.run([*self.shell(), machine, command], stdin=subprocess.DEVNULL, capture_output=True,
                               text=True)
         if said.returncode:
-            why = said.stderr.strip() or said.stdout.strip() or f"ended with status {said.returncode}"
+            why = " ".join((said.stderr.strip() or said.stdout).split()) or f"ended with status {said.returncode}"
             raise NotTold(f"{machine}: {why}", not why.startswith(NOT_REACHED))
         return said.stdout.strip()
 
@@ -212,7 +212,7 @@ def fence_for_change(desk, settings):
 
     Where the last copy could not be sent, `why` says so, and `content` tells what the file has at rest.
     """
-    with alone(desk.folder, TURN, "a copy is on its way: say the same again in a minute"):
+    with alone(desk.folder, TURN, "a copy is on its way: give the same command again in a minute"):
         fence(desk, f"{CHANGE} to another machine")
         answer = {"at": f"{datetime.datetime.utcnow():%Y-%m-%dT%H:%M:%SZ}", "sent": None, "why": None, "content": None}
         with contextlib.suppress(Failure, OSError):

@@ -27,16 +27,23 @@ NO_ROOM, DAYS_OF_COPIES = 16 << 20, 90
 # Where the service of /health and /metrics reads what root saw. It names no person.
 PUBLISHED = "/run/desk-watch.json"
 STORE_FAILED = 503
+WEB, HEAD = ("https://", "http://"), {"Content-Type": "text/plain; charset=utf-8", "User-Agent": "desk-watch"}
 
 
 def value_of(path, name, default=None):
-    """The value of NAME=VALUE in a file of settings."""
+    """The value of NAME=VALUE in a file of settings. One that is there and cannot be read is no empty one."""
     try:
         with open(path, encoding="utf-8") as file:
             found = re.findall(rf"(?m)^{name}=(.*)$", file.read())
-    except OSError:
+    except FileNotFoundError:
         return default
     return found[-1].strip() if found else default
+
+
+def told_of(settings):
+    """The path of watch.conf. It is root's alone, so systemd hands a copy to the watch's own user (LoadCredential)."""
+    handed = f"{os.environ.get('CREDENTIALS_DIRECTORY') or '/nonexistent'}/watch.conf"
+    return handed if os.path.exists(handed) else f"{settings}/watch.conf"
 
 
 class Watched:
@@ -50,7 +57,7 @@ class Watched:
         own = f"{settings}/{agency}.conf"
         self.port = value_of(own, "PORT", PORT) if agency else PORT
         self.fence = f"{settings}/{agency}.fenced" if agency else f"{settings}/fenced"
-        self.name = value_of(own, "NAME") if agency else value_of(f"{settings}/watch.conf", "NAME")
+        self.name = value_of(own, "NAME") if agency else value_of(told_of(settings), "NAME")
         self.url = os.environ.get("URL") or f"http://127.0.0.1:{self.port}"
         self.standby = f"desk-standby@{agency}.service" if agency else "desk-standby.service"
 
@@ -135,7 +142,7 @@ def troubles_of_answer(desk, patience, wanted):
     status = answer_of(desk, patience)
     if status == STORE_FAILED:
         wanted.append(desk.unit)
-        yield "store", "answers 503, and is started anew"
+        yield "store", "answers 503, and is restarted"
     elif status is None:
         yield "down", f"does not answer on {desk.url}: see journalctl -u {desk.unit}"
 
@@ -161,7 +168,7 @@ def troubles_of_restarts(unit, seen, state, now, wanted, free=None):
         return
     begun = count - counts[0][1] if counts else 0
     if begun >= MOST_RESTARTS:
-        yield "loop", f"was started anew {begun} times within the hour: see journalctl -u {unit}"
+        yield "loop", f"was restarted {begun} times within the hour: see journalctl -u {unit}"
     else:
         loop["step"], loop["next"] = MINUTE, 0
 
@@ -266,9 +273,9 @@ def troubles_of_standby(unit, seen, state, now):
 
 
 def troubles(told, state, settings, patience):
-    """(unit, what, sentence) of each trouble, and the units that are to be started anew."""
+    """(unit, what, sentence) of each trouble, and the units that are to be restarted."""
     now, wanted, found = told["moment"], [], []
-    site = value_of(f"{settings}/watch.conf", "SITE", "127.0.0.1:443")
+    site = value_of(told_of(settings), "SITE", "127.0.0.1:443")
     for desk in watched(settings):
         if os.path.exists(desk.fence):
             continue
@@ -292,9 +299,13 @@ def troubles(told, state, settings, patience):
 
 def send(settings, lines):
     """By mail and by the command that watch.conf names, which gets the lines as its input."""
-    path, text = f"{settings}/watch.conf", "".join(f"{it}\n" for it in lines)
+    path, text = told_of(settings), "".join(f"{it}\n" for it in lines)
     command, address = value_of(path, "HOOK"), value_of(path, "MAIL")
-    if command:
+    if command and command.startswith(WEB):
+        # (by itself: on a command line each user of the machine would read what the address has for a secret)
+        with urllib.request.urlopen(urllib.request.Request(command, text.encode(), HEAD), timeout=MINUTE // 2):
+            pass
+    elif command:
         subprocess.run(["sh", "-c", command], input=text, text=True, check=True, timeout=MINUTE)
     if address:
         server = value_of(path, "SMTP", "localhost:25")
@@ -322,7 +333,7 @@ def publish(told, found, path=None):
     os.chmod(path, 0o644)
 
 
-def start_anew(units, settings):
+def restart(units, settings):
     """As root: each has to be a desk of this machine. RESTART may be another command, which gets the unit's name."""
     known = {it.unit for it in watched(settings)}
     for unit in units:

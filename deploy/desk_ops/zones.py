@@ -1,9 +1,11 @@
 """Whether the zone of the unit that serves is that of the agency's files: by another one its days begin at another hour."""
 import contextlib
+import datetime
 import json
 import os
 import re
 import subprocess
+import zoneinfo
 
 from . import typed  # noqa: F401  (it leads to the package `desk_tools`)
 from .ending import Failure
@@ -41,16 +43,29 @@ def rule_of_unit(unit):
     return found[-1] if found else ""
 
 
+def files_of(desk):
+    """The files that name the zone of a desk's agency."""
+    settings = os.environ.get("SETTINGS") or SETTINGS
+    return [f"{settings}/{desk.agency}.json"] if desk.agency else [f"{settings}/agency.json", f"{settings}/setup.json"]
+
+
+def now_at(desk):
+    """Now by the clock of the desk's agency; by the machine's where no file names a zone that is known here."""
+    for zone in filter(None, map(zone_in, files_of(desk))):
+        with contextlib.suppress(ValueError, OSError, zoneinfo.ZoneInfoNotFoundError):
+            return datetime.datetime.now(zoneinfo.ZoneInfo(zone))
+    return datetime.datetime.now()
+
+
 def check_zone(desk):
     """The agency's file, what desk-setup was told and the unit have one zone, as far as they are there."""
-    settings = os.environ.get("SETTINGS") or SETTINGS
     if desk.agency:
-        paths, where = [f"{settings}/{desk.agency}.json"], f"{settings}/{desk.agency}.conf"
+        where = f"{os.environ.get('SETTINGS') or SETTINGS}/{desk.agency}.conf"
         rule = rule_in_file(where)
     else:
-        paths, where = [f"{settings}/agency.json", f"{settings}/setup.json"], UNIT.format(desk.unit)
+        where = UNIT.format(desk.unit)
         rule = rule_of_unit(desk.unit)
-    named = {path: zone for path in paths if (zone := zone_in(path))}
+    named = {path: zone for path in files_of(desk) if (zone := zone_in(path))}
     said = zones.difference(named, {} if rule is None else {where: rule})
     if said:
         raise Failure(f"{said}. By a wrong zone the desk counts wrong days: mend it by desk-setup --zone, or by hand, "

@@ -1,16 +1,20 @@
 """Lays out the files of the package in a folder."""
+import errno
 import gzip
 import hashlib
+import importlib
 import json
 import os
+import pathlib
 import shutil
 import stat
+import sys
 
 from desk_parts import sources
 from making import licences, manual, receipt
 
 # What of bin/ only the sources have a use for.
-OF_SOURCES = {"apt-repository", "desk", "desk_parts", "gate", "look.program", "meter", "package", "rehearsal"}
+OF_SOURCES = {"apt-repository", "desk", "desk_parts", "gate", "look.program", "meter", "package", "rehearsal", "test"}
 # Where the tree is installed by hand, and where the package has it. The tools of bin/ come first.
 PLACES = [
     ("/usr/local/lib/desk/bin/", "/usr/lib/desk/bin/"),
@@ -61,6 +65,16 @@ class Layout:
                 is_run = os.stat(f"{place}/{file}").st_mode & stat.S_IXUSR
                 self.copy(f"{source}/{inner}", f"{name}/{inner}", 0o755 if is_run else 0o644)
 
+    def pack_pages(self, name):
+        """The pages as a site has them: few and small files."""
+        sys.path.insert(0, f"{self.top}/python")
+        try:
+            page_packing = importlib.import_module("desk_tools.page_packing")
+        finally:
+            sys.path.remove(f"{self.top}/python")
+        if not page_packing.pack(pathlib.Path(f"{self.top}/pages"), pathlib.Path(self.path(name))):
+            raise FileNotFoundError(errno.ENOENT, "is not installed, and packs the pages", "esbuild")
+
     def link(self, name, to):
         os.symlink(to, self.path(name))
 
@@ -96,7 +110,7 @@ def put_tools(layout):
     layout.copy_tree("packaging/setting_up", "usr/lib/desk/packaging/setting_up")
     layout.copy_tree("python/desk_tools", "usr/lib/desk/python/desk_tools", without="booted")
     layout.link("usr/sbin/desk-setup", "../lib/desk/packaging/desk-setup")
-    layout.copy_tree("pages", "usr/share/desk/pages")
+    layout.pack_pages("usr/share/desk/pages")
     layout.link("usr/lib/desk/pages", "../../share/desk/pages")
     layout.copy("packaging/README.etc", "etc/desk/README")
     layout.copy("packaging/lintian-overrides", "usr/share/lintian/overrides/desk")

@@ -32,6 +32,8 @@ LEFT_OUT = re.compile(r"etc/desk/(fenced|.*\.fenced|README)")
 NEEDED = "etc/desk/agency.json", "etc/desk/setup.json"
 OF_FIRST = "etc/desk/standby.conf"
 NO_MACHINE, FENCE = "none", "/etc/desk/fenced"
+# The night's backup. The machine's files are packed once it is whole, so their copy may have the name of a later minute.
+BACKUP_NAME = re.compile(r"desk-(.+?)\.db(\.age|\.gpg)?$")
 
 
 def decrypted(path, folder, identity):
@@ -151,11 +153,12 @@ class Restoring:
             raise Failure(str(failure)) from None
 
     def need_machine(self, copy, others):
-        """A machine's copy that is beside the backup is not forgotten."""
-        beside = re.sub(r"^desk-(.*?)\.db(\.age|\.gpg)?$", r"machine-\1.tar.gz\2", os.path.basename(copy))
-        path = os.path.join(os.path.dirname(copy), beside)
-        if not others and beside != os.path.basename(copy) and os.path.exists(path):
-            raise Failure(f"{path} is beside the backup: name it after the backup, or say {NO_MACHINE} there")
+        """A machine's copy that is beside the backup is not forgotten: the first that was made at its minute or later."""
+        stamp = BACKUP_NAME.match(os.path.basename(copy))
+        found = glob.glob(f"{glob.escape(os.path.dirname(copy) or '.')}/machine-*.tar.gz*") if stamp and not others else []
+        later = sorted(it for it in found if os.path.basename(it) >= f"machine-{stamp[1]}")
+        if later:
+            raise Failure(f"{later[0]} is beside the backup: name it after the backup, or say {NO_MACHINE} there")
 
     def check_zones(self):
         named = {f"{it} of {self.machine.path}": zone for it in NEEDED if (zone := self.machine.read(it).get("zone"))}

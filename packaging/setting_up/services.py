@@ -8,13 +8,12 @@ import ssl
 import subprocess
 import time
 
+from desk_ops import places
 from setting_up.changes import run
 from setting_up.settings import NIGHTLY, Failure
 
 DESK, SITE, CLOCK = "desk.service", "nginx.service", "systemd-time-wait-sync.service"
-HEALTH = "desk-health.service"
-ALWAYS = [DESK, HEALTH, "desk-watch.timer", "desk-restart.timer", "desk-journal.timer", "desk-record.service",
-          "desk-retention.timer", "desk-today.service", "desk-driver-files.timer"]
+ALWAYS = [DESK, *places.OF_MACHINE, *places.BESIDE]
 PORT, SECONDS, SECONDS_OF_SITE, NOBODY = 8437, 120, 30, "no key of anybody"
 
 

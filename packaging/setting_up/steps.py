@@ -181,14 +181,16 @@ def make_watch(changes, settings):
     if os.path.exists(WATCH):
         with open(WATCH, encoding="utf-8") as file:
             text = file.read()
+        # (an earlier version made it for everybody to read)
+        os.chmod(WATCH, 0o600)
         if settings["alarm"] == before().get("alarm", NO_ALARM):
             return
         text = re.sub(r"(?m)^(MAIL|HOOK)=.*\n?", "", text)
     if MAIL.fullmatch(settings["alarm"]):
         text += f"MAIL={settings['alarm']}\n"
     elif settings["alarm"] != NO_ALARM:
-        text += f"HOOK=curl --silent --show-error --fail --max-time 30 --data-binary @- '{settings['alarm']}'\n"
-    changes.write(WATCH, text)
+        text += f"HOOK={settings['alarm']}\n"
+    changes.write(WATCH, text, 0o600)
 
 
 def send_test(alarm, lines):

@@ -1,0 +1,42 @@
+"""Copies of the desk's file for denials that dispatch marked: the state is there when an advocate asks why."""
+import json
+import os
+
+from .backing_up import Backup
+from .ending import WRONG_WORDS, Failure
+from .places import Desk
+from .zones import now_at
+from . import typed  # noqa: F401  (it leads to the package `desk_tools`)
+from desk_tools import event_log
+
+NOTE = "denial-{}.json"
+
+
+def open_marks(folder, log):
+    """The marks of the site's log for which the folder has no copy yet, the oldest first."""
+    try:
+        found = event_log.read([log]).of("marks")
+    except event_log.UnreadableLog as error:
+        raise Failure(str(error)) from None
+    return [it for it in found if not os.path.exists(f"{folder}/{NOTE.format(it.id)}")]
+
+
+def copy_for(folder, agency, most):
+    """Makes one copy for all marks that have none, and a note of each beside it; says what was done."""
+    log = os.environ.get("TALLY") or f"/var/log/desk/tally{f'-{agency}' if agency else ''}.log"
+    if not os.path.isdir(folder):
+        raise Failure(f"there is no folder {folder}", WRONG_WORDS)
+    marks = open_marks(folder, log)
+    if not marks:
+        return "no denial is marked that has no copy"
+    desk = Desk(agency)
+    name = f"denial-{now_at(desk):%Y-%m-%d-%H%M%S}.db"
+    told = Backup(desk, f"{folder}/{name}", most).make().told()
+    for it in marks:
+        note = {"copy": name, **{key: str(value) for key, value in it.fields.items() if value is not None}}
+        with open(os.open(f"{folder}/{NOTE.format(it.id)}.new", os.O_WRONLY | os.O_CREAT | os.O_TRUNC, 0o600), "w", encoding="utf-8") as file:
+            file.write(json.dumps(note) + "\n")
+        os.replace(f"{folder}/{NOTE.format(it.id)}.new", f"{folder}/{NOTE.format(it.id)}")
+    asked = ", ".join(f"{it.fields['day']} at {int(it.fields['minute']) // 60:02}:{int(it.fields['minute']) % 60:02}" for it in marks)
+    count = "1 marked denial: a trip" if len(marks) == 1 else f"{len(marks)} marked denials: trips"
+    return f"{told}\nit is kept for {count} asked for on {asked}"
