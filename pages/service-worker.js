@@ -89,7 +89,7 @@
      * @param {string} text @param {string} type @param {string} address */
     function namedIn(text, type, address) {
         const form = /html/.test(type) ? /\b(?:src|href)="([^"#][^"]*)"/g : /css/.test(type) ? /(?:@import\s+|url\()"?([^")]+)"?/g
-            : /\b(?:from|import)\s*\(?\s*"(\.[^"]+)"/g;
+            : /\b(?:from|import)\s*"(\.[^"]+)"/g;
         return [...text.matchAll(form)].map(([, name]) => plain(new URL(name, address).href)).filter(isOurs);
     }
 

@@ -22,7 +22,7 @@ export type Vehicle = { id: number, name?: string };
 export type Appeal = { to: string, address: string, telephone: string, days: number };
 export type Agency = { name: string, telephone: string, address: string, zone: string | undefined, first_weekday: number, place_word: string, clock: 12 | 24,
     languages: string[], wait_minutes: number, lead: number, idle_minutes: number, lock_minutes: number, appeal: Appeal, unproved: boolean, manifest_telephone: boolean, board_minutes: number, board_names: boolean, closed: { day: string, name?: string }[] };
-export type Rider = { rider: number, name: string, telephone: string, language: string, home: number | null, usual: number[], aid: string, note: string };
+export type Rider = { rider: number, name: string, telephone: string, language: string, home: number | null, usual: number[], aid: string, attendant?: string, note: string };
 
 export type Field<Value = any> = { name: string, label?: string, wants: string, control: any, element: HTMLElement,
     read: () => { value?: Value, fault?: string, ambiguous?: number[] }, write: (value: any) => void, tell: (fault?: string | null) => void };

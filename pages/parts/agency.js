@@ -3,6 +3,7 @@
 
 import { hearServersTime, isDay, isZone, keepClocksOf, keepServiceHours } from "./clock.js";
 import * as desk from "./desk.js";
+import { agencyFile } from "./early.js";
 import { APPEAL_DAYS, HIGHEST_ID, LAST_MINUTE } from "./limits.js";
 import { LANGUAGES, t } from "./words.js";
 
@@ -14,7 +15,7 @@ import { LANGUAGES, t } from "./words.js";
 
 /** @type {Kind[]} */
 export const KINDS = ["places", "routes", "vehicles"];
-const ADDED = "desk.agency", STAFF = ["clerk", "examiner", "officer", "dispatcher"], DEFAULT_CLOCK = 12, DEFAULT_WAIT = 5, DEFAULT_LEAD = 15, DEFAULT_IDLE = 30, LONGEST_WAIT = 5_000;
+const ADDED = "desk.agency", STAFF = ["clerk", "examiner", "officer", "dispatcher"], DEFAULT_CLOCK = 12, DEFAULT_WAIT = 5, DEFAULT_LEAD = 15, DEFAULT_IDLE = 30;
 const DEFAULT_LOCK = 240, LEAST_LOCK = 5, LONGEST_LOCK = 720;
 
 /** @typedef {[string, Record<string, any>]} Trouble a key of words and its values */
@@ -187,7 +188,7 @@ export async function loadAgency() {
     added = keptHere();
     /** @type {Trouble[]} */
     const faults = [];
-    const file = "agency.json", text = await textOf(file), it = objectOf(file, text, faults) ?? {};
+    const file = "agency.json", text = await textOfAgency(), it = objectOf(file, text, faults) ?? {};
     const read = rightIn(it, SETTINGS);
     settings = read.right;
     for (const name of read.faults) faults.push([name === "zone" ? "common.wrong-zone" : "common.wrong-setting", { name, value: String(it[name]) }]);
@@ -195,11 +196,9 @@ export async function loadAgency() {
     keepClocksOf(agency());
 }
 
-/** @param {string} path */
-async function textOf(path) {
+async function textOfAgency() {
     try {
-        const { timeout } = /** @type {any} */ (AbortSignal);
-        const reply = await fetch(path, { cache: "no-cache", credentials: "omit", signal: timeout.call(AbortSignal, LONGEST_WAIT) });
+        const reply = await agencyFile();
         hearServersTime(reply.headers.get("date"));
         answered = reply.status !== 429 && reply.status < 500;
         return reply.ok ? await reply.text() : null;

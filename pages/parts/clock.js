@@ -1,5 +1,6 @@
 // Days and minutes, as the agency's clocks show them. A day is a text YYYY-MM-DD and a minute a number from midnight, as in the API.
 
+import { keepText } from "./kept.js";
 import { DAYS_AHEAD, FIRST_DAY, LAST_DAY } from "./limits.js";
 import { language, t } from "./words.js";
 
@@ -53,7 +54,7 @@ export function hearServersTime(header) {
     const heard = Date.parse(header ?? "");
     if (Number.isNaN(heard) || Math.abs(heard - Date.now() - ahead) <= 2000) return;
     ahead = heard - Date.now();
-    localStorage.setItem(AHEAD, String(ahead));
+    keepText("local", AHEAD, String(ahead));
 }
 
 /** Milliseconds since 1970, by the server's clock. */

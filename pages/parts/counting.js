@@ -9,7 +9,7 @@ const PREFIX = "/tally/", SIGNS = /^[0-9a-hjkmnp-tv-z]{26}$/, DAY = /^20\d{2}-(0
 const MOMENT = /^20\d{2}-(0[1-9]|1[0-2])-(0[1-9]|[12]\d|3[01])T([01]\d|2[0-3])(:[0-5]\d){2}$/;
 /** What ends a line or controls a printer, and halves of signs. */
 const NO_TEXT = /[\u0000-\u001f\u007f-\u009f\u2028\u2029]|[\ud800-\udbff](?![\udc00-\udfff])|(?<![\ud800-\udbff])[\udc00-\udfff]/;
-const PAUSES = [2_000, 10_000, 60_000, 300_000];
+const PAUSES = [2_000, 10_000, 60_000, 300_000], PUT_BACK = 60_000;
 
 /** @param {string} text */
 const isRealDay = (text) => DAY.test(text) && new Date(Date.parse(text)).toISOString().startsWith(text);
@@ -61,3 +61,7 @@ export function endOf(status, isOwn) {
 /** The pause after so many tries without an answer, in milliseconds.
  * @param {number} tries from 1 on */
 export const pauseAfter = (tries) => PAUSES[Math.min(tries, PAUSES.length) - 1];
+
+/** Whether an event may be sent: its moment has come, or this machine's clock was put back since it was told.
+ * @param {{ since: number, from: number }} event @param {number} now */
+export const isDue = ({ since, from }, now) => from <= now || since > now + PUT_BACK;

@@ -4,7 +4,7 @@ const PATIENCE = 5_000;
 
 /** @typedef {(mode: IDBTransactionMode, act: (store: IDBObjectStore) => IDBRequest | void) => Promise<any>} Within */
 
-/** The one store of a database. What it gives does something in it, and has the result once the whole change is on the disk; it fails where there
+/** The one store of a database. What it gives does one thing in it, and has the result once the whole change is on the disk; it fails where there
  * is no database or no room, and where none opens within some seconds.
  * @param {string} name @param {string} store @param {IDBObjectStoreParameters} parameters @returns {Within}
  */
@@ -35,6 +35,8 @@ export function storeOf(name, store, parameters) {
             const change = database.transaction(store, mode, { durability: "strict" });
             change.onabort = () => refused(change.error ?? new Error("aborted"));
             const request = act(change.objectStore(store));
+            // (a page that is being left hears of no request any more, and what is not committed then would be undone)
+            change.commit?.();
             change.oncomplete = () => given(request ? request.result : undefined);
         });
     };

@@ -2,6 +2,7 @@
 // A desk that does not answer is asked again until it does.
 
 import { hearServersTime } from "./clock.js";
+import { dropText, forgetTexts, keepObject, keepText, keptObject, keptText } from "./kept.js";
 import { digestOf, newKey, normalKey } from "./key.js";
 import { HIGHEST_NUMBER } from "./limits.js";
 import * as line from "./line.js";
@@ -16,9 +17,17 @@ import * as line from "./line.js";
 /** @typedef {{ digest: string | null, number: number, path: string, body: string, nextKey?: string, resent: boolean, waited?: boolean }} Pending */
 
 const LONGEST_WAIT = 30_000, PAUSES = [500, 1000, 2000, 4000, 5000], CROWDED = 429;
-const KEY = "desk.key", PENDING = "desk.pending", SILENT = "common.silent";
+const KEY = "desk.key", STAY = "desk.stay", WANTED = "desk.stay-wanted", PENDING = "desk.pending", SILENT = "common.silent";
 
-let key = sessionStorage.getItem(KEY), left = new AbortController();
+/** The key of a rider who stays signed in, which this browser keeps until the rider signs out, and the rider's number.
+ * @returns {{ key: string, rider: number } | null}
+ */
+function stayed() {
+    const { key: kept, rider } = keptObject(STAY);
+    return typeof kept === "string" && Number.isInteger(rider) ? { key: kept, rider } : null;
+}
+
+let key = keptText("session", KEY) ?? stayed()?.key ?? null, left = new AbortController();
 /** @type {string | null} */
 let mine = null;
 
@@ -32,7 +41,7 @@ export const signedIn = () => key !== null;
 async function hold(text) {
     key = text;
     mine = await digestOf(text);
-    sessionStorage.setItem(KEY, text);
+    keepText("session", KEY, text);
 }
 
 /** Any key may ask for a sheet; nobody's key is denied desk.key, and a role that may not read it desk.caller. */
@@ -55,11 +64,46 @@ export async function signIn(typed, isKnown = async () => false) {
 }
 
 export async function comeBack() {
-    if (key !== null) mine = await digestOf(key);
+    if (key !== null) await hold(key);
+}
+
+// Staying signed in, for riders on a phone of their own.
+
+/** The number of the rider who stays signed in with this key, or null. */
+export function stays() {
+    const it = stayed();
+    return it !== null && it.key === key ? it.rider : null;
+}
+
+/** Who signed in wants to stay: the key is kept once it is known that it is a rider's. */
+export const wantToStay = () => keepText("session", WANTED, "yes");
+
+/** Keeps the key in this browser where that was wanted and the site has said whose it is: this rider's, and nobody's of the staff.
+ * @param {number} rider
+ */
+export async function stayAs(rider) {
+    if (keptText("session", WANTED) === null) return;
+    const by = key, [own, staff] = await Promise.all([fetchFile(`/own/${rider}/places.json`), fetchFile("/staff/roster.csv")]);
+    if (![200, 404].includes(own.status) || staff.status !== 403 || key === null || key !== by) return;
+    dropText("session", WANTED);
+    keepObject(STAY, { key, rider });
+}
+
+/** A key that is nobody's any more is kept no longer.
+ * @param {Told} told @param {string | null} by
+ */
+function judged(told, by) {
+    if (told.denied === "desk.key" && by === key && stays() !== null) {
+        keepObject(STAY, null);
+        window.dispatchEvent(new Event("desk.stay-gone"));
+    }
+    return told;
 }
 
 export function signOut() {
+    if (stays() !== null) keepObject(STAY, null);
     key = mine = null;
+    forgetTexts();
     sessionStorage.clear();
     leave();
 }
@@ -104,9 +148,11 @@ const asked = (path, options, signal) => fetch(path, { ...options, signal: bound
  * @returns {Promise<Told>} */
 async function once(method, path, headers, body, signal) {
     try {
-        const reply = await asked(path, { method, headers, body }, signal), told = await bodyOf(reply);
+        const reply = await asked(path, { method, headers, body }, signal);
         hearServersTime(reply.headers.get("date"));
+        // (it was not done, whatever stands in its body and whoever says so)
         if (reply.status === CROWDED) return { silent: "common.crowded" };
+        const told = await bodyOf(reply);
         if (reply.ok && told !== undefined && told !== null) return { value: told };
         return denialIn(reply, told) ?? { silent: SILENT };
     } catch {
@@ -149,7 +195,7 @@ export async function postFile(path) {
 /** One try of a read.
  * @param {string} path @param {string | null} [by] @param {AbortSignal} [signal]
  */
-export const readOnce = (path, by = key, signal = left.signal) => once("GET", path, { "Desk-Key": by ?? "" }, undefined, signal);
+export const readOnce = async (path, by = key, signal = left.signal) => judged(await once("GET", path, { "Desk-Key": by ?? "" }, undefined, signal), by);
 
 /** A read that is asked until it is answered, or until its screen is left.
  * @param {string} path @param {string | null} [by] @returns {Promise<Reply<any>>} */
@@ -168,14 +214,14 @@ export async function read(path, by = key) {
 
 // Writes. A caller's numbers rise, also over two windows: one window at a time sends, and the other waits for its answer.
 
-const lastNumber = () => Number(localStorage.getItem(`desk.number.${mine}`) ?? 0);
+const lastNumber = () => Number(keptText("local", `desk.number.${mine}`) ?? 0);
 
 /** The next number of a write. Whoever takes one holds the lock of inTurn.
  * @param {number} [above]
  */
 export function takeNumber(above = 0) {
     const number = Math.min(HIGHEST_NUMBER, Math.max(lastNumber() + 1, Math.floor(Date.now() / 1000), above));
-    localStorage.setItem(`desk.number.${mine}`, String(number));
+    keepText("local", `desk.number.${mine}`, String(number));
     return number;
 }
 
@@ -194,7 +240,7 @@ export const attempt = (path, fields, number) => post(path, JSON.stringify(field
 const post = (path, body, number) => once("POST", path, { "Desk-Key": key ?? "", "Desk-Number": String(number), "Content-Type": "application/json" }, body);
 
 /** @param {Pending} pending */
-const keep = (pending) => sessionStorage.setItem(PENDING, JSON.stringify(pending));
+const keep = (pending) => keepText("session", PENDING, JSON.stringify(pending));
 
 /** Whether the key that began a write is still signed in: nobody sends what another person began.
  * @param {Pending} pending
@@ -254,7 +300,7 @@ async function sent(pending) {
         reply = await untilAnswered(pending);
         if (reply.denied !== "desk.number") told();
     }
-    if (isMine(pending)) sessionStorage.removeItem(PENDING);
+    if (isMine(pending)) dropText("session", PENDING);
     afterWrites.forEach((act) => act({ path: pending.path, fields: JSON.parse(pending.body), reply, waited: pending.waited === true }));
     return reply;
 }
@@ -271,7 +317,7 @@ const write = (path, fields, nextKey) => inTurn(() => {
  * @returns {Promise<Reply<any> | null>}
  */
 export async function finishPending() {
-    const pending = JSON.parse(sessionStorage.getItem(PENDING) ?? "null");
+    const pending = JSON.parse(keptText("session", PENDING) ?? "null");
     if (!pending || pending.digest !== mine) return null;
     pending.resent = pending.waited = true;
     return inTurn(() => sent(pending));
@@ -313,12 +359,14 @@ export const cancel = (trip) => write(`/trips/${trip}/cancel`, {});
 /** @param {number} trip @param {string} outcome */
 export const tellOutcome = (trip, outcome) => write(`/trips/${trip}/outcome`, { outcome });
 
-/** The paths of what is read of a rider. */
+/** The paths of what is read of a rider and of a day. */
 export const pathOf = {
     standing: (/** @type {number} */ rider, /** @type {string} */ day) => `/riders/${rider}/standing/${day}`,
     trips: (/** @type {number} */ rider) => `/riders/${rider}/trips`,
     letters: (/** @type {number} */ rider) => `/riders/${rider}/letters/`,
     letter: (/** @type {number} */ rider, /** @type {number} */ entry) => `/riders/${rider}/letters/${entry}`,
+    sheet: (/** @type {string} */ day) => `/days/${day}/sheet`,
+    tripsOn: (/** @type {string} */ day) => `/days/${day}/trips.csv`,
 };
 
 /** @param {number} rider @param {string} day @returns {Promise<Reply<import("../types").Standing>>} */
@@ -328,6 +376,6 @@ export const tripsOf = (rider) => read(pathOf.trips(rider));
 /** @param {number} vehicle @param {string} day @returns {Promise<Reply<string>>} */
 export const manifest = (vehicle, day) => read(`/vehicles/${vehicle}/manifest/${day}`);
 /** @param {string} day @returns {Promise<Reply<string>>} */
-export const sheet = (day) => read(`/days/${day}/sheet`);
+export const sheet = (day) => read(pathOf.sheet(day));
 /** @param {string} day @returns {Promise<Reply<string>>} */
-export const tripsOn = (day) => read(`/days/${day}/trips.csv`);
+export const tripsOn = (day) => read(pathOf.tripsOn(day));

@@ -3,6 +3,7 @@
 
 import { controlName } from "./control-name.js";
 import * as desk from "./desk.js";
+import { whenSignedOut } from "./leaving.js";
 
 /** @typedef {Record<string, string | boolean>} Typed what stands in the controls, by their names */
 
@@ -83,8 +84,9 @@ export function draftIn(form, name) {
     return { drop: () => keep(name, null), keep: keepIt };
 }
 
-/** Whoever signs out by hand leaves nothing. */
-export function forgetDrafts() {
+// Whoever signs out by hand leaves nothing.
+whenSignedOut(({ byHand }) => {
+    if (!byHand) return;
     typed.clear();
     for (const name of Object.keys(sessionStorage)) if (name.startsWith(KEPT)) sessionStorage.removeItem(name);
-}
+});

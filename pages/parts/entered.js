@@ -3,6 +3,7 @@
 
 import { today } from "./clock.js";
 import * as desk from "./desk.js";
+import { keepObject, keptObject } from "./kept.js";
 
 /** @typedef {{ entry: string, position: number, day: string, against?: number }} Entered position is the entry's place in the case file */
 
@@ -12,14 +13,7 @@ const KEPT = "desk.entered", MOST_RIDERS = 300;
 const nameOf = (rider) => desk.digestOf(`${desk.digest()} ${rider}`);
 
 /** @returns {Record<string, Entered[]>} */
-function all() {
-    try {
-        const it = JSON.parse(localStorage.getItem(KEPT) ?? "{}");
-        return typeof it === "object" && it !== null && !Array.isArray(it) ? it : {};
-    } catch {
-        return {};
-    }
-}
+const all = () => keptObject(KEPT);
 
 /** What was entered from here in a rider's case, in its order.
  * @param {number} rider @returns {Promise<Entered[]>}
@@ -32,11 +26,8 @@ export async function enteredOf(rider) {
 /** @param {number} rider @param {Entered} entered */
 async function keep(rider, entered) {
     const name = await nameOf(rider), { [name]: before, ...others } = all(), more = Object.entries(others).slice(1 - MOST_RIDERS);
-    try {
-        localStorage.setItem(KEPT, JSON.stringify({ ...Object.fromEntries(more), [name]: [...(Array.isArray(before) ? before : []), entered] }));
-    } catch {
-        // (a browser without room forgets it, as one forgets it that is cleared)
-    }
+    // (a browser without room forgets it, as one forgets it that is cleared)
+    keepObject(KEPT, { ...Object.fromEntries(more), [name]: [...(Array.isArray(before) ? before : []), entered] });
 }
 
 /** Enters something in a rider's case, and remembers it once the desk has taken it.

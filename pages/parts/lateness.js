@@ -8,10 +8,12 @@
 /** @typedef {{ trip: number, rider: number, vehicle: number, window: [number, number], due: number, past: number }} Risk due is when the van comes by its delay, past how long after
  *   the window */
 /** @typedef {{ vehicle: number, last: Tap | null, delay: number, silent: number, risks: Risk[] }} Late minutes; silent is for how long there should have been an update */
-/** @typedef {{ trip: number, vehicle: number, from: number, to: number, arrived: number | null, wait: number, minute: number }} NoShow */
-/** @typedef {{ trip: number, vehicle: number, record: string, told: string, minute: number }} Disagreement */
+/** @typedef {{ day: string, trip: number, vehicle: number, from: number, to: number, arrived: number | null, wait: number, minute: number }} NoShow */
+/** @typedef {{ day: string, trip: number, vehicle: number, record: string, told: string, minute: number }} Disagreement */
 /** @typedef {{ vehicle: number, trip: number, text: string, minute: number }} Note */
-/** @typedef {{ vehicles: Map<number, Tap[]>, notes: Note[], noShows: NoShow[], disagreements: Disagreement[], calls: Record<string, Record<string, string>> }} Told */
+/** @typedef {{ day: string, vehicles: Map<number, Tap[]>, notes: Note[], noShows: NoShow[], disagreements: Disagreement[], late: { vehicle: number, at: string }[] }} Told late are taps of an
+ *   earlier day that came today; noShows and disagreements are those of the
+ *   last days at which nobody of dispatch has looked */
 
 /** A van is called late from so many minutes on, and is without update where none came for so long. */
 export const LEAST_LATE = 5, SILENT = 20;
@@ -29,7 +31,8 @@ export function toldIn(text, day, now) {
         if (it?.day !== day || !(now - Date.parse(it.made) < OLDEST)) return null;
         const vehicles = Object.entries(it.vehicles ?? {}).map(([id, van]) => /** @type {[number, Tap[]]} */ ([Number(id), listIn(van?.taps).filter((tap) => isNumber(tap.trip)
             && isNumber(tap.minute))]));
-        return { vehicles: new Map(vehicles), notes: listIn(it.notes), noShows: listIn(it.no_shows), disagreements: listIn(it.disagreements), calls: it.calls ?? {} };
+        return { day, vehicles: new Map(vehicles), notes: listIn(it.notes), noShows: listIn(it.unreviewed?.no_shows), disagreements: listIn(it.unreviewed?.disagreements),
+            late: listIn(it.late).filter((tap) => isNumber(tap.vehicle) && typeof tap.at === "string") };
     } catch {
         return null;
     }
@@ -45,6 +48,16 @@ const stopOf = (stops, { trip, kind }) => stops.findIndex((stop) => stop.trip ==
  */
 const isEnded = ({ trip }, doings) => ENDED.includes(doings.get(Number(trip))?.state ?? "");
 
+/** Riders whom a van has passed by: a later stop was reached, nobody told of the pickup, and its window has closed. Only where the driver taps at
+ * pickups: of another van nobody knows who is aboard.
+ * @param {Stop[]} trips @param {number} far the furthest stop that was reached @param {Tap[]} taps @param {Map<number, Doing>} doings @param {number} now @returns {Stop[]}
+ */
+function passedBy(trips, far, taps, doings, now) {
+    const told = new Set(taps.filter(({ kind }) => kind !== "skipped").map(({ trip }) => trip)), isTold = taps.some(({ kind }) => kind === "arrived" || kind === "aboard");
+    const isOpen = (/** @type {Stop} */ stop) => !told.has(Number(stop.trip)) && !isEnded(stop, doings) && doings.get(Number(stop.trip))?.state !== "cancelled";
+    return isTold ? trips.slice(0, far + 1).filter((stop) => stop.what === "PICK" && stop.window && now > stop.window[1] && isOpen(stop)) : [];
+}
+
 /** How late one van is.
  * @param {Manifest} manifest @param {Tap[]} taps @param {Map<number, Doing>} doings @param {number} now the minute of the day @returns {Late}
  */
@@ -59,7 +72,9 @@ export function lateOf({ vehicle, stops }, taps, doings, now) {
         const { window, trip, rider, at, what } = stop, due = Math.max(now, at + delay);
         return what === "PICK" && window && due > window[1] && !isEnded(stop, doings) ? [{ trip: Number(trip), rider: Number(rider), vehicle, window, due, past: due - window[1] }] : [];
     }) : [];
-    return { vehicle, last, delay, silent: isSilent ? overdue : 0, risks };
+    const passed = passedBy(trips, Math.max(reached, ended), known, doings, now).flatMap(({ window, trip, rider }) => (window ? [{ trip: Number(trip), rider: Number(rider), vehicle,
+        window, due: now, past: now - window[1] }] : []));
+    return { vehicle, last, delay, silent: isSilent ? overdue : 0, risks: [...passed, ...risks] };
 }
 
 /** What needs a person, the worst first.
@@ -67,8 +82,7 @@ export function lateOf({ vehicle, stops }, taps, doings, now) {
  */
 export function attentionOf(lates, told, doings, manifests) {
     const open = new Map(manifests.map(({ vehicle, stops }) => [vehicle, stops.filter(({ what, trip }) => what === "PICK" && doings.get(Number(trip))?.state === "no-word").length]));
-    const state = (/** @type {number} */ trip) => doings.get(trip)?.state ?? "";
     return { late: lates.filter(({ delay }) => delay >= LEAST_LATE).sort((a, b) => b.delay - a.delay), risk: lates.flatMap(({ risks }) => risks).sort((a, b) => a.due - b.due),
-        silent: lates.filter(({ silent }) => silent > 0).sort((a, b) => b.silent - a.silent), noShows: (told?.noShows ?? []).filter(({ trip }) => !ENDED.includes(state(trip))),
+        silent: lates.filter(({ silent }) => silent > 0).sort((a, b) => b.silent - a.silent), noShows: told?.noShows ?? [],
         disagreements: told?.disagreements ?? [], open: [...open].flatMap(([vehicle, count]) => (count ? [{ vehicle, count }] : [])) };
 }

@@ -6,12 +6,15 @@ import { plus, today } from "./clock.js";
 import * as desk from "./desk.js";
 import { denialOf } from "./denials.js";
 import { button, drawInto, found, make, part, say } from "./element.js";
+import { askAhead } from "./early.js";
+import { forgetAll } from "./leaving.js";
+import { keepText } from "./kept.js";
 import * as line from "./line.js";
 import { clearNotes, dropNote, keepNotes, note, sayNotesAgain } from "./notes.js";
 import { takePaperAway } from "./paper.js";
+import { forgetHere, maySignOut } from "./queue.js";
 import { forgetRoster, loadRoster } from "./roster.js";
 import { screenOf, SCREENS, STAFF } from "./screens.js";
-import { signIn } from "./signing.js";
 import { beginAnew, whenRefused } from "./tally.js";
 import { chooseLanguage, language, LANGUAGE_NAMES, languageFor, t, useWords } from "./words.js";
 
@@ -19,7 +22,7 @@ import { chooseLanguage, language, LANGUAGE_NAMES, languageFor, t, useWords } fr
 /** @typedef {import("./screens.js").Screen} Screen */
 
 const SCREEN = "desk.screen", STAYS = [SCREEN, "desk.language", "desk.agency", "desk.ahead", "desk.entered"], OF_KEYS = ["desk.offers.", "desk.asking."], LOOKED = 5_000, MINUTE = 60_000;
-const HURRY = 5_000, NEVER_IDLE = ["driver"], BOARD = "#dispatcher/day", SEARCHES = ["clerk", "examiner", "officer"], USES = ["pointerdown", "keydown", "wheel", "touchstart", "touchmove"];
+const HURRY = 5_000, DRIVER = "driver", NEVER_IDLE = [DRIVER], FIRST_SIGHT = 2_000, BOARD = "#dispatcher/day", SEARCHES = ["clerk", "examiner", "officer"], USES = ["pointerdown", "keydown", "wheel", "touchstart", "touchmove"];
 
 /** How often something else was shown: who waited for a screen that was left draws nothing. */
 let shows = 0;
@@ -63,6 +66,8 @@ function languageChoice() {
         loaded.clear();
         sayNotesAgain();
         line.sayAgain();
+        // (what was said last is of the other language)
+        say("");
         await show({ again: true });
         found("language").focus();
     } } }, agency().languages.filter((it) => it in LANGUAGE_NAMES).map((it) => part("option", { value: it, lang: it }, LANGUAGE_NAMES[/** @type {"en"} */ (it)])));
@@ -98,10 +103,24 @@ function showCounts({ refused, loose }) {
 /** Whose counts are sent. */
 let countedFor = "";
 
+/** Says what came of what windows that are gone left open, to who signs in. */
+async function takeUpLeft() {
+    if (!Object.keys(localStorage).some((name) => name.startsWith("desk.asking."))) return;
+    try {
+        const [{ takeUpAll }] = await Promise.all([import("../screens/take-up.js"), useWords("sent", "booking")]);
+        await takeUpAll();
+    } catch (error) {
+        console.error(error);
+    }
+}
+
 /** Goes on with what is still to be told to the site. */
 function tellCounts() {
     const digest = desk.digest() ?? "";
-    if (digest && digest !== countedFor) beginAnew();
+    if (digest && digest !== countedFor) {
+        beginAnew();
+        takeUpLeft();
+    }
     countedFor = digest;
 }
 
@@ -120,7 +139,7 @@ function useStyles(name) {
 async function partsOf(screen) {
     const known = loaded.get(screen.id);
     if (known) return known;
-    const [module] = await Promise.all([import(`../screens/${screen.module}.js`), useWords(...screen.words), ...screen.styles.map(useStyles)]);
+    const [module] = await Promise.all([screen.load(), useWords(...screen.words), ...screen.styles.map(useStyles)]);
     const parts = module[screen.id]();
     loaded.set(screen.id, parts);
     return parts;
@@ -163,6 +182,23 @@ async function loadNames(screen) {
     askingAgain = setTimeout(again, HURRY);
 }
 
+const moreWords = () => useWords("denials", "fields");
+
+/** Who drives sees the next stop first: on a slow line the names of vehicles and words of denials come after it. */
+const firstSight = () => new Promise((go) => {
+    window.addEventListener("desk.seen", go, { once: true });
+    setTimeout(go, FIRST_SIGHT);
+});
+
+/** What is shown is drawn again with names and words that come after it.
+ * @param {Promise<any>} more
+ */
+function drawWith(more) {
+    more.then(async () => {
+        if (desk.signedIn()) (await import("./screen.js")).drawAllAgain();
+    }).catch(() => {});
+}
+
 // Showing.
 
 /** @param {string} title */
@@ -170,17 +206,40 @@ function entitle(title) {
     document.title = `${title} – ${agency().name}`;
 }
 
-function showSignIn() {
+/** @param {number} mine */
+async function showSignIn(mine) {
     entitle(t("signing.in"));
     showFrame();
     drawInto(found("parts"), []);
-    drawInto(found("main"), signIn({ screen: wanted().screen?.id ?? kept(SCREEN) ?? "rider", signed: (screen) => {
-        localStorage.setItem(SCREEN, screen);
+    /** @type {{ signIn?: typeof import("./signing.js").signIn }} */
+    const { signIn } = await Promise.all([import("./signing.js"), moreWords()]).then(([it]) => it).catch(notLoaded);
+    if (mine !== shows || !signIn) return;
+    const first = wanted().screen?.id ?? kept(SCREEN) ?? "rider";
+    // (while the key is typed)
+    setTimeout(() => askAhead(first));
+    drawInto(found("main"), signIn({ screen: first, signed: (screen) => {
+        keepText("local", SCREEN, screen);
         active = Date.now();
         toSearch = true;
         if (wanted().screen?.id === screen) show();
         else location.hash = screen;
     } }));
+}
+
+/** Another version of the pages may be there by now: it is loaded whole, where the site answers. */
+async function loadAgain() {
+    const reply = await fetch(location.pathname, { cache: "no-cache", credentials: "omit" }).catch(() => null);
+    if (reply?.ok) location.reload();
+    else await show();
+}
+
+/** Says that files of a screen did not come, once.
+ * @param {unknown} error @returns {any}
+ */
+function notLoaded(error) {
+    console.error(error);
+    drawInto(found("main"), part("div", { class: "note row", role: "alert" }, part("p", {}, t("common.not-loaded")), button(t("common.load-again"), loadAgain)));
+    return {};
 }
 
 /** @param {Screen} screen @param {number} mine */
@@ -189,16 +248,15 @@ async function showScreen(screen, mine) {
     let parts;
     showFrame();
     try {
-        [parts] = await Promise.all([partsOf(screen), loadNames(screen)]);
+        if (screen.id === DRIVER) firstSight().then(() => mine === shows && desk.signedIn() && drawWith(Promise.all([loadNames(screen), moreWords()])));
+        [parts] = await Promise.all([partsOf(screen), ...(screen.id === DRIVER ? [] : [loadNames(screen), moreWords()])]);
     } catch (error) {
-        console.error(error);
-        return drawInto(found("main"), part("div", { class: "note row", role: "alert" }, part("p", {}, t("common.not-loaded")),
-            button(t("common.load-again"), () => show())));
+        return notLoaded(error);
     }
     if (mine !== shows) return undefined;
     const { partId } = wanted(), it = parts.find((one) => one.id === partId) ?? parts[0];
     if (location.hash !== addressOf(screen.id, it.id)) history.replaceState(null, "", addressOf(screen.id, it.id));
-    localStorage.setItem(SCREEN, screen.id);
+    keepText("local", SCREEN, screen.id);
     entitle(`${it.name} – ${t(`signing.${screen.id}`)}`);
     showFrame();
     showParts(screen, parts, it.id);
@@ -215,7 +273,7 @@ async function show({ again = false } = {}) {
     if (desk.signedIn() && !wanted().screen) history.replaceState(null, "", `#${screenOf(kept(SCREEN) ?? "")?.id ?? "rider"}`);
     const { screen } = wanted();
     document.body.classList.toggle("signed-out", !desk.signedIn());
-    if (!desk.signedIn() || !screen) showSignIn();
+    if (!desk.signedIn() || !screen) await showSignIn(mine);
     else await showScreen(screen, mine);
     tellCounts();
     if (mine !== shows) return;
@@ -266,34 +324,22 @@ function kept(name) {
     }
 }
 
-/** What the driver's phone keeps for itself.
- * @returns {Promise<any>}
- */
-const queue = () => own("queue");
-
-/** A module that only who is signed in needs; nothing where it cannot be loaded.
- * @param {string} name @returns {Promise<any>}
- */
-const own = (name) => import(`./${name}.js`).catch(() => ({}));
-
 async function leaveByHand() {
-    const { maySignOut } = await queue();
-    if (maySignOut && !await maySignOut()) return;
+    if (!await maySignOut()) return;
     if (line.isWaiting() && !await asked({ question: t("signing.waiting"), detail: t("signing.waiting-detail"), yes: t("signing.out-anyway"), danger: true })) return;
-    (await own("drafts")).forgetDrafts?.();
-    await signOut(t("signing.signed-out"));
+    await signOut(t("signing.signed-out"), true);
 }
 
-/** @param {string} words */
-async function signOut(words) {
-    const digest = desk.digest(), { forgetHere } = await queue();
+/** @param {string} words @param {boolean} [byHand] */
+async function signOut(words, byHand = false) {
+    const digest = desk.digest();
+    forgetAll({ byHand });
     desk.signOut();
     // (a question that nobody has answered is answered no, and tells whom it was about no more)
     for (const it of document.querySelectorAll("dialog")) it.close("");
-    await forgetHere?.(digest);
+    if (digest) await forgetHere(digest);
     forgetPlaces();
     forgetRoster();
-    (await own("reads")).forgetReads?.();
     loadedFor = "";
     for (const name of Object.keys(localStorage)) if (name.startsWith("desk.") && !STAYS.includes(name) && !OF_KEYS.some((it) => name.startsWith(it))) localStorage.removeItem(name);
     clearNotes();
@@ -317,12 +363,18 @@ function keyGone({ detail }) {
     detail.left = signOut(detail.said).then(() => note("key", detail.shown));
 }
 
+/** The key of a rider who stays signed in is nobody's any more. */
+async function stayGone() {
+    await signOut(t("signing.stay-gone"));
+    note("key", () => t("signing.stay-gone"));
+}
+
 /** Who does nothing for long is signed out, and is told a minute before. */
 async function lookIdle() {
     const { idle_minutes: limit, board_minutes: board } = agency(), idle = Date.now() - active;
     const isBoard = location.hash === BOARD && board > limit && limit > 0, minutes = isBoard ? board : limit;
     showBoard(isBoard && desk.signedIn() && idle >= limit * MINUTE);
-    if (!desk.signedIn() || !minutes || NEVER_IDLE.includes(wanted().screen?.id ?? "") || line.isWaiting()) return;
+    if (!desk.signedIn() || !minutes || NEVER_IDLE.includes(wanted().screen?.id ?? "") || desk.stays() !== null || line.isWaiting()) return;
     if (idle >= minutes * MINUTE) {
         await signOut(t("signing.idle-out", { minutes }));
         note("idle", () => t("signing.idle-out", { minutes }));
@@ -347,20 +399,16 @@ function isActive({ type }) {
 
 // What was under way when the page was loaded anew comes to its end before anything else is sent.
 async function finish() {
-    const [{ lookAtSent, unread }] = await Promise.all([own("sent"), useWords("sent").catch(() => {})]), reply = await desk.finishPending();
+    // (a driver's phone has a queue of its own)
+    const isDriver = wanted().screen?.id === DRIVER;
+    /** @type {Partial<typeof import("./sent.js")>} */
+    const { lookAtSent, unread } = isDriver ? {} : (await Promise.all([import("./sent.js").catch(() => ({})), useWords("sent").catch(() => {})]))[0];
+    const reply = await desk.finishPending();
     lookAtSent?.();
     // (what became of a trip is in the list of what was sent)
     if (reply && !unread?.().length) note("finished", () => (reply.denied ? [part("p", {}, t("common.was-denied")), denialOf(reply)] : t("common.was-done")));
 }
 
-/** Asks at once for what the screen takes that will be shown, while the agency's file is on its way. */
-function askAhead() {
-    const screen = wanted().screen ?? screenOf(kept(SCREEN) ?? "");
-    for (const name of screen?.first ?? []) document.head.append(make("link", { rel: "modulepreload", href: name }));
-    if (screen?.first) useStyles(screen.styles[0]);
-}
-
-askAhead();
 /** A phone that a driver has used drops manifests that are two days old, whoever opens these pages on it. */
 async function forgetManifests() {
     const stores = await globalThis.indexedDB?.databases?.().catch(() => []) ?? [];
@@ -374,9 +422,10 @@ desk.whenOthersWrote(() => note("others", () => t("common.others-wrote")));
 keepNotes();
 await Promise.all([loadAgency(), desk.comeBack()]);
 await chooseLanguage(languageFor(agency().languages));
-await useWords("common", "denials", "fields", "signing");
+await useWords("common", "signing");
 window.addEventListener("hashchange", () => show());
 window.addEventListener("desk.key-gone", keyGone);
+window.addEventListener("desk.stay-gone", stayGone);
 window.addEventListener("keydown", slash);
 // (a page that moves by itself, as where a note comes, is used by nobody)
 for (const event of USES) window.addEventListener(event, isActive, { passive: true, capture: true });

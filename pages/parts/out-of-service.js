@@ -298,7 +298,15 @@ export async function readAgain(plan, ports) {
         if (reply.denied !== undefined) return null;
         all.set(rider, reply.value.trips);
     }
-    return plan.items.reduce((now, item) => withItem(now, item, itemNow(item, all.get(item.rider) ?? [], takenIn(now))), plan);
+    return withoutFollowed(plan.items.reduce((now, item) => withItem(now, item, itemNow(item, all.get(item.rider) ?? [], takenIn(now))), plan));
+}
+
+/** A plan without the items whose new trip is in the list itself, as where a clerk booked it in the same vehicle: that trip's own item says what becomes of it.
+ * @param {Plan} plan @returns {Plan}
+ */
+function withoutFollowed(plan) {
+    const listed = new Set(plan.items.map(({ old }) => old.trip));
+    return { ...plan, items: plan.items.filter(({ step, other }) => !other || !["elsewhere", "gone"].includes(step) || !listed.has(other.trip)) };
 }
 
 /** A plan whose trips that could not be placed are tried again.

@@ -3,8 +3,9 @@
 
 import { agency, placeName, placeNote, vehicleName } from "./agency.js";
 import { between, clock, dayInWords } from "./clock.js";
-import { part } from "./element.js";
+import { drawInto, found, part } from "./element.js";
 import { printParts } from "./paper.js";
+import { pagesOf } from "./paper-pages.js";
 import { riderLabel, riderOf } from "./roster.js";
 import { aboardAt } from "./texts.js";
 import { t } from "./words.js";
@@ -15,6 +16,8 @@ import { t } from "./words.js";
 /** @typedef {Map<number, number>} Dues the cents that are due for each trip */
 
 const COLUMNS = 7, LINES = 5;
+/** The height of a page of a manifest in CSS pixels, and what is left free of it, since a printer's rows are some hairs higher than a screen's. */
+const PAGE = (11 * 25.4 - 2 * 10) * 96 / 25.4, SPARE = 20;
 
 /** @param {number} cents */
 const dollars = (cents) => `$${(cents / 100).toFixed(2)}`;
@@ -35,14 +38,18 @@ function linesOf({ lines, stops }) {
 /** @param {Stop} stop */
 const whatWords = ({ what, trip }) => (what === "DEPOT" ? t("dispatcher.depot") : t(`dispatcher.paper-${what}`, { trip }));
 
+/** @param {{ minute: number, text: string }[]} notes */
+const notesWords = (notes) => notes.length > 0 && part("em", { class: "noted" }, ` ${notes.map(({ minute, text }) => t("dispatcher.note-at", { time: clock(minute), text })).join("; ")}`);
+
 /** Who it is, what the roster says of who comes aboard, and where. A drop is one line: its rider is aboard, and is known.
- * @param {Stop} stop
+ * @param {Stop} stop @param {{ minute: number, text: string }[]} notes
  */
-function whoAndWhere(stop) {
+function whoAndWhere(stop, notes) {
     if (stop.what === "DEPOT") return [part("strong", {}, whatWords(stop)), ` ${placeWords(stop.place)}`];
     if (stop.what === "DROP") return [part("strong", {}, whatWords(stop)), ` ${riderLabel(Number(stop.rider))}, ${placeName(stop.place)}`];
     const rider = riderOf(Number(stop.rider)), more = [rider?.aid, rider?.note, agency().manifest_telephone && rider?.telephone].filter(Boolean).join("; ");
-    return [part("strong", {}, whatWords(stop)), ` ${riderLabel(Number(stop.rider))}`, more && ` (${more})`, part("br"), placeWords(stop.place)];
+    return [part("strong", {}, whatWords(stop)), ` ${riderLabel(Number(stop.rider))}`, more && part("span", { class: "more" }, ` (${more})`), part("br"), placeName(stop.place),
+        placeNote(stop.place) && part("span", { class: "more" }, `, ${placeNote(stop.place)}`), notesWords(notes)];
 }
 
 /** @param {Stop} stop @param {Dues} dues */
@@ -53,11 +60,11 @@ function partyAndFare({ what, trip, people, wheelchairs }, dues) {
 }
 
 /** What a driver has to know of a stop, and to write. A line of another form stands as the desk wrote it.
- * @param {string} line @param {Stop | null} stop @param {Dues} dues
+ * @param {string} line @param {Stop | null} stop @param {Dues} dues @param {(trip: number) => { minute: number, text: string }[]} notes
  */
-function stopRows(line, stop, dues) {
+function stopRows(line, stop, dues, notes) {
     if (!stop) return part("tbody", {}, part("tr", {}, part("td", { colspan: COLUMNS }, line)));
-    const cells = [[part("strong", {}, clock(stop.at)), stop.window && [part("br"), between(...stop.window)]], whoAndWhere(stop), partyAndFare(stop, dues)];
+    const cells = [[part("strong", {}, clock(stop.at)), stop.window && [part("br"), part("span", { class: "more" }, between(...stop.window))]], whoAndWhere(stop, stop.trip === undefined ? [] : notes(stop.trip)), partyAndFare(stop, dues)];
     return part("tbody", {}, part("tr", {}, cells.map((cell) => part("td", {}, cell)), ["", "", "", ""].map(() => part("td", { class: "blank" }))));
 }
 
@@ -68,42 +75,71 @@ const ownPages = (texts) => texts.map((text) => part("pre", { class: "own-text" 
 
 const blank = (/** @type {string} */ name) => part("span", { class: "fill" }, t(name), " ", part("span", { class: "line" }));
 
-/** The manifest of a vehicle on a page of its own.
- * @param {Manifest} manifest @param {Dues} dues
+/** @typedef {{ original?: boolean, notes?: (vehicle: number, trip: number) => { minute: number, text: string }[], duty?: (vehicle: number) => string }} Options original: with
+ *     the desk's own text; notes of the day; who drives the vehicle on it */
+
+/** @typedef {{ from: number, to: number, page: number, pages: number }} Page the rows of a page, its number and how many pages the manifest has */
+
+/** A page of a vehicle's manifest. The first one has what the driver signs.
+ * @param {Manifest} manifest @param {Dues} dues @param {Options} options @param {Page} page
  */
-function manifestPaper(manifest, dues) {
+function manifestPage(manifest, dues, { notes = () => [], duty = () => "" }, { from, to, page, pages }) {
     const heads = ["planned", "who-where", "party", "arrived", "left", "odometer", "paid"].map((name) => part("th", { scope: "col" }, t(`dispatcher.head-${name}`)));
-    // (the first row of the head is on each page of a long manifest)
-    const title = part("h2", {}, t("dispatcher.manifest-of", { vehicle: vehicleName(manifest.vehicle), day: dayInWords(manifest.day) }));
-    const blanks = ["driver", "signature", "odometer-out", "odometer-in", "fares"].map((name) => [blank(`dispatcher.fill-${name}`), " "]);
-    return part("section", { class: "van" }, part("p", { class: "own-head" }, [agency().name, agency().telephone].filter(Boolean).join(", ")),
-        part("p", { class: "signatures" }, blanks), part("table", { class: "manifest" }, part("colgroup", {}, heads.map(() => part("col"))),
-            part("thead", {}, part("tr", {}, part("th", { class: "title", colspan: COLUMNS }, title)), part("tr", {}, heads)), linesOf(manifest).map(([line, stop]) => stopRows(line, stop, dues))));
+    const label = duty(manifest.vehicle), title = part("h2", {}, t("dispatcher.manifest-of", { vehicle: vehicleName(manifest.vehicle), day: dayInWords(manifest.day) }),
+        label && part("small", {}, ` ${label}`));
+    const blanks = ["driver", "signature", "odometer-out", "odometer-in", "fares"].map((name) => [blank(`dispatcher.fill-${name}`), " "]), ofVan = notes(manifest.vehicle, 0);
+    return part("section", { class: "van" }, part("p", { class: "own-head" }, part("span", {}, [agency().name, agency().telephone].filter(Boolean).join(", ")),
+        part("span", { class: "page-of" }, t("dispatcher.page-of", { page, pages }))), title,
+    page === 1 && part("div", { class: "first" }, part("p", { class: "signatures" }, blanks), ofVan.length > 0 && part("p", {}, notesWords(ofVan))),
+    part("table", { class: "manifest" }, part("colgroup", {}, heads.map(() => part("col"))), part("thead", {}, part("tr", {}, heads)),
+        linesOf(manifest).slice(from, to).map(([line, stop]) => stopRows(line, stop, dues, (trip) => notes(manifest.vehicle, trip)))));
 }
 
-/** @param {Manifest[]} manifests @param {Dues} dues @param {{ original?: boolean }} options original: with the desk's own text */
-export const printManifests = (manifests, dues, { original = false } = {}) => printParts("", [manifests.map((manifest) => manifestPaper(manifest, dues)),
-    original && ownPages(manifests.map(({ text }) => text))], { class: "manifests" });
+/** @param {Manifest} manifest @returns {Page} */
+const onOnePage = (manifest) => ({ from: 0, to: linesOf(manifest).length, page: 1, pages: 1 });
+
+/** The pages of each manifest, by the heights that its rows have on paper as wide as what is printed.
+ * @param {Manifest[]} manifests @param {(manifest: Manifest, page: Page) => import("../types").Part} draw @returns {Page[][]}
+ */
+function measured(manifests, draw) {
+    const paper = found("paper");
+    paper.className = "manifests measured";
+    drawInto(paper, manifests.map((manifest) => draw(manifest, onOnePage(manifest))));
+    return [...paper.querySelectorAll(".van")].map((van) => {
+        const high = (/** @type {Element | null} */ it) => it?.getBoundingClientRect().height ?? 0, rows = [...van.querySelectorAll("tbody")];
+        const all = rows.map(high), head = high(van) - all.reduce((sum, it) => sum + it, 0), room = PAGE - SPARE - head;
+        const pages = pagesOf(all, room, room + high(van.querySelector(".first")));
+        return pages.map(([from, to], at) => ({ from, to, page: at + 1, pages: pages.length }));
+    });
+}
+
+/** Each manifest on pages of its own, which are numbered.
+ * @param {Manifest[]} manifests @param {Dues} dues @param {Options} options
+ */
+export function printManifests(manifests, dues, options = {}) {
+    const draw = (/** @type {Manifest} */ manifest, /** @type {Page} */ page) => manifestPage(manifest, dues, options, page), pages = measured(manifests, draw);
+    printParts("", [manifests.map((manifest, at) => pages[at].map((page) => draw(manifest, page))), options.original && ownPages(manifests.map(({ text }) => text))], { class: "manifests" });
+}
 
 // The day sheet.
 
-/** @param {Manifest} manifest */
-function sheetRows(manifest) {
+/** @param {Manifest} manifest @param {string} label */
+function sheetRows(manifest, label) {
     const named = (/** @type {Stop} */ stop) => [clock(stop.at), stop.rider === undefined ? t("dispatcher.depot") : riderLabel(stop.rider), placeName(stop.place),
         stop.window ? between(...stop.window) : "", String(aboardAt(stop))];
     const row = (/** @type {string} */ line, /** @type {Stop | null} */ stop) => part("tr", {}, stop ? named(stop).map((cell) => part("td", {}, cell)) : part("td", { colspan: LINES }, line));
-    return part("tbody", {}, part("tr", { class: "van-row" }, part("th", { colspan: LINES, scope: "rowgroup" }, vehicleName(manifest.vehicle))),
+    return part("tbody", {}, part("tr", { class: "van-row" }, part("th", { colspan: LINES, scope: "rowgroup" }, [vehicleName(manifest.vehicle), label].filter(Boolean).join(": "))),
         linesOf(manifest).map(([line, stop]) => row(line, stop)));
 }
 
 /** The day sheet as a table, on as many pages as it needs.
- * @param {string} day @param {Manifest[]} manifests @param {string} text the desk's own, whose last line says how many trips stand @param {{ original?: boolean }} options
+ * @param {string} day @param {Manifest[]} manifests @param {string} text the desk's own, whose last line says how many trips stand @param {Options} options
  */
-export function printDaySheet(day, manifests, text, { original = false } = {}) {
+export function printDaySheet(day, manifests, text, { original = false, duty = () => "" } = {}) {
     const heads = ["time", "rider", "where", "promised", "aboard"].map((name) => part("th", { scope: "col" }, t(`dispatcher.head-${name}`)));
     const last = /^TRIPS \d+$/m.exec(text)?.[0] ?? "";
     printParts(t("dispatcher.sheet-of", { day: dayInWords(day) }), [part("table", { class: "day-sheet" }, part("thead", {}, part("tr", {}, heads)),
-        manifests.map(sheetRows)), part("p", {}, last), original && ownPages([text])], { class: "sheets" });
+        manifests.map((it) => sheetRows(it, duty(it.vehicle)))), part("p", {}, last), original && ownPages([text])], { class: "sheets" });
 }
 
 // Whom to call.

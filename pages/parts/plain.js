@@ -23,3 +23,8 @@ export function plainOf(typed) {
     });
     return { text: signs.join("").replace(/ {2,}/g, " ").trim(), lost: [...lost] };
 }
+
+/** How many bytes of UTF-8 a text has: by these the desk counts.
+ * @param {string} text
+ */
+export const bytesOf = (text) => new TextEncoder().encode(text).length;

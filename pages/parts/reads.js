@@ -6,18 +6,20 @@ import { afterHearing, isDue, isOld, NOTHING, RENEWED, RETRIED } from "./ages.js
 import { clock, dayShort, minuteNow, serverNow, today } from "./clock.js";
 import * as desk from "./desk.js";
 import { part } from "./element.js";
+import { whenSignedOut } from "./leaving.js";
 import { t } from "./words.js";
 
 /** @typedef {import("./ages.js").Kept} Kept */
 /** @typedef {(path: string) => Promise<any>} Ask */
 /** @typedef {(ask: Ask, before: any) => Promise<any>} Reader how a path is read: before is the value that is kept of it, undefined where there is none */
 /** @typedef {{ act: () => void, shown: boolean }} Watcher */
-/** @typedef {{ path: string, read: Reader, period: number, kept: Kept, begun: number | null, waits: boolean, missed: boolean, old: boolean,
- *   watchers: Map<HTMLElement, Watcher> }} Source missed: it was asked for while its first read was under way, and that may be of before */
+/** @typedef {{ path: string, read: Reader, period: number, quiet: boolean, kept: Kept, begun: number | null, waits: boolean, missed: boolean, old: boolean,
+ *   watchers: Map<HTMLElement, Watcher> }} Source period is the shortest of those who ask; quiet: it costs many requests, so it is read where somebody
+ *   asks for it alone; missed: it was asked for while its first read was under way, and that may be of before */
 /** @typedef {{ reply: () => any, age: () => import("../types").Given, again: () => Promise<any>, watch: (place: HTMLElement, act: () => void) => () => void }} Reading
  *   again reads until it is answered; watch follows each reply as long as the place is on the page, or until what it gives is called */
 
-const LOOKED = 2_000, SOON = 150, FORGOTTEN = 600_000, CHANNEL = "desk.written";
+const LOOKED = 2_000, SOON = 150, OFTEN = 1_000, FORGOTTEN = 600_000, CHANNEL = "desk.written";
 
 /** @type {Map<string, Source>} */
 const sources = new Map();
@@ -75,7 +77,7 @@ const isWatched = (source) => [...source.watchers.keys()].some((place) => place.
 /** Reads all that is shown once more, whatever its age. */
 export function readAll() {
     for (const source of sources.values()) {
-        if (!isWatched(source)) continue;
+        if (!isWatched(source) || (source.quiet && source.kept.reply !== null)) continue;
         if (source.waits && source.kept.reply === null) source.missed = true;
         else renew(source);
     }
@@ -83,14 +85,16 @@ export function readAll() {
 
 /** @type {ReturnType<typeof setTimeout> | undefined} */
 let soon;
+let lastRead = -OFTEN;
 
-/** The same, once for all that is written in one moment. */
+/** The same, once for all that is written in one moment, and once a second where much is written. */
 function readSoon() {
     if (soon !== undefined) return;
     soon = setTimeout(() => {
         soon = undefined;
+        lastRead = performance.now();
         readAll();
-    }, SOON);
+    }, Math.max(SOON, lastRead + OFTEN - performance.now()));
 }
 
 /** Reads what is due, and lets what has grown old say so. */
@@ -99,7 +103,7 @@ function look() {
     for (const [path, source] of sources) {
         if (source.old !== isOld(source.kept, now)) tell(source);
         if (isWatched(source)) {
-            if (!document.hidden && !source.waits && isDue(source.begun, now, source.kept.failed ? Math.min(RETRIED, source.period) : source.period)) renew(source);
+            if (!document.hidden && !source.waits && !source.quiet && isDue(source.begun, now, source.kept.failed ? Math.min(RETRIED, source.period) : source.period)) renew(source);
         } else if (!source.waits && isDue(source.begun, now, FORGOTTEN)) sources.delete(path);
     }
 }
@@ -114,19 +118,20 @@ function ageOf(kept) {
 }
 
 /** What is known of a path. It is read by its reader, or as it is.
- * @param {string} path @param {{ read?: Reader, period?: number }} options @returns {Reading}
+ * @param {string} path @param {{ read?: Reader, period?: number, quiet?: boolean }} options @returns {Reading}
  */
-export function reading(path, { read = (ask) => ask(path), period = RENEWED } = {}) {
+export function reading(path, { read = (ask) => ask(path), period = RENEWED, quiet = false } = {}) {
     /** @returns {Source} */
     const source = () => {
-        const known = sources.get(path) ?? { path, read, period, kept: NOTHING, begun: null, waits: false, missed: false, old: false, watchers: new Map() };
+        const known = sources.get(path) ?? { path, read, period, quiet, kept: NOTHING, begun: null, waits: false, missed: false, old: false, watchers: new Map() };
+        known.period = Math.min(known.period, period);
         sources.set(path, known);
         return known;
     };
     const watch = (/** @type {HTMLElement} */ place, /** @type {() => void} */ act) => {
         const watched = source();
         watched.watchers.set(place, { act, shown: place.isConnected });
-        renew(watched);
+        if (!watched.quiet || watched.kept.reply === null) renew(watched);
         return () => { watched.watchers.delete(place); };
     };
     return { watch, reply: () => sources.get(path)?.kept.reply ?? null, age: () => ageOf(sources.get(path)?.kept ?? NOTHING), again: () => readSurely(source()) };
@@ -140,11 +145,11 @@ export const fileAt = (path) => async () => {
     return status === 0 || status === 429 || status >= 500 ? { silent: "common.silent" } : { value: status === 200 ? text : null, status };
 };
 
-/** Nothing that was read stays once somebody has signed out. */
-export function forgetReads() {
+// Nothing that was read stays once somebody has signed out.
+whenSignedOut(() => {
     sources.clear();
     era += 1;
-}
+});
 
 desk.whenWrote(() => {
     others?.postMessage("written");

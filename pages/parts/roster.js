@@ -59,7 +59,7 @@ const idIn = (text) => (/^\d{1,10}$/.test(text) && Number(text) >= 1 && Number(t
 function rowOf(cells, rider) {
     const name = cells.name ?? "", telephone = cells.telephone ?? "";
     return { rider, name, telephone, language: (cells.language ?? "").toLowerCase().slice(0, 2), home: idIn(cells.home ?? ""),
-        usual: (cells.usual ?? "").split(/[\s;]+/).map(idIn).filter((it) => it !== null).map(Number), aid: cells.aid ?? "", note: cells.note ?? "",
+        usual: (cells.usual ?? "").split(/[\s;]+/).map(idIn).filter((it) => it !== null).map(Number), aid: cells.aid ?? "", attendant: cells.attendant ?? "", note: cells.note ?? "",
         sought: ` ${searchable(name)}`, digits: telephone.replace(/\D/g, ""), number: String(rider) };
 }
 

@@ -4,59 +4,68 @@
 // Beside it stand offers that nobody has answered, and what was being asked when a window was closed: both are taken up at the next sight of the
 // rider. All of it is bound to the digest of the key, and is of trips and minutes alone but for what is being asked.
 
-import { placeOf } from "./agency.js";
+import { agency, placeOf } from "./agency.js";
 import * as desk from "./desk.js";
-import { guessedDrive, isAsSaid, isMadeUp, requestsOf } from "./wishes.js";
+import { keepObject, keptObject } from "./kept.js";
+import { toldRead } from "./told.js";
+import { guessedDrive, isMadeUp } from "./wishes.js";
 
 /** @typedef {import("../types").Trip} Trip */
 /** @typedef {import("./wishes.js").Mode} Mode */
 /** @typedef {import("./wishes.js").Said} Said */
 /** @typedef {{ mode: Mode, minute: number, by?: number | null }} Named what a rider named: the mode, its minute, and a minute to be there by beside a pickup */
 /** @typedef {Named & { from?: number, to?: number }} Kept with the window that was promised for it */
-/** @typedef {{ said: Said, old: Trip | null, counted: boolean }} Offer old is the trip as it was before a change */
-/** @typedef {{ id: string, window: string, since: number, rider: number, wish: import("../types").Wish, said: Said, old: Trip | null }} Asking */
+/** @typedef {{ said: Said, old: Trip | null, counted: boolean, elsewhere?: "booking" | "change" }} Offer old is the trip as it was before a change; elsewhere says what the
+ *   trip was where another browser was offered it: how it was before is not known here */
+/** @typedef {import("./taken-up.js").Asking} Asking */
 
-const SAID = "desk.said", OFFERS = "desk.offers", ASKING = "desk.asking", WINDOW = "desk.window", PATH = "/staff/today.json";
-/** How many trips are remembered; how long what another window asks is left to it, and how long it is looked for. */
-const MOST = 500, MILLISECONDS = 1000, OTHERS = 60 * MILLISECONDS, LOOKED = 600 * MILLISECONDS;
+const SAID = "desk.said", OFFERS = "desk.offers", ASKING = "desk.asking";
+/** How many trips are remembered. */
+const MOST = 500;
 
-/** @type {Record<string, Kept>} */
-let served = {};
-/** What this page asks just now.
- * @type {Set<string>}
+/** @typedef {Kept & { rider: number, day: string, offer: "booking" | "change" }} Offered */
+/** What the site's log knows of bookings and offers, as it was last taken out of its text.
+ * @type {{ text: string | null, bookings: Record<string, Kept>, offers: Record<string, Offered> }}
  */
-const running = new Set();
+let served = { text: null, bookings: {}, offers: {} };
+/** What this page asks just now, whose key began it, and how its lock is let go.
+ * @type {Map<string, { whose: string | null, release: () => void }>}
+ */
+const running = new Map();
 
 // The browser's store. Without one nothing is remembered, and nothing fails.
 
-/** @param {string} name @returns {any} */
-function stored(name) {
+/** @param {string} name @param {string | null} [whose] @returns {any} */
+const stored = (name, whose = desk.digest()) => keptObject(`${name}.${whose}`);
+
+/** @param {string} name @param {string | number} key @param {any} value null drops it @param {string | null} [whose] */
+function put(name, key, value, whose = desk.digest()) {
+    const { [key]: _, ...others } = stored(name, whose), kept = Object.entries(value === null ? others : { ...others, [key]: value }).slice(-MOST);
+    keepObject(`${name}.${whose}`, kept.length ? Object.fromEntries(kept) : null);
+}
+
+// What was said.
+
+/** @param {string | null} text @returns {any} */
+function objectIn(text) {
     try {
-        const it = JSON.parse(localStorage.getItem(`${name}.${desk.digest()}`) ?? "{}");
-        return typeof it === "object" && it !== null && !Array.isArray(it) ? it : {};
+        return JSON.parse(text ?? "") ?? {};
     } catch {
         return {};
     }
 }
 
-/** @param {string} name @param {Record<string, any>} value */
-function store(name, value) {
-    try {
-        const kept = Object.entries(value).slice(-MOST);
-        if (kept.length) localStorage.setItem(`${name}.${desk.digest()}`, JSON.stringify(Object.fromEntries(kept)));
-        else localStorage.removeItem(`${name}.${desk.digest()}`);
-    } catch {
-        // (no room, or no store)
+const tableIn = (/** @type {any} */ it) => (typeof it === "object" && it !== null && !Array.isArray(it) ? it : {});
+
+/** What the site's log knows of bookings and offers, for staff, as far as it was read; a missing file is none. */
+function servedNow() {
+    const text = toldRead().reply()?.value ?? null;
+    if (text !== served.text) {
+        const { bookings, offers } = objectIn(text);
+        served = { text, bookings: tableIn(bookings), offers: tableIn(offers) };
     }
+    return served;
 }
-
-/** @param {string} name @param {string | number} key @param {any} value null drops it */
-function put(name, key, value) {
-    const { [key]: _, ...others } = stored(name);
-    store(name, value === null ? others : { ...others, [key]: value });
-}
-
-// What was said.
 
 /** @param {import("../types").Ticket} ticket @param {Said} said */
 export const keepSaid = ({ trip, window_from: from, window_to: to }, { mode, minute, by }) => put(SAID, trip, { mode, minute, by, from, to });
@@ -69,22 +78,7 @@ const holds = (kept, trip) => kept !== undefined && ["around", "not-before", "by
  * @param {{ trip: number, window_from: number, window_to: number }} trip @returns {Named | null}
  */
 export function saidOf(trip) {
-    return [stored(SAID)[trip.trip], served[trip.trip]].find((kept) => holds(kept, trip)) ?? null;
-}
-
-/** What the site's log knows of bookings, for staff; a missing file is none. Whether something was read.
- * @returns {Promise<boolean>}
- */
-export async function readSaid() {
-    const { status, text } = await desk.fetchFile(PATH);
-    try {
-        const { bookings } = status === 200 ? JSON.parse(text ?? "") : { bookings: null };
-        if (typeof bookings !== "object" || bookings === null) return false;
-        served = bookings;
-        return true;
-    } catch {
-        return false;
-    }
+    return [stored(SAID)[trip.trip], servedNow().bookings[trip.trip]].find((kept) => holds(kept, trip)) ?? null;
 }
 
 /** Minutes of driving, guessed.
@@ -110,53 +104,77 @@ export const keepOffer = (trip, offer) => put(OFFERS, trip, offer);
 export const dropOffer = (trip) => put(OFFERS, trip, null);
 /** @param {number} trip @returns {Offer | null} */
 export const offerOf = (trip) => stored(OFFERS)[trip] ?? null;
-/** The numbers of trips whose offer nobody has answered. */
-export const openOffers = () => Object.keys(stored(OFFERS)).map(Number);
 
-// What is being asked.
+/** Whether the site's log has a trip as kept in the window that was offered here: another clerk answered the offer.
+ * @param {import("../types").Ticket} offer @param {Trip | null} old the trip as it was before a change: what the log has may be of then
+ */
+export const isKeptElsewhere = (offer, old) => holds(servedNow().bookings[offer.trip], offer)
+    && !(old?.window_from === offer.window_from && old.window_to === offer.window_to);
 
-function windowsName() {
-    const name = sessionStorage.getItem(WINDOW) ?? desk.newKey();
-    sessionStorage.setItem(WINDOW, name);
-    return name;
+/** The offer that a trip is until somebody has answered it: as this browser knows it, or the site's log, whose file is some seconds old.
+ * @param {Trip} trip @returns {Offer | null}
+ */
+export function openOffer(trip) {
+    if (trip.status !== "booked") return null;
+    const told = servedNow().offers[trip.trip], own = offerOf(trip.trip);
+    if (own && isKeptElsewhere(trip, own.old)) return null;
+    if (own || !holds(told, trip) || holds(stored(SAID)[trip.trip], trip) || holds(servedNow().bookings[trip.trip], trip)) return own;
+    return { said: { mode: told.mode, minute: told.minute, by: null, drive: driveOf(trip), lead: agency().lead, change: told.offer === "change" }, old: null, counted: true,
+        elsewhere: told.offer === "change" ? "change" : "booking" };
 }
 
-/** Writes down what is about to be asked, so that a closed window leaves no trip that nobody knows of.
- * @param {number} rider @param {import("../types").Wish} wish @param {Said} said @param {Trip | null} old @returns {string}
- */
-export function beginAsking(rider, wish, said, old) {
-    const id = desk.newKey();
-    running.add(id);
-    put(ASKING, id, { id, window: windowsName(), since: Date.now(), rider, wish, said, old });
+/** The offers that the site's log knows and nobody has answered, by trip, for the list of what waits. */
+export const offersTold = () => Object.entries(servedNow().offers).filter(([, it]) => Number.isInteger(it?.rider) && Number.isInteger(it.minute))
+    .map(([trip, it]) => ({ ...it, trip: Number(trip) }));
+
+// What is being asked. As long as a page asks, it holds a lock: what nobody holds any more was left open by a window that is gone.
+
+/** @param {string} id */
+const lockOf = (id) => `desk asking ${id}`;
+
+/** @param {Omit<import("./taken-up.js").Booking, "id" | "since"> | Omit<import("./taken-up.js").Canceling, "id" | "since">} asking */
+function begin(asking) {
+    const id = desk.newKey(), whose = desk.digest();
+    const held = new Promise((release) => running.set(id, { whose, release: () => release(null) }));
+    navigator.locks?.request(lockOf(id), () => held);
+    put(ASKING, id, { id, since: Date.now(), ...asking });
     return id;
 }
 
-/** @param {string} id */
-export function endAsking(id) {
-    running.delete(id);
-    put(ASKING, id, null);
-}
-
-/** @param {Asking} asking @param {Trip[]} trips */
-function foundIn({ wish, said, old }, trips) {
-    const wishes = requestsOf(said).map((it) => it.wish);
-    return trips.find((trip) => trip.status === "booked" && (old ? trip.trip === old.trip && trip.window_from !== old.window_from : trip.day === wish.day
-        && trip.from === wish.from && trip.to === wish.to && saidOf(trip) === null) && wishes.includes(trip.wish)) ?? null;
-}
-
-/** Takes up what was being asked for a rider when its window was closed: what was booked is what the rider said, or an offer.
- * @param {number} rider @param {Trip[]} trips @returns {{ trip: Trip, said: Said }[]} what was booked as it was said: the site is not told of it yet
+/** Writes down what is about to be asked, so that a closed window leaves no trip that nobody knows of.
+ * @param {number} rider @param {import("../types").Wish} wish @param {Said} said @param {Trip | null} old @param {number[]} [agreed] other wishes that the rider has agreed to
  */
-export function takeUp(rider, trips) {
-    /** @type {{ trip: Trip, said: Said }[]} */
-    const booked = [];
-    const all = /** @type {Asking[]} */ (Object.values(stored(ASKING))).filter((it) => it.rider === rider && !running.has(it.id));
-    for (const asking of all) {
-        const age = Date.now() - asking.since, trip = foundIn(asking, trips);
-        if (asking.window !== windowsName() && age < OTHERS) continue;
-        if (trip && isAsSaid(asking.said, trip)) booked.push({ trip, said: asking.said });
-        else if (trip && !offerOf(trip.trip)) keepOffer(trip.trip, { said: asking.said, old: asking.old, counted: false });
-        if (trip || age > LOOKED) put(ASKING, asking.id, null);
-    }
-    return booked;
+export const beginAsking = (rider, wish, said, old, agreed) => begin({ rider, wish, said, old, agreed });
+
+/** The same of a trip that is about to be cancelled.
+ * @param {number} rider @param {Trip} trip
+ */
+export const beginCanceling = (rider, trip) => begin({ rider, cancels: trip });
+
+/** Nobody knows what came of it: it is looked for at the next sight of the rider.
+ * @param {string} id
+ */
+export function leaveAsking(id) {
+    running.get(id)?.release();
+    running.delete(id);
+}
+
+/** What came of it is known.
+ * @param {string} id
+ */
+export function endAsking(id) {
+    const whose = running.get(id)?.whose ?? desk.digest();
+    leaveAsking(id);
+    put(ASKING, id, null, whose);
+}
+
+/** What was left open by windows that are gone, of all riders or of one. null where a window is asking for that rider just now.
+ * @param {number | null} [rider] @returns {Promise<Asking[] | null>}
+ */
+export async function leftOpen(rider = null) {
+    const all = /** @type {Asking[]} */ (Object.values(stored(ASKING))).filter((it) => rider === null || it?.rider === rider);
+    if (!all.length) return [];
+    const names = new Set((await navigator.locks?.query())?.held?.map(({ name }) => name));
+    const open = all.filter(({ id }) => !running.has(id) && !names.has(lockOf(id)));
+    return rider !== null && open.length < all.length ? null : open;
 }

@@ -4,6 +4,9 @@ import { drawInto, make } from "./element.js";
 import { onNewDay as newDay } from "./clock.js";
 import { t } from "./words.js";
 
+/** What is gone from the page is noticed within so many milliseconds. */
+const GONE_LOOKED = 1_000;
+
 /** @typedef {import("../types").Given} Given */
 /** @typedef {{ focus?: string | null }} Options */
 
@@ -31,16 +34,26 @@ function focusedIn(place) {
     return way;
 }
 
-/** Where the focus stays though the focused element is gone.
- * @param {HTMLElement[]} way @param {string} id
+/** Whether an element is on the page and is seen: what is hidden would lose the focus.
+ * @param {HTMLElement} it
  */
-function focusAgain(way, id) {
-    const [first] = way;
-    if (!first || document.activeElement === first) return;
-    if (first.isConnected) return first.focus({ preventScroll: true });
-    const same = id && document.getElementById(id);
-    const left = same || way.find((it) => it.isConnected);
-    if (left && document.activeElement === document.body) focusOn(left);
+const takesFocus = (it) => it.isConnected && it.getClientRects().length > 0;
+
+/** An element, or what is around it where that is hidden.
+ * @param {HTMLElement} it @returns {HTMLElement}
+ */
+const seenFrom = (it) => (takesFocus(it) || !it.parentElement ? it : seenFrom(it.parentElement));
+
+/** Where the focus stays though the focused element is gone, or hidden.
+ * @param {HTMLElement[]} way @param {string} id @param {HTMLElement} place
+ */
+function focusAgain(way, id, place) {
+    const [first] = way, active = document.activeElement;
+    if (!first || (active === first && takesFocus(first))) return;
+    if (takesFocus(first)) return first.focus({ preventScroll: true });
+    const same = first.isConnected ? null : id && document.getElementById(id);
+    const left = same || way.find(takesFocus) || seenFrom(place);
+    if (left && (active === document.body || active === first)) focusOn(left);
 }
 
 /** What draws the screen of a place.
@@ -66,7 +79,7 @@ export function makeScreen({ state: first, draw, class: kind = "stack" }) {
         state = { ...state, ...(typeof patch === "function" ? patch(state) : patch) };
         show();
         const target = focus && document.getElementById(focus);
-        if (target && place.isConnected) focusOn(target);
+        if (target && place.isConnected) focusOn(seenFrom(target));
     };
 
     const show = () => {
@@ -85,15 +98,16 @@ export function makeScreen({ state: first, draw, class: kind = "stack" }) {
             drawInto(place, make("p", { class: "denial", role: "alert" }, t("common.not-drawn")));
         }
         things = asked;
-        focusAgain(way, id);
+        focusAgain(way, id, place);
     };
 
     const every = (/** @type {number} */ milliseconds, /** @type {() => void} */ act) => whileShown(place, milliseconds, act);
     const onNewDay = (/** @type {() => void} */ act) => newDay(place, act);
+    const onGone = (/** @type {() => void} */ act) => onceGone(place, act);
     const onMedia = (/** @type {string} */ query) => whileMatched(place, query, show);
     shows.set(place, show);
     show();
-    return { element: place, get state() { return state; }, change, every, onNewDay, onMedia };
+    return { element: place, get state() { return state; }, change, every, onNewDay, onGone, onMedia };
 }
 
 /** Does something again and again while an element is on the page and the window is seen.
@@ -108,6 +122,17 @@ export function whileShown(place, milliseconds, act) {
             if (!document.hidden) act();
         } else if (shown) clearInterval(clock);
     }, milliseconds);
+}
+
+/** Does something once, when an element is on the page no more.
+ * @param {HTMLElement} place @param {() => void} act
+ */
+function onceGone(place, act) {
+    const clock = setInterval(() => {
+        if (place.isConnected) return;
+        clearInterval(clock);
+        act();
+    }, GONE_LOOKED);
 }
 
 /** Does something where a phone is turned, or the page zoomed, past what a query of media says, as long as an element is on the page.

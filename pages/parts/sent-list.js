@@ -1,7 +1,8 @@
 // What was asked of the desk for a rider's trips, and what came of each. Nothing here knows of a page or of the desk.
 
 /** @typedef {import("../types").Wish} Wish */
-/** @typedef {"planned" | "sending" | "booked" | "denied" | "unsent"} State planned: it waits for its turn; unsent: the page was gone before its turn came */
+/** @typedef {"planned" | "sending" | "booked" | "denied" | "unsent" | "nothing" | "offered" | "cancelled" | "stands"} State planned: it waits for its turn; unsent: the page
+ *   was gone before its turn came; nothing, offered, cancelled, stands: what the desk had of it once its window was closed */
 /** @typedef {{ mode: string, minute: number } | null} Said what the rider named: the minute of a wish is the page's */
 /** @typedef {{ rider: number, wish: Wish, said: Said, trip: number | null, state: State, reply: any, late: boolean, cut?: boolean }} Leg trip is the number of a trip that is
  *   changed, reply the desk's, late says that whoever asked could not see the answer at once,
@@ -50,6 +51,11 @@ export function afterLoading(legs) {
     const open = new Set(legs.filter(isOpen).map(({ rider }) => rider));
     return legs.filter(({ rider, late }) => late || open.has(rider)).map((leg) => ({ ...leg, state: leg.state === "planned" ? "unsent" : leg.state, late: true, cut: leg.cut === true || (!leg.late && leg.state !== "planned") }));
 }
+
+/** What the desk had of something whose window was closed. What this window's list tells already stands there once.
+ * @param {Leg[]} legs @param {Leg} taken @returns {Leg[]}
+ */
+export const afterTakingUp = (legs, taken) => (taken.state !== "cancelled" && taken.state !== "stands" && lastAt(legs, (leg) => isSame(leg, taken) && leg.late) >= 0 ? legs : [...legs, taken]);
 
 /** All that was to be asked for a rider was asked: what was seen is not kept, and what was left out on purpose is no loss.
  * @param {Leg[]} legs @param {number} rider @returns {Leg[]}

@@ -9,7 +9,7 @@ import { button, part } from "./element.js";
 import { dropNote, note } from "./notes.js";
 import { riderLabel } from "./roster.js";
 import { makeScreen } from "./screen.js";
-import { afterAnswer, afterEnding, afterLoading, afterPlanning, afterReading, afterSending, riderOfChange, toBeRead } from "./sent-list.js";
+import { afterAnswer, afterEnding, afterLoading, afterPlanning, afterReading, afterSending, afterTakingUp, riderOfChange, toBeRead } from "./sent-list.js";
 import { isOfMinute } from "./wishes.js";
 import { t } from "./words.js";
 
@@ -108,6 +108,9 @@ function words(leg) {
     const { rider, wish, said, state, reply, trip } = leg;
     const way = { day: dayShort(wish.day), from: placeName(wish.from), to: placeName(wish.to), rider: riderLabel(rider),
         said: said ? t(`sent.said-${said.mode}`, { time: clock(said.minute) }) : "" };
+    if (state === "cancelled" || state === "stands") return t(`sent.${state}`, { ...way, trip, window: between(reply.window_from, reply.window_to) });
+    if (state === "offered") return t("sent.offered", { ...way, trip: reply.trip, window: between(reply.window_from, reply.window_to) });
+    if (state === "nothing") return t(trip === null ? "sent.nothing" : "sent.change-nothing", { ...way, trip });
     if (state === "booked") return t(trip === null ? "sent.booked" : "sent.changed", { ...way, trip: reply.trip, window: between(reply.window_from, reply.window_to) });
     if (trip !== null && state !== "sending" && state !== "planned") return changeWords(leg, { ...way, trip });
     if (isCut(leg)) return t("sent.cut", way);
@@ -148,6 +151,16 @@ const isListed = (rider) => [...document.querySelectorAll(`[data-sent-list="${ri
 
 /** Looks once more whether something is to be read, as where another rider is shown. */
 export const lookAtSent = () => setTimeout(showNote);
+
+/** What came of something whose window was closed.
+ * @param {import("./taken-up.js").Asking} asking @param {import("./taken-up.js").Came} came
+ */
+export function tellTaken(asking, came) {
+    if (came.is === "waits") return;
+    const { rider } = asking, reply = "trip" in came ? came.trip : null, off = asking.cancels, known = off ? null : asking;
+    const wish = off ?? known?.wish, said = known ? { mode: known.said.mode, minute: known.said.minute } : null;
+    if (wish) keep(afterTakingUp(legs(), { rider, wish, said, trip: off?.trip ?? known?.old?.trip ?? null, state: came.is, reply, late: true }));
+}
 
 /** What the page that was here before has not sent, or has sent without seeing the answer. */
 export const unread = () => toBeRead(legs());

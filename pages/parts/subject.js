@@ -9,18 +9,13 @@ import { HIGHEST_ID } from "./limits.js";
 import { readAll } from "./reads.js";
 import { findRiders, folded, isTelephone, riderOf, rosterSize } from "./roster.js";
 import { makeScreen } from "./screen.js";
+import { keepSubject, keptSubject as subjectOf } from "./subject-kept.js";
 import { vehicleMeant, vehiclesFor as vehiclesIn } from "./vehicle-number.js";
 import { t } from "./words.js";
 
-/** @typedef {"rider" | "vehicle"} What */
+export { keepSubject, subjectOf };
 
-/** @param {What} what */
-const keyOf = (what) => `desk.subject.${what}`;
-
-/** @param {What} what @returns {number | null} */
-export const subjectOf = (what) => Number(sessionStorage.getItem(keyOf(what))) || null;
-/** @param {What} what @param {number} id */
-export const keepSubject = (what, id) => sessionStorage.setItem(keyOf(what), String(id));
+/** @typedef {import("./subject-kept.js").What} What */
 
 /** @param {string} typed */
 function numberIn(typed) {
@@ -99,11 +94,11 @@ export function withSubject({ what, label, action, draw, folded: folds = false, 
             tools = { change, state: () => screen.state };
             const same = shown !== null && meant(typed) === shown;
             const summary = part("summary", {}, shown === null ? t("fields.type-number") : other || `${label}: ${textOf(shown)}`);
-            return [folds ? part("details", { class: "folded", open: open || !same, on: { toggle: (event) => change({ open: event.target.open }) } }, summary, ask)
-                : part("div", { class: "card asked" }, ask),
-            shown !== null && !same && part("p", { class: "note", role: "status" }, t("fields.other-number", { typed: typed || "…", action })),
-            shown !== null && part("div", { class: "stack", id: `${what}-below`, key: `below-${shown}`, hidden: !same },
-                kept(`below-${shown}`, () => draw(shown)))];
+            const below = [shown !== null && !same && part("p", { class: "note", role: "status", key: "other" }, t("fields.other-number", { typed: typed || "…", action })),
+                shown !== null && part("div", { class: "stack", id: `${what}-below`, key: `below-${shown}`, hidden: !same }, kept(`below-${shown}`, () => draw(shown)))];
+            // (what is folded away stands below what one looks at)
+            return folds ? [below, part("details", { class: "folded", key: "field", open: open || !same, on: { toggle: (event) => change({ open: event.target.open }) } }, summary, ask)]
+                : [part("div", { class: "card asked" }, ask), below];
         },
     });
     return screen.element;

@@ -2,11 +2,12 @@
 // that outlives the page, and leaves it once the site has answered 204. The site's log has it twice where an answer was lost, and it counts once.
 
 import { momentNow } from "./clock.js";
-import { endOf, faultOf, namedIn, pathOf, pauseAfter } from "./counting.js";
+import { endOf, faultOf, isDue, namedIn, pathOf, pauseAfter } from "./counting.js";
 import { storeOf } from "./database.js";
 import * as desk from "./desk.js";
 import { EVENTS } from "./events.js";
 import { newKey } from "./key.js";
+import { whenSignedOut } from "./leaving.js";
 
 /** @typedef {import("./events.js").Kind} Kind */
 /** @typedef {import("./events.js").Fields} Fields */
@@ -20,7 +21,7 @@ import { newKey } from "./key.js";
  * @property {string | null} refused why the site will not have it: its answer, or the name of a field */
 /** @typedef {{ refused: Kept[], loose: number }} Trouble refused: what the site will not have; loose: how many wait in this window alone */
 
-const GAP = 250, UNSURE = 120_000, LOCK = "desk.counts";
+const GAP = 250, UNSURE = 120_000, LOOKED = 60_000, LOCK = "desk.counts";
 const within = storeOf("desk-counts", "events", { keyPath: "id" });
 
 /** Events for which this browser has no database or no room, while this page lives.
@@ -32,6 +33,9 @@ const tried = new Set();
 /** Events that the site has and the database could not let go.
  * @type {Set<string>} */
 const sent = new Set();
+/** Events that this page holds back.
+ * @type {Map<string, Kept>} */
+const held = new Map();
 /** @type {(trouble: Trouble) => void} */
 let tell = () => {};
 let running = false, again = false, tries = 0, timer = 0;
@@ -52,6 +56,7 @@ async function keep(event) {
 
 /** @param {string} id */
 async function drop(id) {
+    held.delete(id);
     loose.delete(id);
     sent.add(id);
     await stored(id, null).then(() => sent.delete(id), () => {});
@@ -84,6 +89,37 @@ export async function count(kind, fields) {
     sendCounts();
 }
 
+/** Keeps an event that may yet come to nothing: it is told at once where tell() is called, where the page is closed or its person signs out, and
+ * after so many milliseconds where nothing is; never where drop() comes first.
+ * @template {Kind} K @param {K} kind @param {Fields[K]} fields @param {number} longest */
+export function countLater(kind, fields, longest) {
+    const whole = filled(kind, fields), event = eventOf(kind, pathOf(kind, whole), whole.id, { fault: faultOf(kind, whole), held: longest });
+    const keeping = keep(event).then(sendCounts);
+    held.set(event.id, event);
+    return {
+        tell: async () => {
+            held.delete(event.id);
+            await keeping;
+            await keep({ ...event, from: 0 });
+            await sendCounts();
+        },
+        drop: () => keeping.then(() => drop(event.id)),
+    };
+}
+
+/** Tells what is held back, with the key that is still there: nothing of it changes any more. Where the site's answer does not come, it waits like
+ * any other event, and it counts once. */
+function tellHeld() {
+    for (const event of [...held.values()]) {
+        keep({ ...event, from: 0 });
+        if (!event.refused && desk.signedIn()) desk.postFile(event.path).then((status) => { if (endOf(status, true) === "kept") drop(event.id); });
+    }
+    held.clear();
+}
+
+whenSignedOut(tellHeld);
+window.addEventListener("pagehide", tellHeld);
+
 /** The same for an event whose path was made before, as the driver's log has it; whether it outlives this page.
  * @param {string} path */
 export async function countPath(path) {
@@ -107,7 +143,7 @@ const pause = (milliseconds) => new Promise((go) => { setTimeout(go, millisecond
 /** What is to be sent now, first. */
 async function next() {
     const now = Date.now();
-    return (await waiting()).find(({ id, from }) => from <= now && !tried.has(id)) ?? null;
+    return (await waiting()).find((it) => isDue(it, now) && !tried.has(it.id)) ?? null;
 }
 
 /** Sends what waits, until nothing does or there is no answer.
@@ -127,11 +163,15 @@ async function sendThem() {
     }
 }
 
-/** When something is to be sent again: after a pause where the site was silent, or when an event's time comes. */
+/** When something is to be sent again: after a pause where the site was silent, or when an event's time comes. Another window may have left some:
+ * that is looked for each minute. */
 async function wakeLater() {
-    const held = (await waiting()).filter(({ id }) => !tried.has(id)).map(({ from }) => from - Date.now());
-    if (held.length && desk.signedIn()) timer = Number(setTimeout(sendCounts, Math.max(tries ? pauseAfter(tries) : 0, Math.min(...held), GAP)));
+    const pauses = (await waiting()).filter(({ id }) => !tried.has(id)).map(({ from }) => from - Date.now());
+    clearTimeout(timer);
+    if (desk.signedIn()) timer = Number(setTimeout(lookAgain, Math.max(tries ? pauseAfter(tries) : 0, Math.min(LOOKED, ...pauses), GAP)));
 }
+
+const lookAgain = async () => (await next() ? sendCounts() : wakeLater());
 
 /** Sends what waits, and goes on by itself until the site has all of it. */
 export async function sendCounts() {

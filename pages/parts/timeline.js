@@ -16,11 +16,12 @@ import { t } from "./words.js";
 /** @typedef {Map<number, Doing>} Doings how each trip is doing */
 /** @typedef {(minute: number) => number} Across how far across the picture a minute is */
 /** @typedef {{ chosen: (vehicle: number) => void, selected: number | null, now: number | null, room: number, doings: Doings,
- *   labelled: (label: Label | null, spoken?: boolean) => void, lates?: Map<number, import("./lateness.js").Late> }} Options now is the minute of a line for the present; labelled follows the
+ *   labelled: (label: Label | null, spoken?: boolean) => void, lates?: Map<number, import("./lateness.js").Late>,
+ *   duty?: (vehicle: number) => string, noted?: (manifest: Manifest) => number }} Options now is the minute of a line for the present; labelled follows the
  *   stop that is pointed at, spoken where the arrow keys came to it */
 /** @typedef {{ vehicle: number, at: number, x: number }} Label at is the stop's place in its row */
 
-const HEIGHT = 36, LANE = 26, HOUR = 60, HOUR_WIDE = 64, EDGE = 32, SEAT = 3, MOST_HIGH = 12, TOLD = ["ridden", "missed-rider", "missed-operator"];
+const HEIGHT = 36, LANE = 26, HOUR = 60, HOUR_WIDE = 64, EDGE = 32, LEAST_FULL = 4, MOST_HIGH = 12, TOLD = ["ridden", "missed-rider", "missed-operator"];
 
 /** The first and the last whole hour that the day needs.
  * @param {Manifest[]} manifests @returns {[number, number]}
@@ -72,11 +73,16 @@ function stopShape(stop, across, doings, at) {
         state === "no-word" && stop.what === "DROP" && part("circle", { class: "no-word", cx: x, cy: LANE + 1, r: 8 }));
 }
 
-/** The way from a stop to the next, as high as the vehicle is full.
- * @param {Stop} stop @param {Stop} next @param {Across} across
+/** The most who are aboard at once on a day, which is the full height of a row's bars.
+ * @param {Manifest[]} manifests
  */
-function legShape(stop, next, across) {
-    const from = across(stop.at), wide = across(next.at) - from, high = Math.min(MOST_HIGH, SEAT * aboardAt(stop));
+const fullest = (manifests) => Math.max(LEAST_FULL, ...manifests.flatMap(({ stops }) => stops.map(aboardAt)));
+
+/** The way from a stop to the next, as high as many are aboard.
+ * @param {Stop} stop @param {Stop} next @param {Across} across @param {number} most the most aboard of the day
+ */
+function legShape(stop, next, across, most) {
+    const from = across(stop.at), wide = across(next.at) - from, high = Math.round(10 * MOST_HIGH * aboardAt(stop) / most) / 10;
     return [part("line", { class: "leg", x1: from, x2: from + wide, y1: HEIGHT - 2, y2: HEIGHT - 2, "stroke-width": 1.5 }),
         high > 0 && part("rect", { class: "load", x: from, y: HEIGHT - 2 - high, width: Math.max(1, wide), height: high })];
 }
@@ -158,29 +164,65 @@ function pointing({ vehicle, stops }, across, labelled) {
     } };
 }
 
+/** Brings a row into view below the hours, without moving the picture sideways.
+ * @param {HTMLElement} row
+ */
+export function bringIntoView(row) {
+    const frame = document.getElementById("picture"), above = frame?.querySelector(".hours")?.clientHeight ?? 0;
+    if (frame) frame.scrollTop = Math.max(row.offsetTop + row.offsetHeight - frame.clientHeight, Math.min(row.offsetTop - above, frame.scrollTop));
+}
+
+/** The up and down arrow keys go from van to van: from name to name, and from lane to lane.
+ * @param {KeyboardEvent} event
+ */
+function fromRowToRow(event) {
+    const row = /** @type {HTMLElement} */ (event.currentTarget), rows = [...row.parentElement?.querySelectorAll("[data-row]") ?? []], here = rows.indexOf(row);
+    const goal = /** @type {HTMLElement | undefined} */ (rows[{ ArrowDown: here + 1, ArrowUp: here - 1 }[event.key] ?? -1]);
+    if (!goal || event.ctrlKey || event.metaKey || event.altKey) return;
+    const isName = event.target instanceof Element && event.target.closest("button");
+    event.preventDefault();
+    /** @type {HTMLElement | null} */ (goal.querySelector(isName ? "button" : ".lane"))?.focus({ preventScroll: true });
+    bringIntoView(goal);
+}
+
 /** What a row's head says first: late, no update, or how many trips have ended.
  * @param {Manifest} manifest @param {Options} options
  */
-function headWords(manifest, { doings, lates }) {
-    const { silent, missed, trips, ended, longest } = rowFacts(manifest, doings), late = lates?.get(manifest.vehicle);
+function headWords(manifest, { doings, lates, noted }) {
+    const { silent, missed, trips, ended, longest } = rowFacts(manifest, doings), late = lates?.get(manifest.vehicle), notes = noted?.(manifest) ?? 0;
     return [late && late.delay >= LEAST_LATE ? part("span", { class: "late" }, t("dispatcher.late-short", { minutes: late.delay }))
         : late && late.silent > 0 ? part("span", { class: "silent" }, t("dispatcher.no-update-short", { time: longTime(late.silent) })) : t("dispatcher.row-short", { trips, ended }),
     silent > 0 && part("span", { class: "silent" }, ` ${t("dispatcher.silent-short", { count: silent, time: Number.isFinite(longest) ? longTime(longest) : "" })}`),
-    missed > 0 && ` ${t("dispatcher.missed-short", { count: missed })}`];
+    missed > 0 && ` ${t("dispatcher.missed-short", { count: missed })}`, notes > 0 && ` ${t("dispatcher.has-notes", { count: notes })}`];
 }
 
-/** @param {Manifest} manifest @param {[number, number]} hours @param {Across} across @param {number} width @param {Options} options */
-function row(manifest, hours, across, width, options) {
-    const { chosen, selected, now, doings, labelled, lates } = options, { vehicle, stops } = manifest, risks = new Set(lates?.get(vehicle)?.risks.map(({ trip }) => trip));
+/** What was last drawn of each vehicle, and of what: a renewal changes few rows, and the line of the present is apart.
+ * @type {Map<number, { from: string, made: Part }>}
+ */
+const lanes = new Map();
+
+/** The hours, legs, windows and stops of a row.
+ * @param {Manifest} manifest @param {[number, number]} hours @param {Across} across @param {number} width @param {number} most @param {Doings} doings @param {Set<number>} risks
+ */
+function laneOf({ vehicle, stops, text }, hours, across, width, most, doings, risks) {
+    const from = [width, most, ...hours, text, ...stops.map(({ trip }) => doings.get(Number(trip))?.state), "risks", ...risks].join(), last = lanes.get(vehicle);
+    if (last?.from === from) return last.made;
     const lines = wholeHours(hours).map((hour) => part("line", { class: "hour", x1: across(hour * HOUR), x2: across(hour * HOUR), y1: 0, y2: HEIGHT }));
     const windows = stops.filter(({ window }) => window).flatMap((stop, at) => windowShape(stop, across, at % 2 === 1, risks.has(Number(stop.trip))));
+    const made = part("g", {}, lines, stops.slice(1).map((next, at) => legShape(stops[at], next, across, most)), windows, stops.map((stop, at) => stopShape(stop, across, doings, at)));
+    lanes.set(vehicle, { from, made });
+    return made;
+}
+
+/** @param {Manifest} manifest @param {[number, number]} hours @param {Across} across @param {number} width @param {number} most @param {Options} options */
+function row(manifest, hours, across, width, most, options) {
+    const { chosen, selected, now, doings, labelled, lates, duty } = options, { vehicle } = manifest, label = duty?.(vehicle) ?? "", risks = new Set(lates?.get(vehicle)?.risks.map(({ trip }) => trip));
     const choose = () => chosen(vehicle), isChosen = vehicle === selected;
-    return part("div", { class: isChosen ? "lane-row chosen" : "lane-row", key: `row-${vehicle}`, "data-row": vehicle },
-        button([part("span", { class: "van-name" }, isChosen && part("span", { "aria-hidden": "true" }, "▸ "), vehicleName(vehicle)), part("small", {}, headWords(manifest, options))], choose,
+    return part("div", { class: isChosen ? "lane-row chosen" : "lane-row", key: `row-${vehicle}`, "data-row": vehicle, on: { keydown: fromRowToRow } },
+        button([part("span", { class: "van-name" }, isChosen && part("span", { "aria-hidden": "true" }, "▸ "), vehicleName(vehicle), label && part("span", { class: "duty" }, ` ${label}`)), part("small", {}, headWords(manifest, options))], choose,
             { "data-vehicle": vehicle, "aria-pressed": String(isChosen), id: `vehicle-${vehicle}` }),
         part("div", { class: "lane", tabindex: 0, role: "img", "aria-label": rowWords(manifest, doings), on: { ...pointing(manifest, across, labelled), click: choose } },
-            part("svg", { width, height: HEIGHT, "aria-hidden": "true" }, lines, stops.slice(1).map((next, at) => legShape(stops[at], next, across)), windows,
-                stops.map((stop, at) => stopShape(stop, across, doings, at)), nowLine(now, across, HEIGHT))));
+            part("svg", { width, height: HEIGHT, "aria-hidden": "true" }, laneOf(manifest, hours, across, width, most, doings, risks), nowLine(now, across, HEIGHT))));
 }
 
 const SAMPLE = { line: "", at: 12, place: 0, load: 0, people: 0, wheelchairs: 0 };
@@ -200,9 +242,9 @@ export const legend = () => part("details", { class: "signs" }, part("summary", 
  * @param {Manifest[]} manifests @param {Options} options
  */
 export function timeline(manifests, options) {
-    const hours = hoursOf(manifests), { width, across } = scaleOf(hours, options.room);
+    const hours = hoursOf(manifests), { width, across } = scaleOf(hours, options.room), most = fullest(manifests);
     return [part("div", { class: "hours", key: "hours" }, part("span", { class: "corner" }, t("dispatcher.head-vehicle")), axis(hours, across, width, options.now)),
-        manifests.filter(({ stops }) => stops.length).map((manifest) => row(manifest, hours, across, width, options))];
+        manifests.filter(({ stops }) => stops.length).map((manifest) => row(manifest, hours, across, width, most, options))];
 }
 
 /** Each stop of some manifests.

@@ -13,3 +13,8 @@ export function searchText(texts, fold) {
  */
 export const fits = (text, typed) => typed.split(/\s+/).filter(Boolean).every((word) => (/^\d+$/.test(word) && word.length < 7
     ? new RegExp(`(?<!\\d)${word}`).test(text) : text.includes(word.replace(/[()]/g, ""))));
+
+/** The trips of a van first whose name begins with all that was typed: "van 2" is in the name of the van, and also in trips of other vans for rider 201.
+ * @template Found @param {Found[]} found in their order @param {string} typed folded @param {(found: Found) => string} vanOf the van's name, folded
+ */
+export const vanFirst = (found, typed, vanOf) => [...found.filter((it) => vanOf(it).startsWith(typed)), ...found.filter((it) => !vanOf(it).startsWith(typed))];

@@ -1,4 +1,7 @@
-// All words of the pages, in the language of who reads them. A text is asked for by its key; a key that a language lacks is told in English.
+// All words of the pages, in the language of who reads them. A text is asked for by its key, and each
+// language has each key.
+
+import { keepText } from "./kept.js";
 
 export const LANGUAGES = ["en", "es"];
 /** The names of languages in themselves. */
@@ -18,12 +21,12 @@ let now = "en";
 
 export const language = () => now;
 
-/** Loads files of words of the chosen language, and of English below it.
+/** Loads files of words of the chosen language.
  * @param {...string} names
  */
 export async function useWords(...names) {
     for (const name of names) loaded.add(name);
-    await Promise.all([...new Set([now, "en"])].flatMap((it) => [...loaded].map((name) => load(it, name))));
+    await Promise.all([...loaded].map((name) => load(now, name)));
 }
 
 /** @param {string} it @param {string} name */
@@ -53,7 +56,7 @@ function keptLanguage() {
 export async function chooseLanguage(it, { keep = false } = {}) {
     now = LANGUAGES.includes(it) ? it : "en";
     document.documentElement.lang = now;
-    if (keep) localStorage.setItem(CHOSEN, now);
+    if (keep) keepText("local", CHOSEN, now);
     await useWords();
 }
 

@@ -4,6 +4,7 @@
 import { add, addSettings, agency, agencyText, forgetAdded, isAhead, places, routes, troubles, vehicles } from "../parts/agency.js";
 import { asked } from "../parts/ask.js";
 import { isZone } from "../parts/clock.js";
+import { closedIn, closedText, wrongLine } from "../parts/closed-days.js";
 import { button, element, part, save, table } from "../parts/element.js";
 import { choiceField, form, idField, numberField, textField } from "../parts/fields.js";
 import { makeScreen } from "../parts/screen.js";
@@ -19,6 +20,7 @@ const FILE = "agency.json";
 const all = () => ({ places: places(), routes: routes(), vehicles: vehicles() });
 const kindName = (/** @type {string} */ kind) => t(`admin.kind-${kind}`);
 const anyText = (/** @type {string} */ text) => (text.length <= 500 ? text : null);
+const MOST_CLOSED = 10_000;
 
 /** The records that were put from this browser. */
 const here = () => KINDS.flatMap((kind) => (Array.isArray(namesHere()[kind]) ? namesHere()[kind] : []).map((/** @type {any} */ record) => ({ kind, ...record })));
@@ -44,7 +46,8 @@ function joined(text) {
 
 /** The fields of the agency, as the file has them. */
 function settingsFields() {
-    const settings = /** @type {Record<string, any>} */ ({ ...agency(), languages: agency().languages.join(" "), clock: agency().clock });
+    const settings = /** @type {Record<string, any>} */ ({ ...agency(), languages: agency().languages.join(" "), clock: agency().clock,
+        closed: closedText(agency().closed) });
     const { appeal } = agency(), text = (/** @type {string} */ name, options = {}) => textField(name, t(`admin.of-${name}`), { optional: true, judge: anyText, wants: t("admin.name-wants"), ...options });
     const languages = /** @type {[string, string][]} */ ([["en es", t("admin.en-es")], ["es en", t("admin.es-en")], ["en", t("admin.en")], ["es", t("admin.es")]]);
     const fields = [text("name", { optional: false }), text("telephone"), text("address", { long: true, rows: 3 }),
@@ -53,7 +56,8 @@ function settingsFields() {
         choiceField("clock", t("admin.of-clock"), [[12, t("admin.clock-12")], [24, t("admin.clock-24")]]), choiceField("languages", t("admin.of-languages"), languages),
         numberField("wait_minutes", t("admin.of-wait_minutes"), 0, 60),
         numberField("lead", t("admin.of-lead"), 0, 60, { hint: t("admin.lead-hint") }), numberField("idle_minutes", t("admin.of-idle_minutes"), 0, 1439),
-        numberField("lock_minutes", t("admin.of-lock_minutes"), 5, 720)];
+        numberField("lock_minutes", t("admin.of-lock_minutes"), 5, 720),
+        text("closed", { long: true, rows: 4, most: MOST_CLOSED, hint: t("admin.closed-hint"), judge: (/** @type {string} */ it) => (it.length <= MOST_CLOSED ? it : null) })];
     const ofAppeal = [text("to"), text("appeal_address", { long: true, rows: 3 }), text("appeal_telephone")];
     fields.forEach((it) => it.write(settings[it.name]));
     [appeal.to, appeal.address, appeal.telephone].forEach((value, at) => ofAppeal[at].write(value));
@@ -61,9 +65,9 @@ function settingsFields() {
 }
 
 /** @param {any} values */
-function keepSettings({ languages, to, appeal_address: address, appeal_telephone: telephone, ...values }) {
+function keepSettings({ languages, closed, to, appeal_address: address, appeal_telephone: telephone, ...values }) {
     const appeal = Object.fromEntries(Object.entries({ ...agency().appeal, to, address, telephone }).filter(([, value]) => value));
-    addSettings({ ...Object.fromEntries(Object.entries(values).filter(([, value]) => value !== null)), languages: languages.split(" "), appeal });
+    addSettings({ ...Object.fromEntries(Object.entries(values).filter(([, value]) => value !== null)), languages: languages.split(" "), closed: closedIn(closed ?? ""), appeal });
     return { value: true };
 }
 
@@ -80,6 +84,7 @@ export function names() {
                 kept("file", chooser), part("div", { class: "row" }, !places().some(({ private: whose, noted }) => whose || noted) && button(t("admin.save-new"), () => save(FILE, "application/json", agencyText())),
                     isAhead() && button(t("admin.forget"), forget, { class: "danger" })), said("file"), part("p", { class: "hint" }, t("admin.file-where"))),
             part("section", { class: "card" }, part("h2", {}, t("admin.the-agency")), kept("agency", () => form({ name: t("admin.the-agency"), action: t("admin.keep"), fields: settingsFields(),
+                check: ({ closed }) => (wrongLine(closed ?? "") === null ? null : { field: "closed", fault: t("admin.closed-wants", { line: wrongLine(closed ?? "") }) }),
                 begun: () => told("", null), send: async (values) => keepSettings(values), done: () => told("agency", part("p", { class: "good" }, t("admin.kept"))) })), said("agency")),
             part("section", { class: "card" }, part("h2", {}, t("admin.a-name")), kept("name", naming), said("name"))];
         },

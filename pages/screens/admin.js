@@ -5,7 +5,7 @@ import { dayInWords, today } from "../parts/clock.js";
 import * as desk from "../parts/desk.js";
 import { make, part, refill } from "../parts/element.js";
 import { form, idField, moneyField, numberField, textField, tickField, timeField, weekdaysField } from "../parts/fields.js";
-import { LEAST_CORRIDOR, LEAST_POINTS, MOST_CORRIDOR, MOST_EXTRA_RIDE, MOST_FEET, MOST_MISSED, MOST_PERCENT, MOST_POINTS, MOST_SERVICE, MOST_SPAN } from "../parts/limits.js";
+import { LEAST_CORRIDOR, LEAST_POINTS, MOST_CORRIDOR, MOST_EXTRA_RIDE, MOST_FEET, LEAST_MISSED, MOST_MISSED, MOST_PERCENT, MOST_POINTS, MOST_SERVICE, MOST_SPAN } from "../parts/limits.js";
 import { map, tableOfMap } from "../parts/map.js";
 import { makeScreen } from "../parts/screen.js";
 import { counted, t } from "../parts/words.js";
@@ -42,10 +42,10 @@ function policy() {
     /** @type {any} */
     const screen = makeScreen({
         state: { last, done: false }, class: "card",
-        draw: ({ last: put, done }, { kept }) => [part("h2", {}, t("admin.policy")), part("p", { class: "hint" }, t("admin.policy-hint")),
+        draw: ({ last: put, done }, { kept }) => [part("h2", {}, t("admin.policy")), part("p", { class: "hint" }, t("admin.policy-hint")), part("p", { class: "note" }, t("admin.pattern-hint")),
             put ? [part("p", {}, t("admin.policy-last", { day: dayInWords(put.day) })), policyList(put.values)] : part("p", {}, t("admin.policy-none")),
             kept("form", () => form({ name: t("admin.policy"), action: t("admin.put-policy"), send: desk.putPolicy, fields, begun: () => screen.change({ done: false }),
-                ask: (values) => ({ question: t("admin.ask-policy"), detail: policyList(values), yes: t("admin.put-policy") }),
+                ask: (values) => ({ question: t("admin.ask-policy"), detail: [values.min_missed < LEAST_MISSED && part("p", { class: "note" }, t("admin.pattern-danger")), policyList(values)], yes: t("admin.put-policy") }),
                 done: (_, values) => {
                     keepNote("policy", { day: today(), values });
                     screen.change({ last: notes().policy, done: true }, { focus: "policy-answer" });

@@ -2,11 +2,15 @@
 // parts/wishes.js.
 
 import { agency } from "../parts/agency.js";
+import { momentNow } from "../parts/clock.js";
 import * as desk from "../parts/desk.js";
-import { beginAsking, driveOf, dropOffer, endAsking, keepOffer, keepSaid } from "../parts/said.js";
+import { beginAsking, driveOf, dropOffer, endAsking, isKeptElsewhere, keepOffer, keepSaid, leaveAsking } from "../parts/said.js";
 import { belongs } from "../parts/sent.js";
-import { cancelTrip, count } from "../parts/tally.js";
+import { cancelTrip, count, countLater } from "../parts/tally.js";
 import { countedRule, isAsSaid, nextStep, otherRequests } from "../parts/wishes.js";
+
+// For so long a way back may still be asked for, in milliseconds, once the way there was denied.
+const UNTIL_LOST = 600_000;
 
 /** @typedef {import("../types").Trip} Trip */
 /** @typedef {import("../types").Ticket} Ticket */
@@ -29,9 +33,11 @@ import { countedRule, isAsSaid, nextStep, otherRequests } from "../parts/wishes.
  * @property {Ticket | null} refused an offer that the rider did not want: the trip is given up
  * @property {boolean} other whether other times were tried
  * @property {string | null} waitsFor the leg that has to be booked before
+ * @property {string} [marked] the moment at which a copy of the desk's file was asked for, so that a log can say why it was denied
  */
 /** @typedef {{ legs: Leg[], busy: boolean }} State */
-/** @typedef {{ change: any, state: () => State, rider: number, trip: Trip | null, booked: () => void }} Given trip is the one that is changed */
+/** @typedef {{ change: any, state: () => State, rider: number, trip: Trip | null, booked: () => void, onGone: (act: () => void) => void }} Given
+ * trip is the one that is changed; onGone does something once the form is on the page no more */
 
 /** Denials after which nothing more is asked. */
 const ENDS = ["desk.key", "desk.caller", "desk.number", "left"];
@@ -57,17 +63,19 @@ export function tellBooked({ wish, said }, ticket) {
     count("bookings", { day: wish.day, trip: ticket.trip, mode, minute, from: ticket.window_from, to: ticket.window_to, ...(mode === "around" && { lead }) });
 }
 
-/** One plan: each request until the plan has ended.
- * @param {Given} given @param {Leg} leg @returns {Promise<Step>}
+/** Replies after which nobody knows what came of a write. */
+export const isUnknown = (/** @type {{ denied?: string }} */ { denied }) => denied === "left" || denied === "desk.number";
+
+/** One plan: each request until the plan has ended. id is under what it is written down.
+ * @param {Given} given @param {Leg} leg @param {string} id @returns {Promise<Step>}
  */
-async function carriedOut({ rider, trip }, leg) {
+async function carriedOut({ rider, trip }, leg, id) {
     /** @type {Answer[]} */
     const answers = [];
-    const id = beginAsking(rider, leg.wish, leg.said, trip);
     for (let step = nextStep(leg.said, answers); ; step = nextStep(leg.said, answers)) {
         if (step.is !== "ask") {
             // (where nobody knows what came of it, it is looked for at the next sight of the rider)
-            if (!answers.some(({ reply }) => reply.denied === "left" || reply.denied === "desk.number")) endAsking(id);
+            (answers.some(({ reply }) => isUnknown(reply)) ? leaveAsking : endAsking)(id);
             return step;
         }
         const { wish, by } = step.request, standing = answers.map(({ reply }) => reply.value).reverse().find((it) => it !== undefined);
@@ -82,25 +90,63 @@ async function carriedOut({ rider, trip }, leg) {
  * @param {Given} given @param {Leg} leg @param {Request[]} requests @returns {Promise<{ ticket: Ticket } | { denied: Denied } | null>}
  */
 async function firstTaken({ rider, trip }, leg, requests) {
+    const id = beginAsking(rider, leg.wish, leg.said, trip, requests.map(({ wish }) => wish));
+    /** @type {{ ticket: Ticket } | { denied: Denied } | null} */
     let told = null;
     for (const { wish, by } of requests) {
         const reply = await sent(rider, { ...leg.wish, wish, by }, trip);
-        if (reply.value !== undefined) return { ticket: reply.value };
-        told = { denied: reply };
-        if (ENDS.includes(reply.denied)) break;
+        told = reply.value !== undefined ? { ticket: reply.value } : { denied: reply };
+        if ("ticket" in told || ENDS.includes(told.denied.denied)) break;
     }
+    (told && "denied" in told && isUnknown(told.denied) ? leaveAsking : endAsking)(id);
     return told;
 }
 
 /** Tells the site that what a rider said was denied, once: what is asked for again is the same denial.
- * @param {Set<string>} counted what was told of this form @param {Leg} leg @param {string | null} rule
+ * @param {Set<string>} counted what was told of this form @param {Leg} leg @param {string | null} rule @param {ReturnType<typeof offerFields> | null} offer
  */
-function countDenial(counted, { wish, said: { mode, minute } }, rule) {
-    const what = [wish.day, wish.from, wish.to, mode, minute].join(" ");
+function countDenial(counted, { wish, said: { mode, minute } }, rule, offer) {
+    const what = [wish.day, wish.from, wish.to, mode, minute, offer?.trip].join(" ");
     if (rule === null || counted.has(what)) return;
     counted.add(what);
-    count("denials", { day: wish.day, minute, rule, mode });
+    count("denials", { day: wish.day, minute, rule, mode, ...offer });
 }
+
+/** Counts the ways back that are lost with a way there for which there was no vehicle: each is a denial too, unless it is asked for after all. It is
+ * told once the form is used again or left.
+ * @param {Set<string>} counted what was told of this form @param {Given["onGone"]} onGone
+ */
+function lossesOf(counted, onGone) {
+    /** @type {Map<string, ReturnType<typeof countLater>>} */
+    const held = new Map();
+    const tell = () => {
+        held.forEach((it) => { it.tell(); });
+        held.clear();
+    };
+    /** @param {Leg[]} legs @param {string} key */
+    const waiting = (legs, key) => legs.filter((it) => it.waitsFor === key);
+    return {
+        /** @param {Leg[]} legs @param {string} key */
+        hold: (legs, key) => waiting(legs, key).forEach(({ key: back, wish, said: { mode, minute } }) => {
+            const what = ["lost", wish.day, wish.from, wish.to, mode, minute].join(" ");
+            if (counted.has(what)) return;
+            counted.add(what);
+            if (!held.size) onGone(tell);
+            held.set(back, countLater("denials", { day: wish.day, minute, rule: "no vehicle", mode, leg: "lost" }, UNTIL_LOST));
+        }),
+        /** @param {Leg[]} legs @param {string} key */
+        drop: (legs, key) => waiting(legs, key).forEach(({ key: back }) => {
+            held.get(back)?.drop();
+            held.delete(back);
+        }),
+        tell,
+    };
+}
+
+/** What the site's log has of an offer beside the denial, so that whoever sees the rider next can ask for the answer.
+ * @param {number} rider @param {Ticket} ticket @param {Trip | null} old
+ */
+export const offerFields = (rider, { trip, window_from: from, window_to: to }, old) => ({ trip, rider, from, to, offer: /** @type {"booking" | "change"} */ (old ? "change" : "booking") });
 
 /** What the record has of a leg once its plan has ended; what was booked or offered is kept beside it.
  * @param {Leg} leg @param {Step} step @param {Trip | null} old @returns {Partial<Leg>}
@@ -121,20 +167,31 @@ function afterPlan(leg, step, old) {
  * @param {Given} given
  */
 export function askerOf(given) {
-    const { change, state, trip, booked } = given, counted = new Set();
+    const { change, state, rider, trip, booked, onGone } = given, counted = new Set(), losses = lossesOf(counted, onGone);
     const set = (/** @type {string} */ key, /** @type {Partial<Leg>} */ patch) =>
         change((/** @type {State} */ { legs }) => ({ legs: legs.map((leg) => (leg.key === key ? { ...leg, ...patch } : leg)) }));
     const find = (/** @type {string | null} */ key) => state().legs.find((leg) => leg.key === key);
     const isNext = (/** @type {Leg | undefined} */ leg) => leg && !leg.ticket && !leg.denied && !leg.offer && !leg.refused && (!leg.waitsFor || find(leg.waitsFor)?.ticket);
     const rest = async () => {
-        for (const { key } of state().legs) {
+        // (all of it is written down first: a window that is closed in the middle leaves none of it without a word)
+        const open = state().legs.filter(({ ticket, denied, offer, refused }) => !ticket && !denied && !offer && !refused);
+        const ids = new Map(open.map(({ key, wish, said }) => [key, beginAsking(rider, wish, said, trip)]));
+        for (const [key, id] of ids) {
             const leg = find(key);
             if (!leg || !isNext(leg)) continue;
-            const step = await carriedOut(given, leg), patch = afterPlan(leg, step, trip);
-            countDenial(counted, leg, countedRule(leg.said, step));
+            const step = await carriedOut(given, leg, id), patch = afterPlan(leg, step, trip), rule = countedRule(leg.said, step);
+            ids.delete(key);
+            countDenial(counted, leg, rule, step.is === "offered" ? offerFields(rider, /** @type {Ticket} */ (step.answer.reply.value), trip) : null);
+            if (patch.denied && rule === "no vehicle") losses.hold(state().legs, key);
             set(key, patch);
+            if (patch.denied && isUnknown(patch.denied)) {
+                // (who signed out meanwhile reads at the next sign-in what was not sent)
+                ids.forEach((it) => leaveAsking(it));
+                ids.clear();
+            }
             if (patch.denied && ENDS.includes(patch.denied.denied)) break;
         }
+        ids.forEach((id) => endAsking(id));
         change({ busy: false });
         if (state().legs.some(({ ticket }) => ticket)) booked();
     };
@@ -142,29 +199,60 @@ export function askerOf(given) {
     const carryOn = async (/** @type {Leg} */ leg, /** @type {() => Promise<Partial<Leg>>} */ act) => {
         if (state().busy) return;
         change({ busy: true });
-        set(leg.key, await act());
+        const patch = await act();
+        if (patch.ticket) losses.drop(state().legs, leg.key);
+        if (patch.refused) losses.hold(state().legs, leg.key);
+        set(leg.key, patch);
         await rest();
         change({}, { focus: `leg-${leg.key}` });
     };
     const tryOthers = (/** @type {Leg} */ leg, /** @type {Side} */ side) => carryOn(leg, async () => {
-        const told = await firstTaken(given, leg, otherRequests(leg.said, side));
+        // (what waits for it is asked next)
+        const after = state().legs.filter(({ waitsFor, ticket }) => waitsFor === leg.key && !ticket).map(({ wish, said }) => beginAsking(rider, wish, said, trip));
+        const told = await firstTaken(given, leg, otherRequests(leg.said, side)), isLeft = told && "denied" in told && isUnknown(told.denied);
+        after.forEach((id) => (isLeft ? leaveAsking : endAsking)(id));
         // (what the desk says of other times is no answer to what the rider said)
         if (!told || "denied" in told) return { ...(told && ENDS.includes(told.denied.denied) ? told : {}), other: true };
         tellBooked(leg, told.ticket);
         return { ticket: told.ticket, denied: null, other: true };
     });
-    const answer = (/** @type {Leg} */ leg, /** @type {boolean} */ yes) => carryOn(leg, () => afterAnswer(leg, yes, trip).finally(() => { if (!yes) booked(); }));
-    return { rest, tryOthers, answer };
+    const answer = (/** @type {Leg} */ leg, /** @type {boolean} */ yes) => carryOn(leg, () => afterAnswer(leg, yes, given).finally(() => { if (!yes) booked(); }));
+    const mark = (/** @type {Leg} */ { key, wish: { day }, said: { mode, minute } }) => {
+        if (find(key)?.marked) return;
+        const at = momentNow();
+        count("marks", { day, minute, mode, at });
+        set(key, { marked: at });
+        change({}, { focus: `marked-${key}` });
+    };
+    return { rest, tryOthers, answer, mark, leave: losses.tell };
+}
+
+/** What the desk has of an offer by now: another clerk may have given it up. "left" where the screen was left meanwhile.
+ * @param {number} rider @param {Ticket} offer @param {Trip | null} old gets what the desk has of a trip that is back @returns {Promise<"stands" | "gone" | "left">}
+ */
+export async function offerNow(rider, offer, old) {
+    const reply = await desk.tripsOf(rider);
+    if (reply.denied === "left") return "left";
+    const now = reply.value?.trips.find(({ trip }) => trip === offer.trip);
+    if (!now || (now.status === "booked" && now.window_from === offer.window_from && now.window_to === offer.window_to)) return "stands";
+    dropOffer(offer.trip);
+    if (old) Object.assign(old, now);
+    return "gone";
 }
 
 /** What the record has of a leg once the rider has answered its offer.
- * @param {Leg} leg @param {boolean} yes @param {Trip | null} old @returns {Promise<Partial<Leg>>}
+ * @param {Leg} leg @param {boolean} yes @param {{ rider: number, trip: Trip | null }} given @returns {Promise<Partial<Leg>>}
  */
-async function afterAnswer(leg, yes, old) {
+async function afterAnswer(leg, yes, { rider, trip: old }) {
     const { offer } = leg;
     if (!offer) return {};
-    if (yes) {
-        tellBooked(leg, offer);
+    const now = await offerNow(rider, offer, old);
+    if (now === "left") return {};
+    if (now === "gone") return { offer: null, refused: offer };
+    // (what another clerk kept for the rider is not cancelled by an answer from before)
+    if (yes || isKeptElsewhere(offer, old)) {
+        if (yes) tellBooked(leg, offer);
+        else dropOffer(offer.trip);
         return { ticket: offer, offer: null };
     }
     const denied = await givenUp(offer.trip, old);

@@ -4,18 +4,24 @@ import { placeName } from "../parts/agency.js";
 import { between, clock, dayInWords, dayShort } from "../parts/clock.js";
 import * as desk from "../parts/desk.js";
 import { denialOf } from "../parts/denials.js";
+import { draftIn } from "../parts/drafts.js";
 import { button, part } from "../parts/element.js";
 import { form } from "../parts/fields.js";
+import { reading } from "../parts/reads.js";
 import { riderLabel } from "../parts/roster.js";
-import { driveOf, namedBy, offerOf, readSaid, saidOf, takeUp } from "../parts/said.js";
+import { driveOf, namedBy, offerOf, saidOf } from "../parts/said.js";
 import { makeScreen } from "../parts/screen.js";
 import { ended, planned } from "../parts/sent.js";
 import { otherRequests, pickupsOf, searched, underWay, underWayOf } from "../parts/wishes.js";
 import { t } from "../parts/words.js";
 import { faultOf, wishFields } from "./booking-fields.js";
-import { askerOf, saidIn, tellBooked } from "./booking-plan.js";
+import { askerOf, saidIn } from "./booking-plan.js";
+import { markButton, markedWords } from "./denials-today.js";
+import { isOwn } from "./letters.js";
 import { offersOf, offerShown, refusedWords } from "./offers.js";
+import { takeUp } from "./take-up.js";
 import { printTickets, saidWords, ticketOf, windowOf } from "./ticket.js";
+import { drivers } from "./trips-today.js";
 
 export { dollars, windowOf } from "./ticket.js";
 
@@ -25,7 +31,7 @@ export { dollars, windowOf } from "./ticket.js";
 /** @typedef {import("./booking-plan.js").State} State */
 /** @typedef {import("../parts/wishes.js").Side} Side */
 /** @typedef {{ rider: number, trip: Trip | null, ids: string }} About trip is the one that is changed */
-/** @typedef {{ tryOthers: (leg: Leg, side: Side) => void, answer: (leg: Leg, yes: boolean) => void }} Acts */
+/** @typedef {{ tryOthers: (leg: Leg, side: Side) => void, answer: (leg: Leg, yes: boolean) => void, mark: (leg: Leg) => void }} Acts */
 
 export const statusOf = (/** @type {string} */ status) => t(`booking.${status}`);
 
@@ -94,12 +100,18 @@ function otherTimes(leg, { tryOthers }, busy) {
         leg.other && part("p", {}, t("booking.others-denied"))];
 }
 
+/** A copy of the desk's file, which staff may have kept: a log of it says later why no vehicle could take the trip. Of a change no log can be made.
+ * @param {Leg} leg @param {Acts} acts
+ */
+const copyOf = (leg, { mark }) => !isOwn() && part("div", { class: "kept-copy" }, part("div", { role: "status", id: `marked-${leg.key}`, tabindex: -1 },
+    leg.marked && part("p", { class: "good" }, markedWords(leg.marked))), !leg.marked && [part("p", { class: "hint" }, t("booking.mark-hint")), markButton(legWords(leg), () => mark(leg))]);
+
 /** @param {Leg} leg @param {About} about @param {Acts} acts @param {boolean} busy */
 function deniedShown(leg, { trip }, acts, busy) {
     const heading = trip ? standsWords(trip) : t("booking.denied-for", { leg: legWords(leg) });
     return part("section", { class: "refused", tabindex: -1, id: `leg-${leg.key}`, "aria-label": heading }, part("h3", {}, heading),
         trip && part("p", {}, t("booking.asked-for", { leg: legWords(leg) })), leg.denied && denialOf(leg.denied, "trip"),
-        leg.denied?.denied === "no vehicle" && otherTimes(leg, acts, busy));
+        leg.denied?.denied === "no vehicle" && [otherTimes(leg, acts, busy), !trip && copyOf(leg, acts)]);
 }
 
 /** @param {Leg} leg @param {About} about @param {Acts} acts @param {boolean} busy */
@@ -141,8 +153,12 @@ function wishScreen({ rider, trip = null, booked, heading, action }) {
     const { fields, days, map } = wishFields({ rider, again: Boolean(trip) });
     const about = { rider, trip, ids: trip ? `change-${trip.trip}` : "book" };
     const asker = askerOf({ change: (/** @type {any} */ patch, /** @type {any} */ options) => screen.change(patch, options), state: () => screen.state, rider, trip,
-        booked: () => booked(screen.state.legs.find(({ ticket }) => ticket)?.ticket ?? null) });
-    const whole = form({ name: heading, action, fields, class: "wish", extra: map, check: faultOf, begun: () => screen.change({ legs: [], busy: false }),
+        booked: () => booked(screen.state.legs.find(({ ticket }) => ticket)?.ticket ?? null), onGone: (/** @type {() => void} */ act) => screen.onGone(act) });
+    const begin = () => {
+        asker.leave();
+        screen.change({ legs: [], busy: false });
+    };
+    const whole = form({ name: heading, action, fields, class: "wish", extra: map, check: faultOf, begun: () => begin(),
         ask: (values) => questionOf(about, legsOf(values, Boolean(trip))),
         send: async (values) => {
             screen.change({ legs: legsOf(values, Boolean(trip)), busy: true });
@@ -165,7 +181,7 @@ function wishScreen({ rider, trip = null, booked, heading, action }) {
         draw: (state) => [part(trip ? "h3" : "h2", { id: about.ids, tabindex: -1 }, heading), whole, resultsShown(state, about, asker)] });
     screen.onNewDay(days.renew);
     const write = (/** @type {Record<string, any>} */ values) => fields.forEach((it) => { if (it.name in values) it.write(values[it.name]); });
-    return { element: screen.element, write, focus: () => days.control.focus(), begin: () => screen.change({ legs: [], busy: false }), isBusy: () => screen.state.busy };
+    return { element: screen.element, write, focus: () => days.control.focus(), begin, isBusy: () => screen.state.busy };
 }
 
 /** What a trip that is there says of a wish: what the rider said of it, as far as that is known. Else a minute to be there by is what mattered, or the
@@ -204,13 +220,13 @@ export function bookingFor(rider, options = {}) {
  * @param {number} rider @param {() => void} [changed]
  */
 export function offersFor(rider, changed = () => {}) {
-    const { element, show } = offersOf(rider, changed);
-    desk.tripsOf(rider).then(async (reply) => {
-        if (reply.value === undefined) return;
-        for (const { trip, said } of takeUp(rider, reply.value.trips)) tellBooked({ wish: trip, said }, trip);
-        show(reply.value.trips);
-        if (!location.hash.startsWith("#rider") && await readSaid()) changed();
-    });
+    const { element, show } = offersOf(rider, changed), read = reading(desk.pathOf.trips(rider));
+    const look = async () => {
+        const trips = /** @type {Trip[] | undefined} */ (read.reply()?.value?.trips);
+        if (trips && await takeUp(rider, trips)) show(trips);
+    };
+    read.watch(element, look);
+    drivers()?.watch(element, look);
     return element;
 }
 
@@ -218,8 +234,12 @@ export function offersFor(rider, changed = () => {}) {
  * @param {number} rider @param {Trip} trip @param {() => void} changed
  */
 export function changeFor(rider, trip, changed) {
-    const screen = wishScreen({ rider, trip, booked: changed, heading: t("booking.change-of", { trip: trip.trip, rider: riderLabel(rider) }),
+    const screen = wishScreen({ rider, trip, booked: () => {
+        draft.drop();
+        changed();
+    }, heading: t("booking.change-of", { trip: trip.trip, rider: riderLabel(rider) }),
         action: t("booking.change-of", { trip: trip.trip, rider: riderLabel(rider) }) });
     screen.write({ ...wishOf(trip), days: trip.day });
+    const draft = draftIn(screen.element, `change ${rider} ${trip.trip}`);
     return screen;
 }

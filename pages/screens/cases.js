@@ -12,7 +12,7 @@ import { reading } from "../parts/reads.js";
 import { riderLabel } from "../parts/roster.js";
 import { makeScreen } from "../parts/screen.js";
 import { anyOf, t } from "../parts/words.js";
-import { conditionInWords, isOwn, purposeOf } from "./letters.js";
+import { conditionInWords, isOwn, madeLetter, purposeOf } from "./letters.js";
 
 export { conditionInWords, lettersFor } from "./letters.js";
 
@@ -23,6 +23,8 @@ export { conditionInWords, lettersFor } from "./letters.js";
 // Standing.
 
 const MAY_RIDE = ["presumed", "appeal-overdue", "granted", "visitor"];
+/** Standings that rest on no decision, and so on no letter of the desk. */
+const WITH_LETTER = ["presumed", "appeal-overdue", "visitor"];
 /** The section that each standing rests on. */
 const SECTIONS = /** @type {Record<string, string>} */ ({ presumed: "49 CFR 37.125(c)", "appeal-overdue": "49 CFR 37.125(g)", granted: "49 CFR 37.125(e)", none: "49 CFR 37.125",
     visitor: "49 CFR 37.127(e)", "visitor-used": "49 CFR 37.127(e)" });
@@ -35,7 +37,8 @@ function standingWords(rider, day, { standing, suspended, until, conditions }) {
     return part("div", { class: `standing ${may ? "yes" : "no"}` }, part("p", { class: "verdict" }, may ? "✓ " : "✗ ", verdict),
         suspended && part("p", {}, t("cases.suspended"), " (49 CFR 37.125(h))"),
         part("p", {}, t(suspended ? "cases.else" : "cases.reason", { why: [why, last].filter(Boolean).join(" ") }), ` (${SECTIONS[standing]})`),
-        conditions && part("p", {}, t("cases.for", { conditions: anyOf(conditions.map((it) => conditionInWords(it))) }), " (49 CFR 37.123(b))"));
+        conditions && part("p", {}, t("cases.for", { conditions: anyOf(conditions.map((it) => conditionInWords(it))) }), " (49 CFR 37.123(b))"),
+        !suspended && WITH_LETTER.includes(standing) && madeLetter(standing, rider, { day }));
 }
 
 /** @param {number} rider */
@@ -75,54 +78,60 @@ export function standingOf(rider) {
  * @param {number} rider @param {() => HTMLElement[]} draw
  */
 export function ofResident(rider, draw) {
-    const screen = makeScreen({ state: { reply: /** @type {any} */ (null) }, draw: ({ reply }, { kept }) => {
+    const read = reading(desk.pathOf.standing(rider, today()));
+    const screen = makeScreen({ state: {}, draw: (_, { kept }) => {
+        const reply = read.reply();
         if (reply === null) return part("p", { role: "status" }, t("cases.reading"));
         if (reply.denied !== undefined) return part("div", { role: "status" }, denialOf(reply, "standing"));
         if (reply.value.standing.startsWith("visitor")) return [kept("standing", () => standingOf(rider).element), part("div", { role: "status" }, part("p", { class: "note" }, t("denials.37.127"), " ", t("denials.37.127/help")))];
         return [part("h2", { class: "case-of" }, t("cases.case-of", { who: riderLabel(rider) })), kept("case", draw)];
     } });
-    desk.standing(rider, today()).then((reply) => {
-        if (reply.denied !== "left") screen.change({ reply });
-    });
+    read.watch(screen.element, () => screen.change({}));
     return screen.element;
 }
 
 // Entries.
 
-/** One to four conditions, of which one has to hold of a trip.
- * @returns {Field}
+/** One to four conditions, of which one has to hold of a trip. With some, "every trip" is none of them; chosen are those that it begins with.
+ * @param {{ some?: boolean, chosen?: string[] }} options @returns {Field}
  */
-function conditionsField() {
-    const always = tickField("always", t("cases.tick-always")), nolift = tickField("nolift", t("cases.tick-nolift"));
-    const months = ticksField("months", t("cases.tick-months"), monthNames().map((name, at) => /** @type {[number, string]} */ ([at + 1, name])));
-    const farther = numberField("farther", t("cases.tick-farther"), 1, MOST_FARTHER, { optional: true });
+export function conditionsField({ some = false, chosen: given = [] } = {}) {
+    const rest = (/** @type {string} */ kind) => given.find((it) => it.startsWith(`${kind}:`))?.split(":")[1] ?? "";
+    const always = tickField("always", t("cases.tick-always")), nolift = tickField("nolift", t("cases.tick-nolift"), { value: given.includes("nolift") });
+    const months = ticksField("months", t("cases.tick-months"), monthNames().map((name, at) => /** @type {[number, string]} */ ([at + 1, name])), rest("months").split(",").map(Number));
+    const farther = numberField("farther", t("cases.tick-farther"), 1, MOST_FARTHER, { optional: true, value: rest("farther") });
     const fault = make("p", { class: "fault", id: fresh("fault") }), wants = t("cases.conditions-wants");
     const read = () => {
         const far = farther.read(), chosen = months.read().value ?? [];
         farther.tell(far.fault);
         if (far.fault) return far;
-        const value = [always.read().value && "always", chosen.length > 0 && `months:${chosen.join(",")}`, far.value && `farther:${far.value}`,
+        const value = [!some && always.read().value && "always", chosen.length > 0 && `months:${chosen.join(",")}`, far.value && `farther:${far.value}`,
             nolift.read().value && "nolift"].filter(Boolean);
         return value.length ? { value } : { fault: wants };
     };
     const element = make("fieldset", { class: "field", "aria-describedby": fault.id }, make("legend", {}, t("cases.conditions")),
-        always.element, nolift.element, farther.element, months.element, fault);
-    return { name: "conditions", wants, control: always.control, element, read, tell: (text) => { fault.textContent = text ?? ""; }, write: () => {} };
+        some ? null : always.element, nolift.element, farther.element, months.element, fault);
+    return { name: "conditions", wants, control: (some ? nolift : always).control, element, read, tell: (text) => { fault.textContent = text ?? ""; }, write: () => {} };
 }
 
-const untilField = () => dayField("until", t("cases.last-day"), { least: today(), wants: t("cases.last-day-wants") });
+/** @param {string} [value] */
+export const untilField = (value) => dayField("until", t("cases.last-day"), { least: today(), wants: t("cases.last-day-wants"), value });
 const reasons = () => reasonsField("reasons", t("cases.reasons"));
 
 /** The fields of each kind of entry.
  * @type {Record<string, () => Field[]>}
  */
 const FIELDS = {
-    complete: () => [], grant: () => [untilField(), conditionsField()], refuse: () => [reasons()],
+    complete: () => [], grant: () => [untilField()], refuse: () => [reasons()],
     heard: () => [], "appeal-granted": () => [untilField(), conditionsField()], "appeal-denied": () => [reasons()], overturn: () => [],
     "notice-heard": () => [],
 };
 /** Those that take something from the rider. */
 const AGAINST = ["refuse", "appeal-denied", "suspend", "notice"];
+/** What the desk is sent where it is not what was typed. A grant of its own is for every trip: one with conditions leaves out others, and is given in part.
+ * @type {Record<string, (values: any) => any>}
+ */
+const SENT = { grant: ({ until }) => ({ until, conditions: ["always"] }) };
 
 /** What is wrong of the days together.
  * @param {any} values
@@ -147,13 +156,15 @@ function letterWords({ until, conditions, reasons: why, basis, starts, ends }) {
  */
 const fewWords = ({ reasons: why }) => why && why.length < FEW_REASONS && part("p", { class: "note" }, t("cases.few-reasons"));
 
-/** @typedef {{ fields?: Field[], check?: (values: any) => { field: string, fault: string } | null, entryOf?: (values: any) => any }} Otherwise another form than that of the kind, and what it sends */
+/** @typedef {{ fields?: Field[], check?: (values: any) => { field: string, fault: string } | null, entryOf?: (values: any) => any, entry?: string, isOpen?: boolean,
+ *   asked?: (values: any) => Given, doubt?: (values: any) => Given, did?: (value: any, values: any) => any }} Otherwise another form than that of the kind, and what it sends: entry is the desk's name of it,
+ *   asked says in the question what is done, doubt what speaks against it, did follows what was accepted */
 
 /** The form of one kind of entry. entered() follows what was accepted.
  * @param {number} rider @param {string} kind @param {() => any} entered @param {Otherwise} [otherwise]
  */
 export function entryForm(rider, kind, entered, otherwise = {}) {
-    const { fields = FIELDS[kind](), check = faultOfDays, entryOf = (/** @type {any} */ given) => given } = otherwise;
+    const { fields = FIELDS[kind](), check = faultOfDays, entryOf = SENT[kind] ?? ((/** @type {any} */ given) => given), entry = kind, isOpen = false, asked = null, doubt = null, did = null } = otherwise;
     const values = { who: riderLabel(rider), rider }, id = fresh("entered");
     /** @type {ReturnType<typeof draftIn> | null} */
     let draft = null;
@@ -164,13 +175,14 @@ export function entryForm(rider, kind, entered, otherwise = {}) {
     /** @type {any} */
     const screen = makeScreen({
         state: { done: false },
-        draw: ({ done }, { kept }) => part("details", { class: "card entry", "data-entry": kind }, part("summary", {}, t(`cases.heading-${kind}`, values)),
+        draw: ({ done }, { kept }) => part("details", { class: "card entry", "data-entry": kind, open: isOpen }, part("summary", {}, t(`cases.heading-${kind}`, values)),
             part("p", {}, t(`cases.about-${kind}`)), kept("form", () => drafted(form({ name: t(`cases.heading-${kind}`, values), fields, action: t(`cases.do-${kind}`, values),
                 purpose: "entry", danger: AGAINST.includes(kind), check, begun: () => screen.change({ done: false }),
-                ask: (given) => ({ question: t(`cases.ask-${kind}`, values), detail: [fewWords(given), letterWords(entryOf(given))], yes: t("cases.yes", { action: t(`cases.do-${kind}`, values) }),
+                ask: (given) => ({ question: t(`cases.ask-${kind}`, values), detail: [fewWords(given), doubt?.(given), asked ? [asked(given), part("p", {}, t("cases.asked-final"))] : letterWords(entryOf(given))], yes: t("cases.yes", { action: t(`cases.do-${kind}`, values) }),
                     danger: AGAINST.includes(kind) }),
-                send: (given) => enter(rider, { entry: kind, ...entryOf(given) }), done: async () => {
+                send: (given) => enter(rider, { entry, ...entryOf(given) }), done: async (value, given) => {
                     draft?.drop();
+                    await did?.(value, given);
                     screen.change({ done: true }, { focus: id });
                     await entered();
                 } }))),

@@ -12,6 +12,8 @@ import { keepSubject, subjectOf, withSubject } from "../parts/subject.js";
 import { counted, t } from "../parts/words.js";
 import { bookingFor } from "./booking.js";
 import { entryForms, lettersFor, ofResident, standingOf } from "./cases.js";
+import { formsCard } from "./forms.js";
+import { applicationOf } from "./in-part.js";
 import { noticeFor } from "./notice.js";
 import { withCard } from "./rider-card.js";
 import { tripsOfRider } from "./trips.js";
@@ -100,7 +102,7 @@ const forRider = (draw, focus) => () => {
 const file = (rider) => ofResident(rider, () => {
     const standing = standingOf(rider), letters = lettersFor(rider);
     const entered = () => Promise.all([standing.refresh(), letters.refresh()]);
-    return [standing.element, ...entryForms(rider, ["complete", "appeal"], entered), noticeFor(rider, entered), letters.element];
+    return [standing.element, applicationOf(rider, entered), ...entryForms(rider, ["appeal"], entered), noticeFor(rider, entered), letters.element, element(formsCard({ both: true }))];
 });
 
 /** @param {number} rider */

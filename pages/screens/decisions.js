@@ -3,6 +3,7 @@
 import { withSubject } from "../parts/subject.js";
 import { t } from "../parts/words.js";
 import { entryForms, lettersFor, ofResident, standingOf } from "./cases.js";
+import { inPart, restOf } from "./in-part.js";
 import { suspensionFor } from "./notice.js";
 import { record } from "./record.js";
 import { waitingOf, worklist } from "./worklist.js";
@@ -13,9 +14,9 @@ import { waitingOf, worklist } from "./worklist.js";
 const caseOf = (rider, kinds) => ofResident(rider, () => {
     const standing = standingOf(rider), letters = lettersFor(rider, { appeals: false });
     const entered = () => Promise.all([standing.refresh(), letters.refresh()]);
-    const mayEnd = kinds.includes("suspend");
-    return [standing.element, letters.element, ...(mayEnd ? [waitingOf(rider)] : []), ...entryForms(rider, kinds.filter((kind) => kind !== "suspend"), entered),
-        ...(mayEnd ? [suspensionFor(rider, entered)] : [])];
+    const mayEnd = kinds.includes("suspend"), mayGrant = kinds.includes("grant");
+    return [standing.element, letters.element, ...(mayEnd ? [waitingOf(rider)] : []), ...(mayGrant ? [restOf(rider, entered)] : []),
+        ...entryForms(rider, kinds.filter((kind) => kind !== "suspend"), entered), ...(mayGrant ? [inPart(rider, entered)] : []), ...(mayEnd ? [suspensionFor(rider, entered)] : [])];
 });
 
 /** @param {string[]} kinds */

@@ -1,49 +1,45 @@
 // Whom to call: a list of riders on the screen, on paper and as a file, with who was called and who was not reached. The ticks are kept in this
-// browser with their list, and outlive signing out; no name is in them.
+// browser with their list, and outlive signing out; no name is in them. The site's log has those of every machine, so that nobody is called twice.
 
 import { placeName } from "../parts/agency.js";
-import { clock, dayShort } from "../parts/clock.js";
+import { lastTick, tickIn, tickOnFile } from "../parts/call-ticks.js";
+import { clock, dayShort, momentNow } from "../parts/clock.js";
 import { button, part, table } from "../parts/element.js";
+import { keepObject, keptObject } from "../parts/kept.js";
 import { printCalls } from "../parts/paper-day.js";
 import { riderLabel, riderName, riderOf } from "../parts/roster.js";
 import { count } from "../parts/tally.js";
 import { t } from "../parts/words.js";
 import { windowOf } from "./booking.js";
 import { saveCsv } from "./dispatcher-files.js";
+import { driversRead } from "./dispatcher-reads.js";
 
 /** @typedef {import("../parts/paper-day.js").Called} Called */
 /** @typedef {(trip: any) => string} More what else has to be said of a trip */
 
 const KEPT = "dispatcher.calls", MOST_LISTS = 60, MOST_NAME = 60, RESULTS = ["called", "not-reached"];
 
-/** @returns {Record<string, Record<string, string>>} */
-function ticks() {
-    try {
-        const it = JSON.parse(localStorage.getItem(KEPT) ?? "{}");
-        return typeof it === "object" && it !== null && !Array.isArray(it) ? it : {};
-    } catch {
-        return {};
-    }
-}
+/** @returns {Record<string, Record<string, any>>} */
+const ticks = () => keptObject(KEPT);
 
-/** What came of the call of a trip in a list: "", called, or not-reached.
+/** What came of the call of a trip in a list: "", called, or not-reached, here or at another machine.
  * @param {string} list @param {number} trip
  */
-const tickOf = (list, trip) => ticks()[list]?.[trip] ?? "";
+const tickOf = (list, trip) => lastTick(tickIn(ticks()[list]?.[trip]), tickOnFile(driversRead().reply()?.value, list.slice(0, MOST_NAME), trip));
 
 /** @param {string} list @param {number} trip @param {string} result */
 function keepTick(list, trip, result) {
-    const { [list]: mine = {}, ...others } = ticks();
-    try {
-        localStorage.setItem(KEPT, JSON.stringify(Object.fromEntries([...Object.entries(others), [list, { ...mine, [trip]: result }]].slice(-MOST_LISTS))));
-    } catch {
-        // (a browser without room keeps none; the paper has a column for them)
-    }
-    count("calls", { list: list.slice(0, MOST_NAME), trip, result: /** @type {any} */ (result || "open") });
+    const { [list]: mine = {}, ...others } = ticks(), at = momentNow();
+    // (a browser without room keeps none; the paper has a column for them)
+    keepObject(KEPT, Object.fromEntries([...Object.entries(others), [list, { ...mine, [trip]: { result, at } }]].slice(-MOST_LISTS)));
+    count("calls", { list: list.slice(0, MOST_NAME), trip, result: /** @type {any} */ (result || "open"), at });
 }
 
 /** @param {string} list @param {number} trip */
-const tickWords = (list, trip) => (tickOf(list, trip) ? t(`dispatcher.call-${tickOf(list, trip)}`) : "");
+const tickWords = (list, trip) => {
+    const { result } = tickOf(list, trip);
+    return result ? t(`dispatcher.call-${result}`) : "";
+};
 
 /** A list as a file, which names what came of each call.
  * @param {string} file @param {string} list @param {Called[]} trips @param {More} more
@@ -60,9 +56,12 @@ export const callTools = (list, title, trips, more) => trips.length > 0 && [
     button(t("dispatcher.save-calls"), () => saveCalls(`calls-${list.replace(/\W+/g, "-")}.csv`, list, trips, more))];
 
 /** @param {string} list @param {Called} called */
-const tickChoice = (list, { trip, rider }) => part("select", { "aria-label": t("dispatcher.call-of", { rider: riderLabel(rider), trip }), value: tickOf(list, trip),
-    on: { change: (event) => keepTick(list, trip, event.target.value) } }, part("option", { value: "" }, t("dispatcher.call-none")),
-RESULTS.map((name) => part("option", { value: name }, t(`dispatcher.call-${name}`))));
+function tickChoice(list, { trip, rider }) {
+    const { result, at, isElsewhere } = tickOf(list, trip), time = at ? `${dayShort(at.slice(0, 10))}, ${clock(Number(at.slice(11, 13)) * 60 + Number(at.slice(14, 16)))}` : "";
+    return [part("select", { "aria-label": t("dispatcher.call-of", { rider: riderLabel(rider), trip }), value: result, on: { change: (event) => keepTick(list, trip, event.target.value) } },
+        part("option", { value: "" }, t("dispatcher.call-none")), RESULTS.map((name) => part("option", { value: name }, t(`dispatcher.call-${name}`)))),
+    result && isElsewhere && part("small", {}, ` ${t("dispatcher.call-elsewhere", { time })}`)];
+}
 
 /** @param {string} list @param {string} caption @param {Called[]} trips @param {(trip: any) => import("../types").Given} more @param {string} head */
 export const callsTable = (list, caption, trips, more, head) => table(caption, [

@@ -2,30 +2,36 @@
 
 import { placeName, vehicleName } from "../parts/agency.js";
 import { between, clock, dayInWords, minuteNow, today } from "../parts/clock.js";
-import * as desk from "../parts/desk.js";
 import { denialOf } from "../parts/denials.js";
 import { button, part, say } from "../parts/element.js";
 import { printDaySheet, printManifests } from "../parts/paper-day.js";
 import { folded, riderLabel, riderName, riderOf } from "../parts/roster.js";
 import { makeScreen } from "../parts/screen.js";
 import { doingOf, manifestsIn, rowsIn, tripsThatStand } from "../parts/texts.js";
-import { doingWords, hoursOf, legend, scaleOf, stopWords, tableOfDay, timeline } from "../parts/timeline.js";
-import { fits, searchText } from "../parts/trip-search.js";
+import { bringIntoView, doingWords, hoursOf, legend, scaleOf, stopWords, tableOfDay, timeline } from "../parts/timeline.js";
+import { fits, searchText, vanFirst } from "../parts/trip-search.js";
 import { t } from "../parts/words.js";
-import { attention, attentionBar, readTold, readUnplaced, vansIn } from "./dispatcher-attention.js";
+import { attention, attentionBar, readUnplaced, vansIn } from "./dispatcher-attention.js";
 import { dayBar, nowOn, STOP, theDay } from "./dispatcher-bar.js";
+import { dutyOn, dutyRead, noteButton, notesList, notesOn } from "./dispatcher-notes.js";
+import { dayNow, dayRead, driversRead, toldNow } from "./dispatcher-reads.js";
+import { roomTable } from "./dispatcher-room.js";
+import { review } from "./dispatcher-review.js";
 
 /** @typedef {import("../parts/texts.js").Manifest} Manifest */
 /** @typedef {import("../parts/texts.js").Row} Row */
 /** @typedef {import("../parts/timeline.js").Label} Label */
 /** @typedef {import("../parts/timeline.js").Doings} Doings */
 /** @typedef {import("../parts/lateness.js").Told} Told */
-/** @typedef {{ day: string, text: string | null, csv: string, denied: any, chosen: number | null, now: number, ended: boolean, asTable: boolean, wide: number, told: Told | null,
- *   unplaced: number, onlyNeeds: boolean, printing: boolean, original: boolean, typed: string, marked: number | null }} State marked is the trip whose stop is shown in the manifest */
+/** @typedef {import("./dispatcher-notes.js").Notes} Notes */
+/** @typedef {import("./dispatcher-notes.js").Duty} Duty */
+/** @typedef {{ day: string, chosen: number | null, now: number, ended: boolean, asTable: boolean, wide: number, unplaced: number, onlyNeeds: boolean, printing: boolean,
+ *   original: boolean, typed: string, marked: number | null, noted: number, asRoom: boolean }} Own noted counts the notes that were written here; marked is the trip whose stop is shown in the manifest */
+/** @typedef {Own & import("./dispatcher-reads.js").Day & { told: Told | null, notes: Notes, duty: Duty }} State with what the desk, drivers and dispatchers told of the day */
 /** @typedef {{ manifests: Manifest[], busy: Manifest[], shown: Manifest[], idle: Manifest[], one: Manifest | undefined, doings: Doings, dues: Map<number, number>,
  *   lates: Map<number, import("../parts/lateness.js").Late>, needs: import("./dispatcher-attention.js").Attention }} Known shown are the rows, in their order */
 
-const RENEWED = 15_000, NAMES_WIDE = 176, NAMES_NARROW = 104, NARROW = 640, BESIDE = 1_200, ONE_WIDE = 452, PADDING = 62, LEAST_ROOM = 320, TIP_WIDE = 260, TIP_BELOW = 34,
+const NAMES_WIDE = 176, NAMES_NARROW = 104, NARROW = 640, BESIDE = 1_200, ONE_WIDE = 452, PADDING = 62, LEAST_ROOM = 320, TIP_WIDE = 260, TIP_BELOW = 34,
     MOST_FOUND = 10;
 
 /** How wide the picture is between the names and the manifest.
@@ -94,7 +100,7 @@ function foundList({ typed }, { manifests }, go) {
     const wanted = folded(typed.trim());
     if (!wanted) return null;
     const all = entriesOf(manifests).filter(({ text }) => fits(text, wanted)).sort((a, b) => a.stop.at - b.stop.at), now = minuteNow();
-    const near = [...all.filter(({ stop }) => stop.at >= now - 60), ...all.filter(({ stop }) => stop.at < now - 60)];
+    const near = vanFirst([...all.filter(({ stop }) => stop.at >= now - 60), ...all.filter(({ stop }) => stop.at < now - 60)], wanted, ({ vehicle }) => folded(vehicleName(vehicle)));
     return part("div", { class: "found", role: "status" }, all.length === 0 ? part("p", {}, t("dispatcher.search-none")) : part("ul", { "aria-label": t("dispatcher.search-list") },
         near.slice(0, MOST_FOUND).map(({ vehicle, stop }) => part("li", { key: stop.trip }, button(t("dispatcher.found-trip", { planned: clock(stop.at), rider: riderLabel(Number(stop.rider)),
             window: stop.window ? between(...stop.window) : "", vehicle: vehicleName(vehicle), trip: stop.trip, telephone: riderOf(Number(stop.rider))?.telephone ?? "" }),
@@ -135,30 +141,35 @@ const telephoneOf = (rider) => {
     return telephone ? part("a", { href: `tel:${telephone.replace(/[^\d+]/g, "")}` }, telephone) : null;
 };
 
-/** @param {Manifest} manifest @param {Doings} doings @param {number | null} marked */
-const stopsOf = ({ vehicle, stops }, doings, marked) => part("ol", { class: "van-stops", id: `stops-${vehicle}` }, stops.map((stop, at) => part("li", { key: at, "data-minute": stop.at,
+/** @param {Manifest} manifest @param {State} state @param {Doings} doings @param {() => void} noted */
+const stopsOf = ({ vehicle, stops }, { day, marked, notes }, doings, noted) => part("ol", { class: "van-stops", id: `stops-${vehicle}` }, stops.map((stop, at) => part("li", { key: at, "data-minute": stop.at,
     "data-trip": stop.what === "PICK" ? stop.trip : null, class: marked !== null && stop.trip === marked ? "marked" : null }, part("span", { class: "when" }, clock(stop.at)),
     part("div", {}, part("p", {}, part("strong", {}, stop.what === "DEPOT" ? t("dispatcher.depot") : t(`dispatcher.paper-${stop.what}`, { trip: stop.trip })), " ",
         stop.rider !== undefined && riderLabel(stop.rider)), part("p", {}, placeName(stop.place)),
     stop.trip !== undefined && part("p", { class: "hint" }, [stop.window && t("dispatcher.promised", { window: between(...stop.window) }),
         t("dispatcher.people", { count: stop.people, wheelchairs: stop.wheelchairs }), doingWords(doings.get(stop.trip))].filter(Boolean).join(" · "),
-        stop.what === "PICK" && [" ", telephoneOf(Number(stop.rider))])))));
+        stop.what === "PICK" && [" ", telephoneOf(Number(stop.rider))]),
+    stop.trip !== undefined && notesList(notes(vehicle, stop.trip)),
+    stop.trip !== undefined && day === today() && noteButton({ day, vehicle, trip: stop.trip }, `${t(`dispatcher.paper-${stop.what}`, { trip: stop.trip })} ${riderLabel(Number(stop.rider))}`, noted)))));
 
-/** @param {State} state @param {Known} known @param {() => void} close */
-function oneVan({ day, marked, original }, { one, doings, dues }, close) {
+/** @param {State} state @param {Known} known @param {{ close: () => void, noted: () => void }} acts */
+function oneVan(state, { one, doings, dues }, { close, noted }) {
     if (!one) return null;
+    const { day, original, notes, duty } = state, label = duty(one.vehicle);
     const heading = t("dispatcher.manifest-of", { vehicle: vehicleName(one.vehicle), day: dayInWords(day) });
     return part("section", { class: "card one-van", key: `one-${one.vehicle}`, "aria-labelledby": "one-van" }, part("h3", { id: "one-van", tabindex: -1 }, heading),
-        part("div", { class: "row" }, one.stops.length > 0 && button(t("dispatcher.print-manifest"), () => printManifests([one], dues, { original })), button(t("dispatcher.close"), close)),
-        one.stops.length ? stopsOf(one, doings, marked) : part("p", {}, t("dispatcher.no-stops")),
+        label && part("p", { class: "duty" }, label), notesList(notes(one.vehicle, 0)),
+        part("div", { class: "row" }, one.stops.length > 0 && button(t("dispatcher.print-manifest"), () => printManifests([one], dues, { original, notes, duty })),
+            day === today() && noteButton({ day, vehicle: one.vehicle, trip: 0 }, "", noted), button(t("dispatcher.close"), close)),
+        one.stops.length ? stopsOf(one, state, doings, noted) : part("p", {}, t("dispatcher.no-stops")),
         part("details", {}, part("summary", {}, t("dispatcher.own-text")), part("pre", { tabindex: 0, role: "region", "aria-label": t("dispatcher.own-text") }, one.text)));
 }
 
 // The whole.
 
-/** @param {State} state @param {Known} known @param {{ chosen: (vehicle: number) => void, tip: ReturnType<typeof tipScreen>, toNow: () => void, tabled: () => void, original: (original: boolean) => void }} acts */
-function pictureCard(state, known, { chosen, tip, toNow, tabled, original }) {
-    const { manifests, busy, shown, idle, one, doings, dues, lates } = known, { day, text, now, asTable, chosen: selected } = state, stand = tripsThatStand(text ?? ""), isNow = day === today();
+/** @param {State} state @param {Known} known @param {{ chosen: (vehicle: number) => void, tip: ReturnType<typeof tipScreen>, toNow: () => void, tabled: () => void, roomed: () => void, original: (original: boolean) => void }} acts */
+function pictureCard(state, known, { chosen, tip, toNow, tabled, roomed, original }) {
+    const { manifests, busy, shown, idle, one, doings, dues, lates } = known, { day, text, now, asTable, asRoom, notes, duty, chosen: selected } = state, stand = tripsThatStand(text ?? ""), isNow = day === today();
     const labelled = (/** @type {Label | null} */ label, spoken = false) => {
         const stop = label && manifests.find(({ vehicle }) => vehicle === label.vehicle)?.stops[label.at], words = stop ? stopWords(stop, doings) : "";
         tip.show(label, words);
@@ -166,16 +177,17 @@ function pictureCard(state, known, { chosen, tip, toNow, tabled, original }) {
     };
     return part("div", { class: "card picture-card" },
         busy.length > 0 && part("div", { class: "scroll timeline", id: "picture", tabindex: 0, role: "region", "aria-label": t("dispatcher.picture"), on: { pointerleave: () => labelled(null) } },
-            tip.element, rowsOnce(known, selected, isNow ? now : null, roomOf(state, Boolean(one)), () => timeline(shown, { chosen, selected, now: isNow ? now : null,
-                room: roomOf(state, Boolean(one)), doings, labelled, lates }))),
+            tip.element, rowsOnce([known, selected, isNow ? now : null, roomOf(state, Boolean(one)), state.noted, dutyRead().reply()], () => timeline(shown, { chosen, selected, now: isNow ? now : null,
+                room: roomOf(state, Boolean(one)), doings, labelled, lates, duty, noted: (it) => [0, ...it.stops.flatMap(({ what, trip }) => (what === "PICK" ? Number(trip) : []))].reduce((sum, trip) => sum + notes(it.vehicle, trip).length, 0) }))),
         idle.length > 0 && part("details", { class: "idle" }, part("summary", {}, t("dispatcher.idle", { count: idle.length })),
             part("ul", { class: "row" }, idle.map(({ vehicle }) => part("li", { key: vehicle }, vehicleName(vehicle))))),
         part("div", { class: "row tools" }, part("p", {}, t("dispatcher.stand", { count: stand }), " ", t(manifests.length ? "dispatcher.choose" : "dispatcher.nobody")),
-            button(t("dispatcher.print-sheet"), () => printDaySheet(day, manifests, text ?? "", { original: state.original })),
-            busy.length > 0 && button(t("dispatcher.print-manifests", { count: busy.length }), () => printManifests(busy, dues, { original: state.original })),
+            button(t("dispatcher.print-sheet"), () => printDaySheet(day, manifests, text ?? "", { original: state.original, duty })),
+            busy.length > 0 && button(t("dispatcher.print-manifests", { count: busy.length }), () => printManifests(busy, dues, { original: state.original, notes, duty })),
             part("label", { class: "tick" }, part("input", { type: "checkbox", checked: state.original, on: { change: (event) => original(event.target.checked) } }), t("dispatcher.with-original")),
             isNow && busy.length > 0 && button(t("dispatcher.to-now"), toNow), button(t("dispatcher.as-table"), tabled, { "aria-expanded": String(asTable), "aria-controls": "as-table" }),
-            busy.length > 0 && legend()),
+            manifests.length > 0 && button(t("dispatcher.as-room"), roomed, { "aria-expanded": String(asRoom), "aria-controls": "as-room" }), busy.length > 0 && legend()),
+        part("div", { id: "as-room" }, asRoom && roomTable(manifests, day)),
         part("div", { id: "as-table", class: asTable ? null : "folded-table" }, (asTable || state.printing) && tableOfDay(t("dispatcher.table-of-day"), manifests, doings)));
 }
 
@@ -184,9 +196,8 @@ function pictureCard(state, known, { chosen, tip, toNow, tabled, original }) {
  */
 let rowsDrawn = null;
 
-/** @param {Known} known @param {number | null} selected @param {number | null} now @param {number} room @param {() => import("../types").Given} make */
-function rowsOnce(known, selected, now, room, make) {
-    const from = [known, selected, now, room];
+/** @param {any[]} from what they show @param {() => import("../types").Given} make */
+function rowsOnce(from, make) {
     if (!rowsDrawn || rowsDrawn.from.some((it, at) => it !== from[at])) rowsDrawn = { from, made: make() };
     return rowsDrawn.made;
 }
@@ -207,57 +218,82 @@ function openAt({ now }, vehicle, trip) {
     const list = document.getElementById(`stops-${vehicle}`), stops = /** @type {HTMLElement[]} */ ([...list?.children ?? []]);
     const stop = stops.find((it) => (trip ? it.dataset.trip === String(trip) : Number(it.dataset.minute) >= now - 10));
     if (list && stop) list.scrollTop = stop.offsetTop;
-    const frame = document.getElementById("picture"), row = frame?.querySelector(`[data-row="${vehicle}"]`), hours = frame?.querySelector(".hours");
-    if (!frame || !(row instanceof HTMLElement) || !hours) return;
-    const above = hours.clientHeight, top = row.offsetTop - above, bottom = row.offsetTop + row.offsetHeight - frame.clientHeight;
-    frame.scrollTop = Math.max(bottom, Math.min(top, frame.scrollTop));
+    const row = document.querySelector(`#picture [data-row="${vehicle}"]`);
+    if (row instanceof HTMLElement) bringIntoView(row);
 }
 
-/** @param {string} day @returns {State} */
-const firstState = (day) => ({ day, text: null, csv: "", denied: null, chosen: null, now: nowOn(day), ended: false, asTable: false, wide: window.innerWidth, told: null, unplaced: 0,
-    onlyNeeds: false, printing: false, original: false, typed: "", marked: null });
+/** @param {Own} own @returns {State} */
+function stateOf(own) {
+    const told = toldNow(own.day);
+    return { ...own, ...dayNow(own.day), told, notes: notesOn(own.day, told), duty: dutyOn(own.day) };
+}
+
+/** @param {string} day @returns {Own} */
+const firstState = (day) => ({ day, chosen: null, now: nowOn(day), ended: false, asTable: false, wide: window.innerWidth, unplaced: 0, onlyNeeds: false,
+    printing: false, original: false, typed: "", marked: null, noted: 0, asRoom: false });
 
 export function dayPicture() {
     // (what was drawn for another screen acts on that one, and may be in another language)
     rowsDrawn = null;
     const tip = tipScreen();
-    const screen = makeScreen({ state: firstState(theDay()), class: "stack dispatch-wide dispatch-head dispatch-day", draw: (state, { change, kept }) => {
-        const known = knownOf(state), vehicle = state.chosen;
+    const screen = makeScreen({ state: firstState(theDay()), class: "stack dispatch-wide dispatch-head dispatch-day", draw: (own, { change, kept }) => {
+        const state = stateOf(own), known = knownOf(state), vehicle = state.chosen;
         const close = () => change({ chosen: null, marked: null }, { focus: `vehicle-${vehicle}` });
         const show = (/** @type {number} */ it, /** @type {number | undefined} */ trip) => {
             change({ chosen: it, marked: trip ?? null, typed: "", onlyNeeds: state.onlyNeeds && known.shown.some((row) => row.vehicle === it) }, { focus: "one-van" });
-            openAt(screen.state, it, trip);
+            openAt(stateOf(screen.state), it, trip);
         };
         const chosen = (/** @type {number} */ it) => (it === state.chosen ? close() : show(it, undefined));
+        const look = async (/** @type {Parameters<typeof review>[0]} */ row) => {
+            const { told } = stateOf(screen.state), answer = told && await review(row, told);
+            if (answer === "show") show(row.vehicle, row.trip);
+            else change({});
+        };
         const finding = { go: show, search: (/** @type {string} */ typed) => change({ typed }), filter: (/** @type {boolean} */ onlyNeeds) => change({ onlyNeeds }) };
         const go = (/** @type {string} */ day) => {
-            change({ ...firstState(day), asTable: state.asTable, chosen: state.chosen, wide: state.wide });
-            renew();
+            change({ ...firstState(day), asTable: state.asTable, asRoom: state.asRoom, chosen: state.chosen, wide: state.wide });
+            follow();
         };
-        const acts = { chosen, tip, toNow: () => moveToNow(screen.state), original: (/** @type {boolean} */ original) => change({ original }), tabled: () => {
+        const acts = { chosen, tip, toNow: () => moveToNow(stateOf(screen.state)), original: (/** @type {boolean} */ original) => change({ original }), tabled: () => {
             change(({ asTable }) => ({ asTable: !asTable }));
             fill();
+        }, roomed: () => {
+            change(({ asRoom }) => ({ asRoom: !asRoom }));
+            fill();
         } };
-        return [dayBar({ ...state, go, kept }), state.denied ? denialOf(state.denied) : state.text === null ? part("p", {}, t("dispatcher.reading"))
-            : [part("div", { class: "finding" }, attentionBar(known.needs, { told: state.told, unplaced: state.unplaced, isToday: state.day === today(), go: show }), searchRow(state, known, finding)),
-                part("div", { class: known.one ? "day-view with-one" : "day-view" }, pictureCard(state, known, acts), oneVan(state, known, close))]];
+        return [dayBar({ ...state, go, kept }), dayRead(state.day).age(), state.denied ? denialOf(state.denied) : state.text === null ? part("p", {}, t("dispatcher.reading"))
+            : [part("div", { class: "finding" }, attentionBar(known.needs, { told: state.told, unplaced: state.unplaced, isToday: state.day === today(), go: show, review: look }), searchRow(state, known, finding)),
+                part("div", { class: known.one ? "day-view with-one" : "day-view" }, pictureCard(state, known, acts), oneVan(state, known, { close, noted: () => change(({ noted }) => ({ noted: noted + 1 })) }))]];
     } });
-    const fill = () => screen.element.classList.toggle("dispatch-fill", !screen.state.asTable);
+    const fill = () => screen.element.classList.toggle("dispatch-fill", !screen.state.asTable && !screen.state.asRoom);
     fill();
-    let reads = 0;
-    async function renew() {
-        reads += 1;
-        const { day, text: before } = screen.state;
-        const [sheet, trips, told, unplaced] = await Promise.all([desk.sheet(day), desk.tripsOn(day), readTold(day), readUnplaced()]).finally(() => { reads -= 1; });
-        if (screen.state.day !== day || sheet.denied === "left" || trips.denied === "left") return;
-        if (sheet.denied !== undefined) return screen.change({ denied: sheet });
-        screen.change({ text: sheet.value, csv: trips.value ?? "", denied: null, now: nowOn(day), told, unplaced });
-        if (before === null) moveToNow(screen.state);
-        const trip = Number(sessionStorage.getItem(STOP)) || null, manifest = trip && knownOf(screen.state).busy.find(({ stops }) => stops.some((stop) => stop.trip === trip));
+    let moved = false, leave = () => {};
+    /** Follows what is read of the day that is shown. */
+    function follow() {
+        leave();
+        moved = false;
+        const { day } = screen.state, stops = [dayRead(day).watch(screen.element, () => heard(day)), driversRead().watch(screen.element, () => heard(day)), dutyRead().watch(screen.element, () => heard(day))];
+        leave = () => stops.forEach((act) => act());
+    }
+    /** @param {string} day */
+    async function heard(day) {
+        if (screen.state.day !== day) return;
+        screen.change({ now: nowOn(day) });
+        openFirst();
+        const unplaced = await readUnplaced();
+        if (screen.state.day === day && screen.state.unplaced !== unplaced) screen.change({ unplaced });
+    }
+    /** Once the day is there, the picture is at the present, or at the stop that another part of the screen has named. */
+    function openFirst() {
+        const state = stateOf(screen.state);
+        if (moved || state.text === null) return;
+        moved = true;
+        moveToNow(state);
+        const trip = Number(sessionStorage.getItem(STOP)) || null, manifest = trip && knownOf(state).busy.find(({ stops }) => stops.some((stop) => stop.trip === trip));
         sessionStorage.removeItem(STOP);
         if (!trip || !manifest) return;
         screen.change({ chosen: manifest.vehicle, marked: trip }, { focus: "one-van" });
-        openAt(screen.state, manifest.vehicle, trip);
+        openAt(stateOf(screen.state), manifest.vehicle, trip);
     }
     const measured = new ResizeObserver(([entry]) => {
         const wide = Math.round(entry.contentRect.width);
@@ -268,13 +304,11 @@ export function dayPicture() {
     for (const [name, printing] of /** @type {[string, boolean][]} */ ([["beforeprint", true], ["afterprint", false]])) {
         window.addEventListener(name, () => { if (screen.element.isConnected) screen.change({ printing }); });
     }
-    // (a silent desk is asked by the read that waits for it)
-    screen.every(RENEWED, () => { if (!reads) renew(); });
     screen.onNewDay(() => {
         screen.change(({ day }) => ({ ended: true, now: nowOn(day) }));
-        renew();
+        dayRead(screen.state.day).again();
     });
-    renew();
+    follow();
     return screen.element;
 }
 

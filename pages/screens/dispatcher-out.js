@@ -16,7 +16,8 @@ import { vehicleField } from "../parts/vehicle-field.js";
 import { t } from "../parts/words.js";
 import { dollars, windowOf } from "./booking.js";
 import { callTools, callsTable, saveCalls } from "./dispatcher-calls.js";
-import { carryOut, dropPlan, keepPlan, keptPlans, readAgain, readVehicle } from "./dispatcher-plan.js";
+import { carryOut, dropPlan, keepPlan, keptPlans, readAgain } from "./dispatcher-plan.js";
+import { dayNow, dayRead, driversRead, vehicleRead } from "./dispatcher-reads.js";
 import { settingsOn } from "./dispatcher-settings.js";
 import { settingsFields } from "./dispatcher-vehicles.js";
 
@@ -25,8 +26,9 @@ import { settingsFields } from "./dispatcher-vehicles.js";
 /** @typedef {import("./dispatcher-plan.js").Read} Read */
 /** @typedef {import("../types").Field} Field */
 /** @typedef {"cancel" | "move"} Mode */
-/** @typedef {Read & { back: string | null, settings: Field[] }} Shown settings are the fields of what the vehicle comes back with */
-/** @typedef {{ found: Shown | null, denied: any, reading: boolean, plans: Plan[], shown: string | null, running: string | null, unkept: boolean }} State
+/** @typedef {{ back: string | null, settings: Field[] }} Return settings are the fields of what the vehicle comes back with */
+/** @typedef {Read & Return} Shown */
+/** @typedef {{ asked: ({ vehicle: number, from: string } & Return) | null, denied: any, reading: boolean, plans: Plan[], shown: string | null, running: string | null, unkept: boolean }} State
  *   shown and running name plans */
 
 const LOOKED = 5_000;
@@ -243,7 +245,7 @@ function actsOf(screen) {
         work.tell();
     };
     return {
-        begin: (/** @type {Shown} */ found, /** @type {Mode} */ mode) => begin(found, mode, () => screen.change({ found: null }, { focus: "out-report" })).then(shown),
+        begin: (/** @type {Shown} */ found, /** @type {Mode} */ mode) => begin(found, mode, () => screen.change({ asked: null }, { focus: "out-report" })).then(shown),
         goOn: (/** @type {Plan} */ plan) => goOn(plan).then(shown), retry: (/** @type {Plan} */ plan) => goOn(plan, toTryAgain).then(shown),
         look: (/** @type {Plan} */ plan) => alone(plan, async () => {
             const now = await readAgain(plan);
@@ -270,15 +272,9 @@ function askForm(show) {
     }, done: () => {} });
 }
 
-/** How many reads of it are under way. */
-let asking = 0;
-
-/** The plans of this browser, for a key that may read a day. */
+/** The plans of this browser. */
 async function takeWork() {
     if (work.running) return;
-    asking += 1;
-    const { denied } = await desk.tripsOn(today()).finally(() => { asking -= 1; });
-    if (denied !== undefined) return;
     const plans = await keptPlans();
     if (work.running) return;
     work.plans = plans.sort((a, b) => (keyOf(a) < keyOf(b) ? -1 : 1));
@@ -286,36 +282,62 @@ async function takeWork() {
     work.tell();
 }
 
-/** @param {{ vehicle: number, from: string, back: string | null }} asked @returns {Promise<Partial<State>>} */
+/** @param {{ vehicle: number, from: string, back: string | null }} values @returns {Promise<Partial<State>>} */
 async function foundOf({ vehicle, from, back }) {
-    const found = await readVehicle(vehicle, from);
-    if (found.denied !== undefined) return { denied: found, found: null };
+    const found = await vehicleRead(vehicle, from).again();
+    if (found.denied !== undefined) return { denied: found, asked: null };
     const known = back === null ? null : settingsOn(vehicle, back);
-    const settings = settingsFields(known ?? { days: found.weekdays, depot: found.depot });
-    return { denied: null, found: { ...found, back, settings } };
+    const settings = settingsFields(known ?? { days: found.value.weekdays, depot: found.value.depot });
+    return { denied: null, asked: { vehicle, from, back, settings } };
+}
+
+/** What is known of the vehicle that was asked for.
+ * @param {State} state @returns {Shown | null}
+ */
+function shownOf({ asked: it }) {
+    const found = it && vehicleRead(it.vehicle, it.from).reply()?.value;
+    return it && found ? { ...found, back: it.back, settings: it.settings } : null;
 }
 
 export function outOfService() {
+    let leave = () => {}, leaveDay = () => {}, mayRead = false;
+    // (plans name riders, so they are shown to a key that may read a day)
+    const take = async () => { if (mayRead) await takeWork(); };
     const ask = askForm(async (values) => {
-        screen.change({ reading: true, found: null, denied: null });
+        screen.change({ reading: true, asked: null, denied: null });
         screen.change({ reading: false, ...await foundOf(values) }, { focus: "out-found" });
+        leave();
+        leave = vehicleRead(values.vehicle, values.from).watch(screen.element, () => screen.change({}));
     });
     const acts = actsOf({ change: (patch, options) => screen.change(patch, options) });
-    const screen = makeScreen({ state: /** @type {State} */ ({ found: null, denied: null, reading: false, plans: [], shown: null, running: null, unkept: false }), class: "stack dispatch-wide",
+    const screen = makeScreen({ state: /** @type {State} */ ({ asked: null, denied: null, reading: false, plans: [], shown: null, running: null, unkept: false }), class: "stack dispatch-wide",
         draw: (state) => {
-            const { found, denied, reading, plans, running } = state;
+            const { denied, reading, plans, running } = state, found = shownOf(state);
             const isBegun = running !== null || plans.some((plan) => found && keyOf(plan) === keyOf(found));
             return [part("section", { class: "card" }, part("h2", {}, t("dispatcher.out-heading")), part("p", { class: "hint" }, t("dispatcher.out-hint")), ask),
                 otherPlans(state, acts), reportCard(state, acts), part("div", { id: "out-found", class: "stack", tabindex: -1 }, reading && part("p", {}, t("dispatcher.reading")),
-                    denied && denialOf(denied, "manifest"), found && [todayCard(found), laterCard(found, (mode) => acts.begin(found, mode), isBegun)])];
+                    denied && denialOf(denied, "manifest"), found && [vehicleRead(found.vehicle, state.asked?.from ?? "").age(), todayCard(found), laterCard(found, (mode) => acts.begin(found, mode), isBegun)])];
         } });
     work.tell = () => {
         const { plans, shown, running, unkept } = work;
         screen.change({ plans, shown, running, unkept });
     };
-    takeWork();
-    // (a silent desk is asked by the read that waits for it)
-    screen.every(LOOKED, () => { if (!asking) takeWork(); });
-    screen.onNewDay(() => screen.change({ found: null }));
+    const follow = () => {
+        leaveDay();
+        // (once is enough: read again after each write, a day would take half of what a move may ask for)
+        leaveDay = dayRead(today()).watch(screen.element, () => {
+            mayRead ||= dayNow(today()).text !== null;
+            if (mayRead) leaveDay();
+            take();
+        });
+    };
+    take();
+    driversRead().watch(screen.element, () => screen.change({}));
+    screen.every(LOOKED, take);
+    screen.onNewDay(() => {
+        screen.change({ asked: null });
+        follow();
+    });
+    follow();
     return screen.element;
 }

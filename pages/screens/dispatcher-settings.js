@@ -1,20 +1,15 @@
 // What this browser's dispatchers put of each vehicle: its weekdays, seats and hours from a day on. The desk tells them to nobody, and a vehicle
 // that comes back into service needs them again. It outlives signing out, as the admin's last policy does; no rider is in it.
 
+import { keepObject, keptObject } from "../parts/kept.js";
+
 /** @typedef {import("../parts/out-of-service.js").Settings} Settings */
 /** @typedef {Settings & { from_day: string }} Version */
 
 const KEPT = "dispatcher.vehicles", NAMES = ["days", "depot", "capacity", "chairs", "opens", "closes", "duration"];
 
 /** @returns {Record<string, Version[]>} */
-function all() {
-    try {
-        const it = JSON.parse(localStorage.getItem(KEPT) ?? "{}");
-        return typeof it === "object" && it !== null && !Array.isArray(it) ? it : {};
-    } catch {
-        return {};
-    }
-}
+const all = () => keptObject(KEPT);
 
 /** What was put of a vehicle, the newest day first; days off duty are left out.
  * @param {number} vehicle @returns {Version[]}
@@ -27,11 +22,8 @@ const versionsOf = (vehicle) => (all()[vehicle] ?? []).filter((it) => Array.isAr
 export function keepSettings({ id, from_day: from, ...fields }) {
     const kept = { from_day: from, ...Object.fromEntries(NAMES.map((name) => [name, fields[name]])) };
     const before = (all()[id] ?? []).filter((it) => it.from_day < from);
-    try {
-        localStorage.setItem(KEPT, JSON.stringify({ ...all(), [id]: [...before, kept].slice(-20) }));
-    } catch {
-        // (a browser without room asks for them again)
-    }
+    // (a browser without room asks for them again)
+    keepObject(KEPT, { ...all(), [id]: [...before, kept].slice(-20) });
 }
 
 /** What a vehicle had on a day, as far as it was put from here; null where it was not.
@@ -44,23 +36,13 @@ export const settingsOn = (vehicle, day) => versionsOf(vehicle).filter((it) => i
 const SAID = "dispatcher.said", MOST_SAID = 2_000;
 
 /** @returns {Record<string, import("../parts/out-of-service.js").Said>} */
-function allSaid() {
-    try {
-        const it = JSON.parse(localStorage.getItem(SAID) ?? "{}");
-        return typeof it === "object" && it !== null && !Array.isArray(it) ? it : {};
-    } catch {
-        return {};
-    }
-}
+const allSaid = () => keptObject(SAID);
 
 /** @param {number} trip */
 export const firstSaid = (trip) => allSaid()[trip];
 
 /** @param {number} trip @param {import("../parts/out-of-service.js").Said} said */
 export function keepSaid(trip, said) {
-    try {
-        localStorage.setItem(SAID, JSON.stringify(Object.fromEntries([...Object.entries(allSaid()), [trip, said]].slice(-MOST_SAID))));
-    } catch {
-        // (a browser without room knows the desk's wish alone)
-    }
+    // (a browser without room knows the desk's wish alone)
+    keepObject(SAID, Object.fromEntries([...Object.entries(allSaid()), [trip, said]].slice(-MOST_SAID)));
 }

@@ -15,22 +15,30 @@ import { t } from "../parts/words.js";
 import { dollars, statusOf, windowOf } from "./booking.js";
 import { dayBar, nowOn, STOP, theDay } from "./dispatcher-bar.js";
 import { saveCsv, spreadsheetOf } from "./dispatcher-files.js";
+import { notesList, notesOn } from "./dispatcher-notes.js";
+import { dayNow, dayRead, driversRead, toldNow } from "./dispatcher-reads.js";
 
 /** @typedef {import("../parts/texts.js").Row} Row */
 /** @typedef {import("../types").Given} Given */
 /** @typedef {{ vehicle: number, count: number, done: number, refused: { trip: number, denied: string }[], running: boolean }} Bulk the rest of a vehicle */
-/** @typedef {{ day: string, csv: string | null, sheet: string, denied: any, ended: boolean, typed: string, order: [string, number], answers: Record<number, Given>,
- *   bulk: Bulk | null, most: number, printing: boolean }} State most is how many rows are drawn */
+/** @typedef {{ day: string, ended: boolean, typed: string, order: [string, number], answers: Record<number, Given>, bulk: Bulk | null, most: number, printing: boolean }} Own
+ *   most is how many rows are drawn */
+/** @typedef {Own & import("./dispatcher-reads.js").Day} State with what the desk told of the day */
 /** @typedef {Row & { planned: number, drop: number }} Planned a trip with the minutes of its planned pickup and drop */
 /** @typedef {(row: Row) => void} Tell */
 
-const RENEWED = 15_000, NARROW = "(max-width: 48rem)", OUTCOMES = ["ridden", "missed-rider", "missed-operator"], MOST = 60, PROGRESS = 6;
+const NARROW = "(max-width: 48rem)", OUTCOMES = ["ridden", "missed-rider", "missed-operator"], MOST = 60, PROGRESS = 6;
 
 /** @type {[string, (row: Planned) => string][]} */
 const COLUMNS = [["window_from", windowOf], ["planned", ({ planned }) => clock(planned)], ["rider", ({ rider }) => riderLabel(rider)],
     ["telephone", ({ rider }) => riderOf(rider)?.telephone ?? ""], ["from", ({ from }) => placeName(from)], ["to", ({ to }) => placeName(to)],
     ["vehicle", ({ vehicle }) => vehicleName(vehicle)], ["wish", ({ wish }) => clock(wish)], ["due", ({ due }) => dollars(due)], ["trip", ({ trip }) => String(trip)],
     ["status", ({ status }) => statusOf(status)]];
+
+/** The notes of a trip stand at its rider; a van's own at the van.
+ * @param {import("./dispatcher-notes.js").Notes} notes @returns {(row: Planned) => Given}
+ */
+const riderCell = (notes) => ({ rider, vehicle, trip }) => [riderLabel(rider), notesList(notes(vehicle, trip))];
 
 /** @param {any} a @param {any} b */
 const compared = (a, b) => (typeof a === "number" && typeof b === "number" ? a - b : String(a).localeCompare(String(b)));
@@ -55,8 +63,8 @@ function knownOf(csv, sheet) {
 }
 
 /** @param {State} state */
-function rowsOf({ csv, sheet, typed, order: [name, way] }) {
-    const { rows: all, texts } = csv ? knownOf(csv, sheet) : { rows: [], texts: new Map() }, wanted = folded(typed.trim());
+function rowsOf({ csv, text: sheet, typed, order: [name, way] }) {
+    const { rows: all, texts } = csv ? knownOf(csv, sheet ?? "") : { rows: [], texts: new Map() }, wanted = folded(typed.trim());
     const shown = wanted ? all.filter(({ trip }) => fits(texts.get(trip) ?? "", wanted)) : [...all];
     return { all, shown: shown.sort((a, b) => compared(/** @type {any} */ (a)[name], /** @type {any} */ (b)[name]) * way || a.window_from - b.window_from || a.trip - b.trip) };
 }
@@ -132,7 +140,8 @@ const vanCell = (row) => button(vehicleName(row.vehicle), () => toDay(row), { cl
 /** @param {State} state @param {(name: string) => void} sort @param {Tell} tell */
 function columnsOf(state, sort, tell) {
     const [by, way] = state.order, now = today();
-    const columns = COLUMNS.map(([name, cell]) => ({ cell: name === "vehicle" ? (/** @type {Planned} */ row) => (row.status === "cancelled" ? vehicleName(row.vehicle) : vanCell(row)) : cell,
+    const notes = notesOn(state.day, toldNow(state.day));
+    const columns = COLUMNS.map(([name, cell]) => ({ cell: name === "rider" ? riderCell(notes) : name === "vehicle" ? (/** @type {Planned} */ row) => (row.status === "cancelled" ? vehicleName(row.vehicle) : vanCell(row)) : cell,
         number: name === "due", whole: ["window_from", "planned", "wish", "telephone"].includes(name), sorted: by === name ? (way > 0 ? "ascending" : "descending") : null,
         head: button([t(`dispatcher.column-${name}`), part("span", { "aria-hidden": "true" }, by !== name ? " ↕" : way > 0 ? " ▲" : " ▼")], () => sort(name), { class: "sort", id: `sort-${name}` }) }));
     return [...columns, { head: t("dispatcher.how-it-ended"), cell: (/** @type {Row} */ row) => outcomeTools(row, state, tell, now) }];
@@ -144,7 +153,7 @@ function cardsOf(rows, state, tell) {
     return part("ul", { class: "cards", "aria-label": t("dispatcher.trips-of-day") }, rows.map((row) => part("li", { key: row.trip },
         part("p", {}, part("strong", {}, windowOf(row)), ` ${riderLabel(row.rider)} (${statusOf(row.status)})`),
         part("p", {}, t("dispatcher.way", { trip: row.trip, from: placeName(row.from), to: placeName(row.to) }), `, ${vehicleName(row.vehicle)}, ${dollars(row.due)}`),
-        outcomeTools(row, state, tell, now))));
+        notesList(notesOn(state.day, toldNow(state.day))(row.vehicle, row.trip)), outcomeTools(row, state, tell, now))));
 }
 
 /** @param {State} state @param {{ sort: (name: string) => void, tell: Tell, endRest: (vehicle: number, rest: Row[]) => void, search: (typed: string) => void, more: () => void }} acts */
@@ -156,18 +165,18 @@ function tripsCard(state, { sort, tell, endRest, search, more }) {
     part("div", { class: "tall" }, matchMedia(NARROW).matches ? cardsOf(drawn, state, tell)
         : table(t("dispatcher.trips-of-day"), columnsOf(state, sort, tell), drawn, { rowKey: ({ trip }) => trip, class: "day-trips" })),
     part("div", { class: "row" }, drawn.length < shown.length && button(t("dispatcher.show-more", { count: shown.length - drawn.length }), more),
-        button(t("dispatcher.save-desk"), () => save(`trips-${day}.csv`, "text/csv", csv ?? "")), button(t("dispatcher.save-sheet"), () => saveCsv(`trips-${day}-names.csv`, spreadsheetOf(all)))),
+        button(t("dispatcher.save-desk"), () => save(`trips-${day}.csv`, "text/csv", csv)), button(t("dispatcher.save-sheet"), () => saveCsv(`trips-${day}-names.csv`, spreadsheetOf(all)))),
     closing(state, all, endRest));
 }
 
-/** @param {string} day @returns {State} */
-const firstState = (day) => ({ day, csv: null, sheet: "", denied: null, ended: false, typed: "", order: ["window_from", 1], answers: {}, bulk: null, most: MOST, printing: false });
+/** @param {string} day @returns {Own} */
+const firstState = (day) => ({ day, ended: false, typed: "", order: ["window_from", 1], answers: {}, bulk: null, most: MOST, printing: false });
 
 /** What can be done, over a screen's record.
- * @param {{ state: State, change: (patch: any, options?: any) => void }} screen @param {() => Promise<void>} renew
+ * @param {{ state: Own, change: (patch: any, options?: any) => void }} screen @param {() => Promise<any>} renew
  */
 function actsOf(screen, renew) {
-    const sort = (/** @type {string} */ name) => screen.change((/** @type {State} */ { order }) => ({ order: [name, order[0] === name ? -order[1] : 1] }));
+    const sort = (/** @type {string} */ name) => screen.change((/** @type {Own} */ { order }) => ({ order: [name, order[0] === name ? -order[1] : 1] }));
     const tell = async (/** @type {Row} */ row) => {
         const outcome = await outcomeOf(row);
         if (outcome === null) return;
@@ -184,42 +193,42 @@ function actsOf(screen, renew) {
             const { denied } = await desk.tellOutcome(trip, "ridden");
             if (denied === "left") return;
             if (denied !== undefined) refused.push({ trip, denied });
-            if (at % PROGRESS === PROGRESS - 1) screen.change((/** @type {State} */ { bulk }) => ({ bulk: bulk && { ...bulk, done: at + 1 } }));
+            if (at % PROGRESS === PROGRESS - 1) screen.change((/** @type {Own} */ { bulk }) => ({ bulk: bulk && { ...bulk, done: at + 1 } }));
         }
         await renew();
-        screen.change((/** @type {State} */ { bulk }) => ({ bulk: bulk && { ...bulk, done: rest.length, refused, running: false } }), { focus: "bulk" });
+        screen.change((/** @type {Own} */ { bulk }) => ({ bulk: bulk && { ...bulk, done: rest.length, refused, running: false } }), { focus: "bulk" });
     };
     const search = (/** @type {string} */ typed) => screen.change({ typed, most: MOST }), more = () => screen.change({ most: Infinity });
     return { sort, tell, endRest, search, more };
 }
 
 export function dayTrips() {
-    const screen = makeScreen({ state: firstState(theDay()), class: "stack dispatch-wide dispatch-head", draw: (state, { change, kept }) => {
-        const go = (/** @type {string} */ day) => {
+    // (what was read before is drawn at once, so these are there before the screen is)
+    const renew = () => dayRead(screen.state.day).again();
+    const acts = actsOf({ get state() { return screen.state; }, change: (patch, options) => screen.change(patch, options) }, renew);
+    const screen = makeScreen({ state: firstState(theDay()), class: "stack dispatch-wide dispatch-head", draw: (own, { change, kept }) => {
+        const state = { ...own, ...dayNow(own.day) }, go = (/** @type {string} */ day) => {
             change({ ...firstState(day), typed: state.typed, order: state.order });
-            renew();
+            follow();
         };
-        return [dayBar({ ...state, go, kept }), state.denied ? denialOf(state.denied) : state.csv === null ? part("p", {}, t("dispatcher.reading"))
+        return [dayBar({ ...state, go, kept }), dayRead(state.day).age(), state.denied ? denialOf(state.denied) : state.text === null ? part("p", {}, t("dispatcher.reading"))
             : tripsCard(state, acts)];
     } });
-    let reads = 0;
-    const renew = async () => {
-        reads += 1;
-        const { day } = screen.state, [reply, sheet] = await Promise.all([desk.tripsOn(day), desk.sheet(day)]).finally(() => { reads -= 1; });
-        if (screen.state.day !== day || reply.denied === "left") return;
-        screen.change(reply.denied !== undefined ? { denied: reply } : { csv: reply.value, sheet: sheet.value ?? "", denied: null });
-    };
-    const acts = actsOf(screen, renew);
+    let leave = () => {};
+    /** Follows what is read of the day that is shown. */
+    function follow() {
+        leave();
+        const stops = [dayRead(screen.state.day), driversRead()].map((it) => it.watch(screen.element, () => screen.change({})));
+        leave = () => stops.forEach((act) => act());
+    }
     for (const [name, printing] of /** @type {[string, boolean][]} */ ([["beforeprint", true], ["afterprint", false]])) {
         window.addEventListener(name, () => { if (screen.element.isConnected) screen.change({ printing }); });
     }
-    // (a silent desk is asked by the read that waits for it)
-    screen.every(RENEWED, () => { if (!screen.state.bulk?.running && !reads) renew(); });
     screen.onMedia(NARROW);
     screen.onNewDay(() => {
         screen.change({ ended: true });
         renew();
     });
-    renew();
+    follow();
     return screen.element;
 }

@@ -11,6 +11,7 @@ import { keepSubject } from "../parts/subject.js";
 import { vehicleField } from "../parts/vehicle-field.js";
 import { t } from "../parts/words.js";
 import { keepSettings, settingsOn } from "./dispatcher-settings.js";
+import { listsIn, worklistRead } from "./worklist.js";
 
 /** The fields of what a vehicle has, with what is known of it.
  * @param {Partial<Omit<import("../parts/out-of-service.js").Settings, "depot">> & { depot?: number | null }} known
@@ -34,15 +35,25 @@ function knownWords(id) {
     return last ? t("dispatcher.vehicle-last", { vehicle: vehicleName(id), day: dayInWords(last.from_day) }) : "";
 }
 
-/** @typedef {{ done: { id: number, day: string } | null, booked: number | null, known: string }} State */
+/** What the night's list says of a vehicle that comes near the versions for which the desk has room, for good.
+ * @param {any} reply @param {number | null} id
+ */
+function versionsWords(reply, id) {
+    const rows = listsIn(reply).filter((it) => it.id === "versions").flatMap(({ tables }) => tables.flatMap((it) => it.rows));
+    const row = id === null ? undefined : rows.find(([vehicle]) => Number.parseInt(vehicle, 10) === id);
+    return row ? part("p", { class: "note", id: "versions" }, t("dispatcher.versions", { vehicle: vehicleName(Number(id)), count: row[1], left: row[2] })) : null;
+}
+
+/** @typedef {{ done: { id: number, day: string } | null, booked: number | null, known: string, id: number | null }} State */
 
 export function vehicles() {
     const settings = settingsFields();
     const chosen = (/** @type {number | null} */ id) => {
         const last = id === null ? null : settingsOn(id, "9999-12-31");
         for (const field of last ? settings : []) field.write(/** @type {any} */ (last)[field.name]);
-        screen?.change({ known: id === null ? "" : knownWords(id) });
+        screen?.change({ id, known: id === null ? "" : knownWords(id) });
     };
+    const list = worklistRead();
     const vehicle = vehicleField("id", t("dispatcher.vehicle-field"), { chosen });
     const whole = form({ name: t("dispatcher.vehicle-form"), action: t("dispatcher.put-vehicle"), purpose: "vehicle", class: "vehicle",
         fields: [vehicle, dayField("from_day", t("dispatcher.holds-from"), { value: today() }), ...settings], begun: () => screen?.change({ done: null, booked: null }),
@@ -55,13 +66,14 @@ export function vehicles() {
         },
         done: (_, { id, from_day: day }) => screen?.change({ done: { id, day }, known: knownWords(id) }, { focus: "vehicle-done" }) });
     /** @type {ReturnType<typeof makeScreen<State>> | undefined} */
-    const screen = makeScreen({ state: /** @type {State} */ ({ done: null, booked: null, known: "" }), class: "card",
-        draw: ({ done, booked, known }) => [part("h2", {}, t("dispatcher.vehicle-heading")), part("p", { class: "hint" }, t("dispatcher.vehicle-hint")),
-            part("p", { role: "status" }, known), whole, booked !== null && part("div", { class: "row" }, button(t("dispatcher.to-out", { vehicle: vehicleName(booked) }), () => {
+    const screen = makeScreen({ state: /** @type {State} */ ({ done: null, booked: null, known: "", id: null }), class: "card",
+        draw: ({ done, booked, known, id }) => [part("h2", {}, t("dispatcher.vehicle-heading")), part("p", { class: "hint" }, t("dispatcher.vehicle-hint")),
+            part("p", { role: "status" }, known), part("div", { role: "status" }, versionsWords(list.reply(), id)), whole, booked !== null && part("div", { class: "row" }, button(t("dispatcher.to-out", { vehicle: vehicleName(booked) }), () => {
                 keepSubject("vehicle", booked);
                 location.hash = "#dispatcher/out";
             })),
             part("div", { role: "status", id: "vehicle-done", tabindex: -1 }, done && [part("p", { class: "good" },
                 t("dispatcher.vehicle-done", { vehicle: vehicleName(done.id), day: dayInWords(done.day) })), nameWords(done.id)])] });
+    list.watch(screen.element, () => screen?.change({}));
     return screen.element;
 }

@@ -3,6 +3,7 @@
 
 import { agency } from "../parts/agency.js";
 import { asked, choose } from "../parts/ask.js";
+import { askNote } from "../parts/ask-note.js";
 import { clock, momentNow, serverNow } from "../parts/clock.js";
 import { part, say } from "../parts/element.js";
 import { keep, putAside, takeBack, tellOnce } from "../parts/queue.js";
@@ -10,7 +11,6 @@ import { makeTurns } from "../parts/turns.js";
 import { t } from "../parts/words.js";
 import { choicesAt, evidenceOf, isOutcome, skipped } from "./driver-day.js";
 import { evidenceList } from "./driver-evidence.js";
-import { askNote } from "./driver-note.js";
 import { placeNameAt, whoAt } from "./driver-read.js";
 import { LOOSE, namesOf, sheetName, shownDay } from "./driver-state.js";
 import { didWords, stopWords, TITLE } from "./driver-stop.js";
@@ -118,7 +118,9 @@ function tapsOf(screen, relog, turn) {
     /** A note of the day on a trip, or on the van.
      * @param {Shown | null} stop */
     const note = (stop) => turn(async () => {
-        const { state } = screen, { vehicle, day } = state, trip = stop?.trip ?? 0, text = await askNote(stop ? stopWords(stop, namesOf(state)) : "");
+        const { state } = screen, { vehicle, day } = state, trip = stop?.trip ?? 0;
+        const text = await askNote({ title: stop ? t("driver.note-of", { about: stopWords(stop, namesOf(state)) }) : t("driver.note-van"), label: t("driver.note-label"),
+            hint: t("driver.note-hint"), save: t("driver.note-save") });
         if (!text) return;
         const at = momentNow(), tapped = { stop: stop?.name ?? "van", trip, rider: stop?.rider ?? 0, what: "note", at, text };
         /** @type {Tapped} */

@@ -99,11 +99,14 @@ async function recordsOf(vehicle) {
  * @param {boolean} isDisputed whether somebody has to know how a trip ended
  * @returns {Promise<(Read & { records: Records }) | { denied: string } | { silent: string }>} */
 export async function readDay(vehicle, day, before, isDisputed) {
-    const reply = await desk.readOnce(`/vehicles/${vehicle}/manifest/${day}`);
+    // (all at once: on a phone's line each answer takes its time)
+    const reading = desk.readOnce(`/vehicles/${vehicle}/manifest/${day}`);
+    const files = Promise.all([allPlaces(vehicle), ridersOf(vehicle), exportOf(day), isDisputed ? recordsOf(vehicle) : {}]);
+    files.catch(() => {});
+    const reply = await reading;
     if (reply.silent) return { silent: reply.silent };
     if (reply.denied) return { denied: reply.denied };
-    const stops = stopsIn(reply.value), [places, riders, { fares, records }, ended] = await Promise.all([allPlaces(vehicle), ridersOf(vehicle), exportOf(day),
-        isDisputed ? recordsOf(vehicle) : {}]);
+    const stops = stopsIn(reply.value), [places, riders, { fares, records }, ended] = await files;
     const names = { places: { ...before.places, ...placesOf(stops, places) }, riders: { ...before.riders, ...riders }, fares: { ...before.fares, ...fares } };
     const read = { text: reply.value, readAt: momentNow(), names };
     // (a phone without room for a copy shows what it read all the same)

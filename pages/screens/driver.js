@@ -9,7 +9,7 @@ import { forgetAllDays, forgetDaysBefore } from "../parts/manifest-copies.js";
 import { sheetOf } from "../parts/paper.js";
 import { annotate, entries, isKnownHere, onChange, prune, sendAll, sendTallies, whyStopped } from "../parts/queue.js";
 import { makeScreen } from "../parts/screen.js";
-import { keepSubject, subjectOf, withSubject } from "../parts/subject.js";
+import { keepSubject, keptSubject } from "../parts/subject-kept.js";
 import { t } from "../parts/words.js";
 import { actsOf } from "./driver-acts.js";
 import { leftOpen, waitAt } from "./driver-day.js";
@@ -90,6 +90,7 @@ function readerOf(screen, lock) {
     const take = ({ records, ...told }) => {
         const before = screen.state.read, gone = before ? goneFrom(before, told) : "";
         screen.change({ silent: false, denied: null, locked: false, read: told, gone: gone || screen.state.gone });
+        window.dispatchEvent(new Event("desk.seen"));
         keepVehicle(screen.state.vehicle);
         keepFiles();
         sendAll();
@@ -219,12 +220,21 @@ function manifestOf(vehicle) {
 function drawManifest() {
     const place = make("div", { class: "stack driver" });
     const drawIt = async () => {
-        const vehicle = subjectOf("vehicle") ?? await keptVehicle();
+        const vehicle = keptSubject("vehicle") ?? await keptVehicle();
+        // (the manifest of the van that is known waits for nothing; the field for another one follows below it)
+        let known = vehicle && manifestOf(vehicle);
         if (vehicle) keepSubject("vehicle", vehicle);
-        place.append(withSubject({ what: "vehicle", label: t("driver.vehicle"), action: t("driver.show"), draw: manifestOf, folded: true,
-            change: t("driver.change-van") }));
+        if (known) place.append(known);
+        const { withSubject } = await import("../parts/subject.js"), draw = (/** @type {number} */ id) => {
+            const it = id === vehicle && known ? known : manifestOf(id);
+            known = null;
+            return it;
+        };
+        const focused = document.activeElement;
+        place.append(withSubject({ what: "vehicle", label: t("driver.vehicle"), action: t("driver.show"), draw, folded: true, change: t("driver.change-van") }));
+        if (focused instanceof HTMLElement && focused !== document.activeElement && place.contains(focused)) focused.focus({ preventScroll: true });
     };
-    drawIt();
+    drawIt().catch(() => {});
     return place;
 }
 

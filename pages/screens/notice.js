@@ -1,17 +1,19 @@
 // The notice of a proposed suspension: which trips were missed, and the days that are proposed (49 CFR 37.125(h)(2)(i)); and the officer's
 // decision, which begins with those days.
 
-import { placeName } from "../parts/agency.js";
-import { dayInWords, dayShort, plus, today } from "../parts/clock.js";
+import { agency, placeName } from "../parts/agency.js";
+import { clock, dayInWords, dayShort, plus, today } from "../parts/clock.js";
 import * as desk from "../parts/desk.js";
 import { denialOf } from "../parts/denials.js";
-import { part } from "../parts/element.js";
+import { element, part } from "../parts/element.js";
 import { dayField, reasonsField, ticksField } from "../parts/fields.js";
 import { HEARING_DAYS, MOST_REASONS } from "../parts/limits.js";
+import { evidenceOf, fileIn, isGround } from "../parts/no-shows.js";
 import { basisOf, noticeIn } from "../parts/notices.js";
-import { plainOf } from "../parts/plain.js";
+import { bytesOf, plainOf } from "../parts/plain.js";
+import { fileAt, reading } from "../parts/reads.js";
 import { makeScreen } from "../parts/screen.js";
-import { t } from "../parts/words.js";
+import { listed, t } from "../parts/words.js";
 import { entryForm, faultOfDays } from "./cases.js";
 import { lettersRead } from "./letters.js";
 import { windowOf } from "./ticket.js";
@@ -31,7 +33,7 @@ const basisIn = (trips, { missed, starts, ends, more }) => basisOf({ missed: tri
 
 /** @param {Trip[]} trips @param {any} values */
 function faultIn(trips, values) {
-    const length = basisIn(trips, values).length;
+    const length = bytesOf(basisIn(trips, values));
     return faultOfDays(values) ?? (length > MOST_REASONS ? { field: "missed", fault: t("cases.basis-long", { length, most: MOST_REASONS }) } : null);
 }
 
@@ -41,31 +43,72 @@ function moreField() {
     return { ...made, read: () => (made.control.value.trim() ? made.read() : { value: "" }) };
 }
 
-/** @param {number} rider @param {Trip[]} trips @param {() => any} entered */
-function noticeOf(rider, trips, entered) {
-    const offered = trips.slice(0, MOST_OFFERED), recent = offered.filter(({ day }) => day >= plus(today(), -DAYS_TICKED)).map(({ trip }) => trip);
+// What was seen of each no-show.
+
+const NO_SHOWS = "/staff/no-shows.json";
+/** What drivers told of no-shows, as it is known to all screens. */
+const noShowsRead = () => reading(NO_SHOWS, { read: fileAt(NO_SHOWS) });
+
+/** @param {any} reply */
+const noShowsIn = (reply) => fileIn(reply?.value ?? null);
+
+/** @param {import("../parts/no-shows.js").Evidence} evidence */
+const seenWords = (evidence) => `${isGround(evidence) ? "" : "⚠ "}${t(`cases.seen-${evidence.kind}`, { arrived: clock((evidence.arrived ?? 0) % 1440), wait: evidence.wait, late: evidence.late, minutes: agency().wait_minutes })}`;
+
+/** @param {import("../parts/no-shows.js").File} file @param {Trip} trip */
+const seenOf = (file, { trip, day }) => evidenceOf(file, trip, day, agency().wait_minutes);
+
+/** What an officer reads of each trip of a sentence of the night's list, which names it.
+ * @param {string} sentence @returns {import("../types").Given}
+ */
+export function seenIn(sentence) {
+    const file = noShowsIn(noShowsRead().reply()), found = /^Missed by the rider on (\d{4}-\d{2}-\d{2}): trip (\d+) /.exec(sentence);
+    return file && found && part("span", { class: "seen" }, " ", seenWords(evidenceOf(file, Number(found[2]), found[1], agency().wait_minutes)));
+}
+
+/** Follows what drivers told of no-shows.
+ * @param {HTMLElement} place @param {() => void} act
+ */
+export const watchNoShows = (place, act) => noShowsRead().watch(place, act);
+
+/** What is asked before a notice that rests on trips of which nothing shows that they were the rider's.
+ * @param {Trip[]} trips @param {import("../parts/no-shows.js").File | null} file @param {number[]} missed
+ */
+function doubts(trips, file, missed) {
+    const chosen = trips.filter(({ trip }) => missed.includes(trip)), doubted = file ? chosen.filter((it) => !isGround(seenOf(file, it))) : chosen;
+    return doubted.length > 0 && part("p", { class: "note" }, t("cases.seen-doubt", { trips: listed(doubted.map(({ trip }) => String(trip))) }));
+}
+
+/** @param {number} rider @param {Trip[]} trips @param {import("../parts/no-shows.js").File | null} file @param {() => any} entered */
+function noticeOf(rider, trips, file, entered) {
+    const offered = trips.slice(0, MOST_OFFERED), recent = offered.filter((it) => it.day >= plus(today(), -DAYS_TICKED) && !(file && seenOf(file, it).kind === "late")).map(({ trip }) => trip);
     const first = plus(today(), 2 * HEARING_DAYS);
     const fields = [
         ticksField("missed", t("cases.basis"), offered.map((it) => /** @type {[number, string]} */ ([it.trip, t("cases.basis-trip",
-            { trip: it.trip, day: dayShort(it.day), window: windowOf(it), place: placeName(it.from) })])), recent, { least: 1, hint: t("cases.basis-hint"), wants: t("cases.basis-wants") }),
+            { trip: it.trip, day: dayShort(it.day), window: windowOf(it), place: placeName(it.from) }) + (file ? `. ${seenWords(seenOf(file, it))}` : "")])), recent, { least: 1, hint: t("cases.basis-hint"), wants: t("cases.basis-wants") }),
         dayField("starts", t("cases.starts-proposed"), { least: plus(today(), HEARING_DAYS + 1), value: first, wants: t("cases.starts-proposed-wants", { day: dayInWords(plus(today(), HEARING_DAYS + 1)) }) }),
         dayField("ends", t("cases.ends-proposed"), { least: plus(today(), HEARING_DAYS + 1) }), moreField()];
-    return entryForm(rider, "notice", entered, { fields, check: (values) => faultIn(trips, values), entryOf: (values) => ({ basis: basisIn(trips, values) }) });
+    return [!file && part("p", { class: "note" }, t("cases.seen-unknown")), entryForm(rider, "notice", entered, { fields, check: (values) => faultIn(trips, values), entryOf: (values) => ({ basis: basisIn(trips, values) }),
+        doubt: (values) => doubts(trips, file, values.missed) })];
 }
 
 /** The clerk's notice to a rider, of the trips that the rider missed.
  * @param {number} rider @param {() => any} entered
  */
 export function noticeFor(rider, entered) {
-    const screen = makeScreen({ state: { reply: /** @type {any} */ (null) }, draw: ({ reply }, { kept }) => {
-        if (reply === null) return part("p", { role: "status" }, t("cases.missed-reading"));
+    const read = reading(desk.pathOf.trips(rider)), seen = noShowsRead();
+    const screen = makeScreen({ state: {}, draw: (_, { kept }) => {
+        const reply = read.reply();
+        if (reply === null || seen.reply() === null) return part("p", { role: "status" }, t("cases.missed-reading"));
         if (reply.denied !== undefined) return part("div", { role: "status" }, denialOf(reply, "standing"));
         const trips = /** @type {Trip[]} */ (reply.value.trips).filter(({ status }) => status === "missed-rider").sort((a, b) => b.day.localeCompare(a.day) || b.trip - a.trip);
-        return trips.length ? kept("form", () => noticeOf(rider, trips, entered)) : part("p", { class: "hint" }, t("cases.missed-no-trips"));
+        if (!trips.length) return part("p", { class: "hint" }, t("cases.missed-no-trips"));
+        const file = noShowsIn(seen.reply());
+        // (another trip that was missed makes another form, which begins with what was typed into this one)
+        return [read.age(), kept(`form-${trips.map(({ trip }) => trip)}-${file !== null}`, () => element(part("div", { class: "stack" }, noticeOf(rider, trips, file, entered))))];
     } });
-    desk.tripsOf(rider).then((reply) => {
-        if (reply.denied !== "left") screen.change({ reply });
-    });
+    read.watch(screen.element, () => screen.change({}));
+    seen.watch(screen.element, () => screen.change({}));
     return screen.element;
 }
 
@@ -73,17 +116,19 @@ export function noticeFor(rider, entered) {
  * @param {number} rider @param {() => any} entered
  */
 export function suspensionFor(rider, entered) {
-    const screen = makeScreen({ state: { letters: /** @type {import("./letters.js").Letter[] | null} */ (null) }, draw: ({ letters }, { kept }) => {
-        if (!letters) return part("p", { role: "status" }, t("cases.letters-reading"));
-        const proposed = noticeIn(letters.filter(({ decision }) => decision === "notice").at(-1)?.lines.get("REASONS") ?? "");
+    const read = lettersRead(rider);
+    const screen = makeScreen({ state: {}, draw: (_, { kept }) => {
+        const reply = read.reply(), letters = /** @type {import("./letters.js").Letter[]} */ (reply?.value ?? []);
+        if (!reply) return part("p", { role: "status" }, t("cases.letters-reading"));
+        const notice = letters.filter(({ decision }) => decision === "notice").at(-1), proposed = noticeIn(notice?.lines.get("REASONS") ?? "");
         const least = plus(today(), 1), advised = plus(today(), HEARING_DAYS), days = proposed && Math.round((Date.parse(proposed.last) - Date.parse(proposed.first)) / 86_400_000);
         const starts = proposed && proposed.first > advised ? proposed.first : advised;
         const fields = [dayField("starts", t("cases.starts"), { least, value: starts, hint: t("cases.starts-hint", { days: HEARING_DAYS }) }),
             dayField("ends", t("cases.ends"), { least, value: days === null ? "" : plus(starts, days) }), reasonsField("reasons", t("cases.reasons"))];
         return [proposed && part("p", {}, t("cases.proposed", { first: dayInWords(proposed.first), last: dayInWords(proposed.last) })),
-            kept("form", () => entryForm(rider, "suspend", entered, { fields }))];
+            kept(`form-${notice?.entry}`, () => entryForm(rider, "suspend", entered, { fields }))];
     } });
-    lettersRead(rider).again().then((reply) => { if (reply.denied !== "left") screen.change({ letters: reply.value ?? [] }); });
+    read.watch(screen.element, () => screen.change({}));
     return screen.element;
 }
 

@@ -5,11 +5,11 @@ import { denialOf } from "../parts/denials.js";
 import { button, part } from "../parts/element.js";
 import { placeName } from "../parts/agency.js";
 import { riderLabel } from "../parts/roster.js";
-import { keepOffer, offerOf, openOffers } from "../parts/said.js";
+import { keepOffer, openOffer } from "../parts/said.js";
 import { makeScreen } from "../parts/screen.js";
 import { count } from "../parts/tally.js";
 import { t } from "../parts/words.js";
-import { givenUp, tellBooked } from "./booking-plan.js";
+import { givenUp, offerFields, offerNow, tellBooked } from "./booking-plan.js";
 import { saidWords, windowOf } from "./ticket.js";
 
 /** @typedef {import("../types").Trip} Trip */
@@ -20,6 +20,7 @@ import { saidWords, windowOf } from "./ticket.js";
  * @property {import("../types").Wish & import("../types").Ticket} trip
  * @property {Said} said
  * @property {Trip | null} old the trip as it was before a change
+ * @property {"booking" | "change" | undefined} [elsewhere] what the trip was where another browser was offered it
  * @property {Denied | null} denied why it could not be given up
  * @property {string} id
  * @property {boolean} busy
@@ -29,14 +30,14 @@ import { saidWords, windowOf } from "./ticket.js";
 /** An offer in one sentence, the whole of it, and its two answers.
  * @param {Shown} shown
  */
-export function offerShown({ trip, said, old, denied, id, busy, answer }) {
+export function offerShown({ trip, said, old, elsewhere, denied, id, busy, answer }) {
     const far = trip.window_from - said.minute, time = clock(said.minute), disabled = busy ? "true" : null;
     const heading = t(far > 0 ? "booking.offer-after" : "booking.offer-before", { offer: clock(trip.window_from), minutes: Math.abs(far), time });
-    return part("section", { class: "offer", tabindex: -1, id, "aria-label": heading }, part("h3", {}, heading),
+    return part("section", { class: "offer", tabindex: -1, id, "data-offer": trip.trip, "aria-label": heading }, part("h3", {}, heading),
         part("p", {}, t("booking.offer-trip", { trip: trip.trip, day: dayInWords(trip.day), window: windowOf(trip), from: placeName(trip.from), to: placeName(trip.to),
-            said: saidWords(said) })), part("p", {}, t(old ? "booking.offer-of-change" : "booking.offer-asks")), denied && denialOf(denied, "cancel"),
+            said: saidWords(said) })), part("p", {}, t(elsewhere === "change" ? "booking.offer-changed-elsewhere" : old ? "booking.offer-of-change" : "booking.offer-asks")), denied && denialOf(denied, "cancel"),
         part("div", { class: "row" }, button(t("booking.offer-yes", { trip: trip.trip }), () => answer(true), { class: "main", "aria-disabled": disabled }),
-            button(t(old ? "booking.offer-back" : "booking.offer-no", { trip: trip.trip, window: old ? windowOf(old) : "" }), () => answer(false), { "aria-disabled": disabled })));
+            elsewhere !== "change" && button(t(old ? "booking.offer-back" : "booking.offer-no", { trip: trip.trip, window: old ? windowOf(old) : "" }), () => answer(false), { "aria-disabled": disabled })));
 }
 
 /** What an offer that was not taken leaves: of a change the trip as it stands again.
@@ -54,29 +55,38 @@ export function offersOf(rider, changed) {
                 trips.map((trip) => one(trip, busy, denied[trip.trip] ?? null)))] });
     /** @param {Trip} trip @param {boolean} busy @param {Denied | null} denied */
     const one = (trip, busy, denied) => {
-        const offer = offerOf(trip.trip);
-        return offer && offerShown({ trip, said: offer.said, old: offer.old, denied, id: `offer-${trip.trip}`, busy, answer: (yes) => answer(trip, yes) });
+        const offer = openOffer(trip);
+        return offer && offerShown({ trip, said: offer.said, old: offer.old, elsewhere: offer.elsewhere, denied, id: `offer-${trip.trip}`, busy, answer: (yes) => answer(trip, yes) });
     };
     const left = (/** @type {number} */ trip) => screen.state.trips.filter((it) => it.trip !== trip);
     const answer = async (/** @type {Trip} */ trip, /** @type {boolean} */ yes) => {
-        const offer = offerOf(trip.trip);
+        const offer = openOffer(trip);
         if (!offer || screen.state.busy) return;
         screen.change({ busy: true });
-        const denied = yes ? null : await givenUp(trip.trip, offer.old);
-        if (yes) tellBooked({ wish: trip, said: offer.said }, trip);
+        const now = await offerNow(rider, trip, offer.old);
+        if (now === "left") {
+            screen.change({ busy: false });
+            return;
+        }
+        // (another clerk may have answered it meanwhile)
+        const kept = now === "stands" && (yes || openOffer(trip) === null), denied = kept || now === "gone" ? null : await givenUp(trip.trip, offer.old);
+        if (kept && yes) tellBooked({ wish: trip, said: offer.said }, trip);
         screen.change(denied ? { busy: false, denied: { [trip.trip]: denied } } : { busy: false, trips: left(trip.trip),
-            told: yes ? t("booking.offer-kept", { trip: trip.trip }) : refusedWords(offer.old) }, { focus: denied ? `offer-${trip.trip}` : `offers-${rider}` });
+            told: kept ? t("booking.offer-kept", { trip: trip.trip }) : refusedWords(offer.old) }, { focus: denied ? `offer-${trip.trip}` : `offers-${rider}` });
         changed();
     };
     const show = (/** @type {Trip[]} */ all) => {
-        const trips = all.filter(({ trip, status }) => status === "booked" && openOffers().includes(trip));
+        if (screen.state.busy) return;
+        // (what a form asks just now is not asked twice)
+        const isAsked = (/** @type {Trip} */ { trip }) => document.querySelector(`[data-offer="${trip}"]:not(#offer-${trip})`) !== null;
+        const trips = all.filter((trip) => openOffer(trip) !== null && !isAsked(trip));
         for (const trip of trips) {
-            const offer = offerOf(trip.trip);
+            const offer = openOffer(trip);
             if (!offer || offer.counted) continue;
-            count("denials", { day: trip.day, minute: offer.said.minute, rule: "no vehicle", mode: offer.said.mode });
+            count("denials", { day: trip.day, minute: offer.said.minute, rule: "no vehicle", mode: offer.said.mode, ...offerFields(rider, trip, offer.old) });
             keepOffer(trip.trip, { ...offer, counted: true });
         }
-        screen.change({ trips });
+        if (trips.length || screen.state.trips.length) screen.change({ trips });
     };
     return { element: screen.element, show };
 }

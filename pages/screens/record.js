@@ -1,4 +1,4 @@
-// The record of who did what: the questions of `bin/journal`, for officers and admins (docs/RECORDS.md). The site's answers are in English.
+// The record of who did what: the questions of `bin/journal`, for officers and admins (docs/RECORDS.md). The site answers in the language of the page.
 
 import { plus, today } from "../parts/clock.js";
 import * as desk from "../parts/desk.js";
@@ -7,7 +7,7 @@ import { choiceField, dayField, form, numberField } from "../parts/fields.js";
 import { HIGHEST_ID } from "../parts/limits.js";
 import { printParts } from "../parts/paper.js";
 import { makeScreen } from "../parts/screen.js";
-import { t } from "../parts/words.js";
+import { language, t } from "../parts/words.js";
 
 /** @typedef {{ title: string, columns: string[], rows: (string | number)[][], notes: string[] }} Answer */
 /** @typedef {{ answer: Answer, fault?: undefined } | { fault: string }} Found */
@@ -20,7 +20,7 @@ const DAYS_BACK = 31, NOTE = "note";
  * @returns {Promise<Found>}
  */
 async function asked(question, given) {
-    const words = Object.entries(given).filter(([, value]) => value !== null && value !== undefined && value !== "").map(([name, value]) => [name, String(value)]);
+    const words = Object.entries({ ...given, language: language() }).filter(([, value]) => value !== null && value !== undefined && value !== "").map(([name, value]) => [name, String(value)]);
     const { status, text } = await desk.fetchFile(`/record/${question}?${new URLSearchParams(words)}`);
     if (status === 200) return { answer: JSON.parse(text ?? "") };
     return { fault: status === 401 || status === 403 ? "caller" : status === 0 || status === 429 ? "silent" : "none" };
@@ -41,7 +41,7 @@ function shown(found) {
     if (!found) return null;
     if (found.fault !== undefined) return part("p", { class: "note" }, t(`record.${found.fault}`));
     const { answer } = found;
-    return part("section", { class: "card", lang: "en", id: "record-answer", tabindex: -1 }, part("h2", {}, answer.title), answer.notes.map((it) => part("p", {}, it)),
+    return part("section", { class: "card", id: "record-answer", tabindex: -1 }, part("h2", {}, answer.title), answer.notes.map((it) => part("p", {}, it)),
         answer.rows.length ? tableOf(answer) : part("p", {}, t("record.nothing")),
         part("div", { class: "row" }, button(t("record.print"), () => printParts(answer.title, paperOf(answer)))));
 }
@@ -75,7 +75,7 @@ function keysToSee() {
         if (!found) return [head, part("p", { role: "status" }, t("record.reading"))];
         if (found.fault !== undefined) return [head, part("p", { class: "note" }, t(`record.${found.fault}`))];
         const at = found.answer.columns.indexOf(NOTE), rows = found.answer.rows.filter((row) => row[at]);
-        return [head, rows.length ? part("div", { lang: "en" }, tableOf({ ...found.answer, rows })) : part("p", {}, t("record.keys-none"))];
+        return [head, rows.length ? tableOf({ ...found.answer, rows }) : part("p", {}, t("record.keys-none"))];
     } });
     asked("keys", { from: plus(today(), -DAYS_BACK) }).then((found) => screen.change({ found }));
     return screen.element;

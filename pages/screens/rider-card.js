@@ -50,13 +50,22 @@ function waitingWords(known) {
         appeal && t(appeal.heard ? "clerk.appeal-heard" : "clerk.appeal-waits", { day: dayShort(appeal.since), heard: dayShort(appeal.heard ?? appeal.since) })].filter(Boolean);
 }
 
-/** @param {number} rider @returns {[string, import("../types").Given][]} */
-function knownOf(rider) {
-    const known = riderOf(rider);
-    if (!known) return [];
+/** Whether the rider travels with an attendant, by the letter of the grant where it was read, or by the roster; null where neither says it.
+ * @param {import("../parts/case-facts.js").Letter[]} letters @param {string} told
+ */
+function attendantOf(letters, told) {
+    const line = letters.filter(({ lines }) => lines.has("ATTENDANT")).at(-1)?.lines.get("ATTENDANT") ?? told.trim().toLowerCase();
+    return /^(yes|y|s[ií]|true|1|x)$/.test(line) ? t("clerk.attendant-yes") : /^(no|n|false|0)$/.test(line) ? t("clerk.attendant-no") : null;
+}
+
+/** @param {number} rider @param {import("../parts/case-facts.js").Letter[]} letters @returns {[string, import("../types").Given][]} */
+function knownOf(rider, letters) {
+    const known = riderOf(rider) ?? null, attendant = attendantOf(letters, known?.attendant ?? "");
+    if (!known) return attendant === null ? [] : [["companion", attendant]];
     /** @type {[string, import("../types").Given][]} */
     const all = [["telephone", known.telephone && part("a", { href: `tel:${known.telephone.replace(/[^\d+]/g, "")}` }, known.telephone)],
-        ["home", known.home === null ? null : [placeName(known.home), placeNote(known.home)].filter(Boolean).join(", ")], ["usual", listed(known.usual.map(placeName))], ["aid", known.aid], ["note", known.note],
+        ["aid", known.aid], ["companion", attendant],
+        ["home", known.home === null ? null : [placeName(known.home), placeNote(known.home)].filter(Boolean).join(", ")], ["usual", listed(known.usual.map(placeName))], ["note", known.note],
         ["language", known.language && known.language !== "en" ? LANGUAGE_NAMES[/** @type {"es"} */ (known.language)] ?? known.language : null]];
     return all.filter(([, value]) => value);
 }
@@ -86,7 +95,7 @@ export function withCard(rider, draw) {
         return [part("section", { class: "card rider-card" }, part("h2", {}, t("clerk.rider", { rider: riderLabel(rider) })), known?.standing.age(),
             part("div", { role: "status" }, isClerk() && words()),
             denied && reply.denied === "desk.unknown" && isClerk() && part("p", {}, part("a", { href: RECORD }, t("clerk.make-record", { rider: riderLabel(rider) }))),
-            part("dl", { class: "facts" }, knownOf(rider).map(([name, value]) => part("div", {}, part("dt", {}, t(`clerk.${name}`)), part("dd", {}, value))))),
+            part("dl", { class: "facts" }, knownOf(rider, letters).map(([name, value]) => part("div", {}, part("dt", {}, t(`clerk.${name}`)), part("dd", {}, value))))),
         part("div", { class: "below", hidden: denied }, kept("below", draw))];
     } });
     /** @type {(() => void)[]} */

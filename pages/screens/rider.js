@@ -5,14 +5,15 @@ import { today } from "../parts/clock.js";
 import * as desk from "../parts/desk.js";
 import { denialOf } from "../parts/denials.js";
 import { draftIn } from "../parts/drafts.js";
-import { make, part } from "../parts/element.js";
+import { element, make, part } from "../parts/element.js";
 import { reading } from "../parts/reads.js";
 import { makeScreen } from "../parts/screen.js";
 import { lookAtSent, sentFor } from "../parts/sent.js";
-import { keepSubject, withSubject } from "../parts/subject.js";
+import { keepSubject, subjectOf, withSubject } from "../parts/subject.js";
 import { t } from "../parts/words.js";
 import { bookingFor, offersFor } from "./booking.js";
 import { entryForms, lettersFor, standingOf } from "./cases.js";
+import { formsCard } from "./forms.js";
 import { tripsOfRider } from "./trips.js";
 
 /** What is drawn once the rider's own places have names.
@@ -21,12 +22,18 @@ import { tripsOfRider } from "./trips.js";
 function withNames(rider, draw) {
     const screen = makeScreen({ state: { ready: hasOwnPlaces(rider) }, draw: ({ ready }, { kept }) => (ready ? kept("own", () => [draw(rider)].flat())
         : part("p", { role: "status" }, t("rider.reading"))) });
+    const staying = makeScreen({ state: {}, draw: () => desk.stays() === rider && part("p", { class: "hint" }, t("rider.stays")) });
     if (!screen.state.ready) loadOwnPlaces(rider).then(() => screen.change({ ready: true }));
-    return screen.element;
+    desk.stayAs(rider).then(() => staying.change({}));
+    return [screen.element, staying.element];
 }
 
 /** @param {(rider: number) => any} draw */
-const own = (draw) => () => withSubject({ what: "rider", label: t("rider.number"), action: t("rider.show"), folded: true, draw: (rider) => withNames(rider, draw) });
+const own = (draw) => () => {
+    const staying = desk.stays();
+    if (staying !== null && !subjectOf("rider")) keepSubject("rider", staying);
+    return withSubject({ what: "rider", label: t("rider.number"), action: t("rider.show"), folded: true, draw: (rider) => withNames(rider, draw) });
+};
 
 const help = () => (agency().telephone ? [make("p", { class: "hint" }, t("rider.help"), make("a", { href: `tel:${agency().telephone.replace(/[^\d+]/g, "")}` },
     agency().telephone))] : []);
@@ -58,12 +65,11 @@ function book(rider) {
         booking.copy(copied.trip, copied.back);
         draft.keep();
     });
-    const screen = makeScreen({ state: { denied: /** @type {any} */ (null) }, draw: ({ denied }) => (denied ? denialOf(denied, "rider") : booking.element) });
+    const standing = reading(desk.pathOf.standing(rider, today()));
+    const screen = makeScreen({ state: {}, draw: () => (standing.reply()?.denied === undefined ? booking.element : denialOf(standing.reply(), "rider")) });
     // (places of earlier trips are offered first, and a question before a booking has them already)
     reading(desk.pathOf.trips(rider)).watch(screen.element, () => {});
-    desk.standing(rider, today()).then((reply) => {
-        if (reply.denied !== undefined && reply.denied !== "left") screen.change({ denied: reply });
-    });
+    standing.watch(screen.element, () => screen.change({}));
     lookAtSent();
     return [make("div", { class: "stack", "data-sent": rider }, sentFor(rider), screen.element), ...help()];
 }
@@ -71,7 +77,7 @@ function book(rider) {
 /** @param {number} rider */
 function appeals(rider) {
     const letters = lettersFor(rider);
-    return [letters.element, ...entryForms(rider, ["appeal"], letters.refresh)];
+    return [letters.element, ...entryForms(rider, ["appeal"], letters.refresh), element(formsCard())];
 }
 
 export const rider = () => [

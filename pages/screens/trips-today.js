@@ -1,11 +1,12 @@
 // "Where is my van?": each trip of today that has no outcome yet, with its window, its van, what is known of the van, and whom to call.
 
 import { agency, placeName, vehicleName } from "../parts/agency.js";
+import { closedFor } from "../parts/closed-days.js";
 import { clock, minuteNow, serverNow, today } from "../parts/clock.js";
 import { part } from "../parts/element.js";
-import { fileAt, reading } from "../parts/reads.js";
 import { namedBy } from "../parts/said.js";
 import { STAFF } from "../parts/screens.js";
+import { toldRead } from "../parts/told.js";
 import { t } from "../parts/words.js";
 import { tapsOf, whereIs } from "../parts/where.js";
 import { windowOf } from "./ticket.js";
@@ -14,12 +15,12 @@ import { windowOf } from "./ticket.js";
 /** @typedef {import("../types").Given} Given */
 /** @typedef {import("../parts/where.js").Where} Where */
 
-const FILE = "/staff/today.json", KNOWN = ["arrived", "aboard", "dropped", "skipped", "no-show", "missed"];
+const KNOWN = ["arrived", "aboard", "dropped", "skipped", "no-show", "missed"];
 
 const screenNow = () => location.hash.slice(1).split("/")[0];
 
 /** What drivers told today, for staff: the site makes the file, and riders may not read it. */
-export const drivers = () => (STAFF.includes(screenNow()) ? reading(FILE, { read: fileAt(FILE) }) : null);
+export const drivers = () => (STAFF.includes(screenNow()) ? toldRead() : null);
 
 /** @param {string | null | undefined} text */
 function objectIn(text) {
@@ -58,11 +59,19 @@ function callWords({ vehicle }, { place }) {
     return telephone ? part("p", {}, t("trips.call-agency"), " ", part("a", { href: `tel:${telephone.replace(/[^\d+]/g, "")}` }, telephone)) : null;
 }
 
+/** The warning of a trip that is booked on a day on which nobody is served: who calls whom.
+ * @param {Trip} trip
+ */
+export function closedWords(trip) {
+    const name = closedFor(trip, agency().closed, today());
+    return name !== null && part("p", { class: "note closed-day" }, t(screenNow() === "rider" ? "trips.closed-rider" : "trips.closed", { name }));
+}
+
 /** @param {Trip} trip @param {any} told @param {(trip: Trip) => Given} tools */
 function todayTrip(trip, told, tools) {
     const where = whereIs(trip, minuteNow(), tapsOf(told, trip.vehicle, { day: today(), at: serverNow() }));
     return part("li", { key: trip.trip, class: `today ${where.place}`, "data-trip": trip.trip },
-        part("p", { class: "window" }, t("trips.today-window"), " ", part("strong", {}, windowOf(trip))),
+        closedWords(trip), part("p", { class: "window" }, t("trips.today-window"), " ", part("strong", {}, windowOf(trip))),
         part("p", { class: "state" }, stateWords(trip, where)), lastWords(trip, where),
         part("p", { class: "way" }, t("booking.card-way", { from: placeName(trip.from), to: placeName(trip.to) }),
             namedBy(trip) !== null && ` ${t("booking.card-by", { by: clock(Number(namedBy(trip))) })}`, ` ${t("trips.today-trip", { trip: trip.trip })}`),

@@ -8,13 +8,14 @@ import { denialOf } from "../parts/denials.js";
 import { button, part } from "../parts/element.js";
 import { reading } from "../parts/reads.js";
 import { riderLabel } from "../parts/roster.js";
-import { namedBy } from "../parts/said.js";
+import { beginCanceling, endAsking, leaveAsking, namedBy } from "../parts/said.js";
 import { makeScreen } from "../parts/screen.js";
 import { cancelTrip } from "../parts/tally.js";
 import { t } from "../parts/words.js";
 import { changeFor, statusOf } from "./booking.js";
+import { isUnknown } from "./booking-plan.js";
 import { dollars, party, printTickets, requestedWords, windowOf } from "./ticket.js";
-import { drivers, todayShown } from "./trips-today.js";
+import { closedWords, drivers, todayShown } from "./trips-today.js";
 
 /** @typedef {import("../types").Trip} Trip */
 /** @typedef {import("../types").Given} Given */
@@ -56,7 +57,7 @@ const answerOf = ({ trip }, { answers }) => answers[trip] && part("div", { id: `
 /** @param {Trip} trip @param {Shown} shown */
 function tripRow(trip, { tools, below, state }) {
     const { trip: number, day, from, to, due, vehicle, status } = trip, more = below(trip);
-    const cells = [part("span", { class: "whole" }, dayShort(day)), [part("span", { class: "whole" }, windowOf(trip)), saidLines(trip)],
+    const cells = [part("span", { class: "whole" }, dayShort(day)), [part("span", { class: "whole" }, windowOf(trip)), saidLines(trip), closedWords(trip)],
         [placeName(from), part("small", { class: "to" }, t("trips.to-place", { place: placeName(to) }))], [party(trip), part("small", {}, dollars(due))],
         [vehicleName(vehicle), status !== "booked" && part("small", {}, statusOf(status))]];
     return [part("tr", { key: number }, part("th", { scope: "row" }, String(number)), cells.map((cell) => part("td", {}, cell)),
@@ -76,7 +77,7 @@ function tripsTable(trips, caption, shown) {
 /** @param {Trip} trip @param {Shown} shown */
 function tripCard(trip, { tools, below, state }) {
     const status = trip.status === "booked" ? "" : ` (${statusOf(trip.status)})`;
-    return part("li", { key: trip.trip }, part("h3", {}, dayInWords(trip.day)),
+    return part("li", { key: trip.trip }, part("h3", {}, dayInWords(trip.day)), closedWords(trip),
         part("p", {}, part("strong", {}, t("booking.card-pickup", { window: windowOf(trip) })), status),
         part("p", {}, t("booking.card-way", { from: placeName(trip.from), to: placeName(trip.to) }), namedBy(trip) !== null && ` ${t("booking.card-by", { by: clock(Number(namedBy(trip))) })}`),
         part("p", { class: "hint" }, t("booking.card-more", { trip: trip.trip, said: requestedWords(trip), due: dollars(trip.due), who: party(trip), vehicle: vehicleName(trip.vehicle) })),
@@ -142,7 +143,8 @@ export function tripsOfRider(rider, { heading, cards = false, purpose = "standin
     /** @param {Trip} trip */
     async function cancel(trip) {
         if (!await sureToCancel(rider, trip)) return;
-        const reply = await cancelTrip(trip.trip, "rider");
+        const id = beginCanceling(rider, trip), reply = await cancelTrip(trip.trip, "rider");
+        (isUnknown(reply) ? leaveAsking : endAsking)(id);
         const answer = reply.denied !== undefined ? denialOf(reply, "cancel") : part("p", { class: "good" }, t("booking.cancelled-now", { trip: trip.trip, rider: riderLabel(rider) }));
         screen.change({ answers: { [trip.trip]: answer }, changing: null });
         await refresh();

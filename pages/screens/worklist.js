@@ -1,24 +1,35 @@
 // What waits in the office: the list that the site makes each night of a copy of the desk's file (docs/WORKLIST.md). The desk tells an officer's
 // key no trips, so the missed trips on which an officer decides are read here. Of the file only its words come onto the page, never its markup.
 
+import { between, clock, dayShort } from "../parts/clock.js";
 import { button, part, table } from "../parts/element.js";
 import { printParts } from "../parts/paper.js";
+import { partsLeft, partsListed, partsTold } from "../parts/partial.js";
 import { fileAt, reading } from "../parts/reads.js";
+import { riderName } from "../parts/roster.js";
+import { offersTold } from "../parts/said.js";
 import { makeScreen } from "../parts/screen.js";
 import { keepSubject } from "../parts/subject.js";
+import { toldRead } from "../parts/told.js";
 import { t } from "../parts/words.js";
+import { denialsToday } from "./denials-today.js";
+import { seenIn, watchNoShows } from "./notice.js";
 
 /** @typedef {import("../types").Given} Given */
 /** @typedef {{ heads: string[], rows: string[][] }} Table */
 /** @typedef {{ id: string, title: string, said: string[], tables: Table[] }} List */
 /** @typedef {{ said: string[], lists: List[], files: List[], fault?: undefined } | { fault: string }} Found */
 
-const FILE = "/staff/worklist.html", FILES = "rider-", SELDOM = 300_000;
+const FILE = "/staff/worklist.html", FILES = "rider-", PARTS = "in-part", SELDOM = 300_000;
+/** Who does the next step of a grant in part, and where.
+ * @type {Record<string, { step: string, address: string }>}
+ */
+const OF_PARTS = { clerk: { step: "refused", address: "clerk/file" }, examiner: { step: "applied", address: "examiner/case" } };
 /** Whose work each list is, and the part of the screen that shows a rider of it.
  * @type {Record<string, Record<string, string>>}
  */
-const OWN = { clerk: { applications: "file", appeals: "file", grants: "file" }, examiner: { applications: "case", grants: "case" }, officer: { appeals: "appeals", missed: "suspensions" },
-    dispatcher: { canceled: "riders", suspended: "riders", outcomes: "", vehicles: "" } };
+const OWN = { clerk: { offers: "trips", first: "file", applications: "file", appeals: "file", grants: "file" }, examiner: { first: "case", applications: "case", grants: "case" },
+    officer: { first: "appeals", appeals: "appeals", missed: "suspensions" }, dispatcher: { offers: "riders", closed: "riders", canceled: "riders", suspended: "riders", outcomes: "", vehicles: "" } };
 
 /** @param {Element | null} it */
 const wordsOf = (it) => (it?.textContent ?? "").replace(/\s+/g, " ").trim();
@@ -52,6 +63,22 @@ export const listsIn = (reply) => reply?.value?.lists ?? [];
 /** @param {string} fault */
 const faultWords = (fault) => part("p", { class: "note" }, t(`cases.waits-${fault}`));
 
+// Grants in part, which wait for a step of somebody else.
+
+/** What is left to do of grants in part: first what who reads does next, then what others do. Nothing where nothing is.
+ * @param {string} reader @param {List[]} lists @param {string | null} told @returns {Given}
+ */
+function partsOf(reader, lists, told) {
+    const mine = OF_PARTS[reader], left = mine ? partsLeft(partsTold(told), partsListed(lists.filter(({ id }) => id === PARTS).flatMap(({ tables }) => tables))) : [];
+    const shown = left.filter(({ step }) => step === mine.step || reader === "examiner");
+    return shown.length > 0 && part("section", { class: "card", key: PARTS }, part("h2", {}, t("cases.parts")), part("p", {}, t("cases.parts-hint")),
+        part("ul", { class: "parts-left" }, shown.map(({ rider, step, day, entry }) => part("li", { key: `${rider}-${entry}` }, part("strong", {}, t(`cases.parts-${step}`, { rider })), " ",
+            riderName(rider) && `${riderName(rider)}, `, t("cases.parts-since", { day: dayShort(day) }), " ", step === mine.step && button(t("cases.waits-open", { rider }), () => {
+                keepSubject("rider", rider);
+                location.hash = mine.address;
+            }, { class: "small" })))));
+}
+
 // As tables.
 
 /** A rider's number leads to the part that shows the rider.
@@ -77,22 +104,35 @@ const paperOf = ({ heads, rows }) => part("table", {}, part("thead", {}, part("t
 const print = (lists, said) => printParts(t("cases.waits"), [said.map((it) => part("p", {}, it)), lists.map((list) => part("section", {}, part("h2", {}, list.title),
     list.said.map((it) => part("p", {}, it)), list.tables.map(paperOf)))]);
 
+/** The offers that nobody has answered, as the site's log has them at this moment: the night's list knows none of today's.
+ * @param {string} address
+ */
+function offersNow(address) {
+    const offers = offersTold();
+    return offers.length > 0 && part("section", { class: "card", key: "offers-now" }, part("h2", {}, t("cases.waits-offers")), part("p", {}, t("cases.waits-offers-hint")), toldRead().age(),
+        table(t("cases.waits-offers"), [{ head: t("cases.waits-rider"), cell: (it) => riderCell(String(it.rider), address) }, { head: t("cases.waits-name"), cell: (it) => riderName(it.rider) ?? "" },
+            { head: t("booking.day"), cell: (it) => dayShort(it.day) }, { head: t("cases.waits-asked"), cell: (it) => t(`sent.said-${it.mode}`, { time: clock(it.minute) }) },
+            { head: t("cases.waits-offered"), cell: (it) => between(it.from ?? 0, it.to ?? 0) }, { head: t("booking.trip"), cell: (it) => String(it.trip) }], offers, { rowKey: ({ trip }) => trip }));
+}
+
 /** What waits: the lists of who reads first, the others folded below.
  * @param {"clerk" | "examiner" | "officer" | "dispatcher"} reader
  */
 export function worklist(reader) {
-    const own = OWN[reader], address = (/** @type {string} */ id) => own[id] && `${reader}/${own[id]}`, list = worklistRead();
-    const screen = makeScreen({ state: {}, draw: () => {
-        const found = /** @type {Found | null} */ (list.reply()?.value ?? null);
-        if (!found) return part("p", { role: "status" }, t("cases.waits-reading"));
-        if (found.fault !== undefined) return [faultWords(found.fault), part("div", { class: "row" }, button(t("cases.waits-again"), () => list.again()))];
-        const { lists, said } = found, others = lists.filter(({ id }) => !(id in own));
-        return [list.age(), part("div", { lang: "en" }, said.map((it) => part("p", {}, it))), lists.filter(({ id }) => id in own).map((it) => card(it, address(it.id))),
+    const own = OWN[reader], address = (/** @type {string} */ id) => own[id] && `${reader}/${own[id]}`, list = worklistRead(), told = toldRead();
+    const screen = makeScreen({ state: {}, draw: (_, { change }) => {
+        const found = /** @type {Found | null} */ (list.reply()?.value ?? null), parts = partsOf(reader, listsIn(list.reply()), told.reply()?.value ?? null);
+        const live = own.offers && told.reply()?.value, now = [live && offersNow(address("offers")), live && reader === "dispatcher" && denialsToday(() => change({})), parts];
+        if (!found) return [now, part("p", { role: "status" }, t("cases.waits-reading"))];
+        if (found.fault !== undefined) return [now, faultWords(found.fault), part("div", { class: "row" }, button(t("cases.waits-again"), () => list.again()))];
+        const { said } = found, lists = found.lists.filter(({ id }) => !live || id !== "offers"), others = lists.filter(({ id }) => !(id in own) && !(id === PARTS && reader in OF_PARTS));
+        return [now, list.age(), part("div", { lang: "en" }, said.map((it) => part("p", {}, it))), lists.filter(({ id }) => id in own).map((it) => card(it, address(it.id))),
             others.length > 0 && part("details", {}, part("summary", {}, t("cases.waits-others")), part("div", { class: "stack" }, others.map((it) => card(it)))),
             lists.length > 0 && part("div", { class: "row" }, button(t("cases.waits-print"), () => print(lists, said)))];
     } });
     screen.onNewDay(() => list.again());
     list.watch(screen.element, () => screen.change({}));
+    if (own.offers || reader in OF_PARTS) told.watch(screen.element, () => screen.change({}));
     return screen.element;
 }
 
@@ -115,8 +155,9 @@ export function waitingOf(rider) {
         const shown = [...found.lists.filter(({ id }) => id === "missed").map((list) => rowsOf(list, rider)).filter(({ tables }) => tables.length > 0),
             ...found.files.filter(({ id }) => id === `${FILES}${rider}`)];
         return [head, part("div", { lang: "en" }, found.said.map((it) => part("p", {}, it))), !shown.length && part("p", {}, t("cases.missed-none")),
-            shown.map((list) => part("section", { key: list.id, lang: "en" }, part("h3", {}, list.title), list.said.map((it) => part("p", {}, it)), tablesOf(list)))];
+            shown.map((list) => part("section", { key: list.id, lang: "en" }, part("h3", {}, list.title), list.said.map((it) => part("p", {}, it, seenIn(it))), tablesOf(list)))];
     } });
     list.watch(screen.element, () => screen.change({}));
+    watchNoShows(screen.element, () => screen.change({}));
     return screen.element;
 }

@@ -3,3 +3,6 @@
 export const MISSED_TRIPS = "Missed trips (no-shows): ", PROPOSED = "Proposed suspension: ", THROUGH = " through ";
 export const windowWords = (/** @type {string} */ from, /** @type {string} */ to) => `pickup window ${from} to ${to}`;
 export const fromWords = (/** @type {string} */ place) => `, from ${place}`;
+export const GRANTED_IN_PART = "Granted in part through ", FOR = " for ", NOT_GRANTED = ". Not granted: ";
+/** The night's list of what waits says so what is next of a grant in part (bin/paperwork/lists.py). */
+export const TAKE_APPLICATION = "Take the new application", GRANT_APPLICATION = "Grant it with its conditions";

@@ -59,14 +59,19 @@ def a_place_ten_times_too_far_is_asked_about(at):
 @check
 def the_policy_that_was_put_last_is_shown_and_asked_about(at):
     at.browser.sign_in(at.keys["admin"], "admin", "policy")
-    at.browser.sees("None was put from this browser yet.")
+    at.browser.sees("None was put from this browser yet.", "A new desk takes one missed trip for a pattern.")
     at.browser.fill_all({"A trip by fixed routes costs": "1.75", "And so much more where it takes a transfer": "0.50",
                          "Your own fare": "4", "Minutes that a stop takes": "2",
                          "Minutes that a ride may take beyond the direct drive": "20",
-                         "A pattern of missed trips is so many at least": "3",
+                         "A pattern of missed trips is so many at least": "2",
                          "And so many in a hundred of the rider's trips": "10", "Counted over so many days": "30"})
     at.browser.press("Put the policy")
+    at.browser.sees("Replace the whole policy by this one?", "$4.00", "One or two missed trips are no pattern or practice")
+    at.browser.press("No, go back")
+    at.browser.fill("A pattern of missed trips is so many at least", "3")
+    at.browser.press("Put the policy")
     at.browser.sees("Replace the whole policy by this one?", "$4.00")
+    at.browser.sees_no("One or two missed trips are no pattern")
     at.browser.press("Put the policy")
     at.browser.sees("The policy holds from now on.")
     at.browser.press("Sign out")
@@ -177,6 +182,28 @@ def what_was_put_here_is_saved_into_the_servers_file_or_forgotten(at):
     at.browser.press("Yes, forget them")
     at.browser.sees("This browser has nothing that the file on the server has not.")
     same("what this browser keeps", None, at.browser.script("return localStorage.getItem('desk.agency')"))
+
+
+@check
+def closed_days_are_kept_and_saved_into_the_servers_file(at):
+    at.browser.sign_in(at.keys["admin"], "admin", "names")
+    field = "Closed days, on which nobody is served"
+    try:
+        for wrong in ("Christmas", "2026-12-25 one\n2026-12-25 two"):
+            at.browser.fill(field, wrong)
+            at.browser.press("Keep")
+            at.browser.sees(f"“{wrong.splitlines()[-1]}” does not begin with a day")
+        at.browser.fill(field, "2026-12-25 Christmas Day\n2026-11-26")
+        at.browser.press("Keep")
+        at.browser.sees("Kept in this browser.")
+        chosen_file(at, json.dumps({"name": "Ours", "closed": [{"day": "2025-12-25"}]}))
+        saved = json.loads(bytes(until("nothing is saved", lambda: at.browser.script("return window.saved[0]"))))
+        same("the closed days", [{"day": "2026-11-26"}, {"day": "2026-12-25", "name": "Christmas Day"}], saved["closed"])
+        at.browser.fill(field, "")
+        at.browser.press("Keep")
+        until("the days go", lambda: at.browser.script("return JSON.parse(localStorage.getItem('desk.agency')).settings.closed.length === 0"))
+    finally:
+        at.browser.script("localStorage.removeItem('desk.agency')")
 
 
 @check

@@ -206,6 +206,48 @@ def a_denied_wish_gets_another_time_in_three_keys(at):
 
 
 @check
+def staff_mark_a_denial_so_that_its_state_is_kept(at):
+    begin(at, "1003")
+    wish(at, start="7 Elm", goal="Riverside", day=THURSDAY, wish="9 am", by="8:05 am")
+    at.browser.press(BOOK)
+    results(at, 1)
+    at.browser.requests()
+    at.browser.press(re.compile("^Keep a copy for the rider's advocate"))
+    wait_for(at, "the focus on what was marked", "document.activeElement.textContent.startsWith('Marked at ')")
+    asked = counted_in(at, "marks", f"day={THURSDAY}", "minute=540", "mode=around", "at=")
+    same("marks of one denial", 1, len([it for it in asked if "/tally/marks?" in it]))
+    at.browser.sees_no("Keep a copy for the rider's advocate")
+
+
+@check
+def a_way_back_that_is_lost_with_the_way_there_is_a_denial_too(at):
+    """It is told once the form is used again."""
+    begin(at, "1003")
+    wish(at, start="7 Elm", goal="Riverside", day=WEDNESDAY, wish="9 am", by="8:05 am", back="2 pm")
+    at.browser.requests()
+    at.browser.press(BOOK)
+    wait_for(at, "a denial", "!!document.querySelector('.legs .refused')")
+    wish(at, wish="4 am", by="", back="")
+    at.browser.press(BOOK)
+    asked = counted_in(at, "denials", "minute=240")
+    if not any("leg=lost" in it for it in asked):
+        asked += counted_in(at, "denials", "minute=840", "mode=not-before", "leg=lost")
+    same("lost ways back", 1, len({it for it in asked if "leg=lost" in it}))
+
+
+@check
+def a_way_back_that_is_lost_is_told_once_its_form_is_left(at):
+    begin(at, "1003")
+    wish(at, start="7 Elm", goal="Riverside", day=WEDNESDAY, wish="9 am", by="8:05 am", back="2:15 pm")
+    at.browser.requests()
+    at.browser.press(BOOK)
+    wait_for(at, "a denial", "!!document.querySelector('.legs .refused')")
+    at.browser.go_part("clerk", "waiting")
+    asked = counted_in(at, "denials", "minute=855", "mode=not-before", "leg=lost")
+    same("lost ways back", 1, len({it for it in asked if "leg=lost" in it}))
+
+
+@check
 def a_number_that_is_not_shown_can_be_done_nothing_with(at):
     begin(at, "1002")
     wish(at, start="school", goal="senior", day=FRIDAY, wish="3 pm")
@@ -333,6 +375,29 @@ def where_only_the_appointment_matters_the_latest_pickup_is_asked_for_first(at):
     at.browser.fill("Be there by", "")
     at.browser.press(BOOK)
     at.browser.sees("Write the time by which to be there.")
+
+
+@check
+def a_form_under_way_is_not_sent_a_second_time(at):
+    begin(at, "1003")
+    wish(at, start="7 Elm", goal="Riverside", day=WEDNESDAY, wish="9 am", by="8:05 am")
+    at.browser.press(BOOK)
+    results(at, 1)
+    at.browser.script("""const real = window.fetch; window.wishes = [];
+        window.fetch = async (path, options) => {
+            if (path === "/trips") { window.wishes.push(JSON.parse(options.body).wish); await new Promise((go) => setTimeout(go, 2000)); }
+            return real(path, options);
+        };""")
+    at.browser.press(re.compile("^(Try|Only) earlier"))
+    until("other times are not asked for", lambda: at.browser.script("return window.wishes.length"))
+    at.browser.script("document.querySelector('form.wish').requestSubmit()")
+    at.browser.script("document.querySelector('form.wish').requestSubmit()")
+    wait_for(at, "a ticket", "document.querySelectorAll('.legs .ticket').length === 1")
+    at.browser.settled()
+    wishes = at.browser.script("return window.wishes")
+    same("the wishes that were sent", sorted(set(wishes)), sorted(wishes))
+    holds(f"the form itself was sent again: {wishes}", not any(it > 540 - 15 for it in wishes))
+    at.town.post("third clerk", f"/trips/{last_trip(at, 1003)['trip']}/cancel", {})
 
 
 @check

@@ -18,6 +18,13 @@ const [name, given] = arguments;
 window.replies ??= [];
 import("/parts/desk.js").then((desk) => desk[name](...given)).then((reply) => window.replies.push(reply));
 """
+# Something before the site answers the next two writes: a page, of the kind that is given.
+CROWDED_PAGE = """
+const real = window.fetch, [kind] = arguments, page = "<html>429 Too Many Requests</html>";
+let left = 2;
+window.fetch = async (path, options) => (options?.method !== "POST" || (left -= 1) < 0 ? real(path, options)
+    : new Response(page, { status: 429, headers: { "Content-Type": kind } }));
+"""
 
 
 def asks(at, name, *given):
@@ -76,12 +83,17 @@ def a_write_that_breaks_many_times_is_done_once_and_a_sign_says_so_meanwhile(at)
 @check
 def while_the_site_asks_to_wait_a_write_waits(at):
     signed_in(at)
-    before = trips(at)
-    at.town.middle.breaks(CROWDED, times=2)
-    asks(at, "book", wish(760))
-    at.browser.sees("Many requests at once")
-    holds("no reply", "trip" in replies(at)[0]["value"])
-    same("the trips", before + 1, trips(at))
+    for kind, minute in [(None, 760), ("text/html", 780), ("application/json", 800)]:
+        before = trips(at)
+        if kind:
+            at.browser.script(CROWDED_PAGE, kind)
+        else:
+            at.town.middle.breaks(CROWDED, times=2)
+        asks(at, "book", wish(minute))
+        at.browser.sees("Many requests at once")
+        holds("no reply", "trip" in replies(at)[0]["value"])
+        at.browser.sees_no("Many requests at once")
+        same(f"the trips, {kind}", before + 1, trips(at))
 
 
 @check
@@ -249,6 +261,30 @@ def a_read_goes_on_by_itself_once_the_line_is_there_again(at):
     at.browser.sees_no(SIGN)
 
 
+FULL_STORES = """Storage.prototype.setItem = () => { throw new DOMException("full", "QuotaExceededError"); };"""
+
+
+@check
+def a_browser_whose_stores_are_full_or_shut_still_works(at):
+    made = at.browser.devtools("Page.addScriptToEvaluateOnNewDocument", source=FULL_STORES)
+    try:
+        at.browser.fresh()
+        signed_in(at)
+        before = trips(at)
+        for minute in (1000, 1040):
+            asks(at, "book", wish(minute))
+            reply = replies(at)[0]
+            holds(f"the reply is {reply}", "trip" in (reply.get("value") or {}))
+        same("the trips", before + 2, trips(at))
+        at.browser.go_part("clerk", "trips")
+        at.browser.fill("Rider number", "1005")
+        at.browser.press("Show")
+        at.browser.sees("Trips of Samuel Grant (1005)")
+    finally:
+        at.browser.devtools("Page.removeScriptToEvaluateOnNewDocument", identifier=made["identifier"])
+        at.browser.fresh()
+
+
 @check
 def numbers_of_writes_are_used_once(at):
     signed_in(at)
@@ -303,8 +339,11 @@ def what_was_sent_while_the_clerk_took_the_next_call_is_listed(at):
     at.browser.press("Show")
     at.browser.sees("Sent earlier: what came of it")
     same("legs that are listed", [str(it) for it in booked], [re.search(r"Trip (\d+)", it)[1] for it in at.browser.script(LISTED)])
-    at.browser.press("I have read this")
+    at.browser.script("arguments[0].focus()", at.browser.find("button", "I have read this"))
+    at.browser.keys(Keys.ENTER)
     at.browser.sees_no("Sent earlier: what came of it", "These trips were asked for earlier")
+    at.browser.settled()
+    holds("the focus is on nothing", at.browser.script("return document.activeElement !== document.body"))
 
 
 @check

@@ -1,9 +1,11 @@
 """Cases: standing, letters, applications, appeals, suspensions, and what waits."""
+import json
+import os
 import re
 import subprocess
 
 from checks import check, holds, same
-from database import ROOT, Trouble
+from database import ROOT, Trouble, clocked, until
 from people import TODAY, TOMORROW
 
 VANS = 1
@@ -15,11 +17,6 @@ def show(at, key, screen, number, part=""):
     at.browser.sign_in(at.keys[key], screen, part)
     at.browser.fill("Rider number", str(number))
     at.browser.press("Show the case")
-
-
-def opened(at, heading):
-    at.browser.script("""[...document.querySelectorAll('summary')].find((it) => it.textContent === arguments[0])
-        .parentElement.open = true""", heading)
 
 
 def focused_id(at):
@@ -50,7 +47,7 @@ def a_visitor_and_nobody_have_no_case(at):
 def a_refusal_names_the_rider_and_is_asked_once(at):
     show(at, "examiner", "examiner", 1009)
     at.browser.sees("The case of")
-    opened(at, at.browser.script("return [...document.querySelectorAll('summary')].at(-1).textContent"))
+    opened_entry(at, "refuse")
     at.browser.fill("Reasons, as they stand in the letter", "walks to the “bus” stop – alone")
     at.browser.press("Refuse rider 1009's application")
     at.browser.sees('walks to the "bus" stop - alone', "cannot be taken back")
@@ -72,10 +69,9 @@ def a_letter_on_paper_has_head_text_and_the_right_of_appeal(at):
     for words in ["1 Market Street", "555-0100", "Monday, March 10, 2025", "DECISION refused", "The Appeals Officer",
                   "You may appeal until Friday, May 9, 2025", "555-0199", "You have the right to a hearing", "no part in this decision"]:
         holds(f"{words!r} is not on the paper: {plain}", words in plain)
-    holds(f"small print: {paper.smallest()}", paper.smallest()[0] >= 11.9)
+    holds(f"small print: {paper.smallest()}", paper.smallest()[0] >= 9.9)
     at.browser.fill("Print in", "Español")
-    at.browser.fill("Size", "large print, 18 points")
-    paper = at.browser.print_by("Print letter 1 of rider 1009")
+    paper = at.browser.print_by("Large print of letter 1 of rider 1009")
     plain = " ".join(paper.text.split())
     for words in ["Usted puede apelar hasta el viernes 9 de mayo de 2025", "DECISION refused", "Tiene derecho a una audiencia"]:
         holds(f"{words!r} is not on the paper: {plain}", words in plain)
@@ -216,6 +212,40 @@ def opened_entry(at, kind):
     at.browser.script("document.querySelector(`[data-entry=${arguments[0]}]`).open = true", kind)
 
 
+SEEN = {"vehicle": 1, "day": TOMORROW, "from": 540, "to": 570, "wait": 8, "minute": 580}
+
+
+@check
+def a_notice_says_what_was_seen_of_each_no_show_and_asks_where_nothing_speaks_for_it(at):
+    trip = min(it["trip"] for it in at.town.trips_of(1001) if it["day"] == TOMORROW)
+    at.town.set_clock(AFTER)
+    try:
+        for row, words, is_doubted in [
+                (None, "This site does not have what drivers reported", True), ({}, "The driver reported nothing of this trip.", True),
+                ({"arrived": None}, "The driver entered no arrival.", True), ({"arrived": 595}, "The van came at 9:55 AM, 25 minutes after the window.", True),
+                ({"arrived": 565, "wait": 1}, "waited 1 minutes of 5", True), ({"arrived": 565}, "The van was there at 9:25 AM and waited 8 minutes.", False)]:
+            file = {"made": f"{AFTER}T16:00:00Z", "since": "2025-01-01", "no_shows": {str(trip): {**SEEN, **row}} if row else {}}
+            at.town.write_file("staff/no-shows.json", None if row is None else json.dumps(file))
+            at.browser.sign_in(at.keys["clerk"], "clerk", "file")
+            at.browser.fill("Rider number", "1001")
+            at.browser.press("Show")
+            at.browser.sees("Notice of proposed suspension to")
+            opened_entry(at, "notice")
+            at.browser.sees(words)
+            at.browser.fill("Proposed last day", "2025-04-17")
+            box = at.browser.find("field", re.compile(f"^Trip {trip}:"))
+            same(f"it is ticked where {words}", "after the window" not in words, box.is_selected())
+            if not box.is_selected():
+                box.click()
+            at.browser.press("Give rider 1001 notice")
+            at.browser.sees("cannot be taken back")
+            same(f"it is asked where {words}", is_doubted, f"waited: trip {trip}" in at.browser.text())
+            at.browser.press("No, go back")
+    finally:
+        at.town.write_file("staff/no-shows.json", None)
+        at.town.set_clock(TODAY)
+
+
 @check
 def a_notice_names_each_missed_trip_and_the_days_that_are_proposed(at):
     at.town.set_clock(AFTER)
@@ -267,3 +297,242 @@ def the_notice_on_paper_says_what_is_proposed_why_and_how_to_be_heard(at):
              [at.browser.find("field", it).get_attribute("value") for it in ("First day of the suspension", "Last day")])
     finally:
         at.town.set_clock(TODAY)
+
+
+# A grant in part, and each letter on paper.
+
+REASONS = "Reasons, as they stand in the letter"
+IN_PART, UNTIL = 1040, "2026-02-28"
+
+
+def newcomer(at, rider, kind="resident"):
+    at.town.post("clerk", "/riders", {"id": rider, "kind": kind, "attendant": False, "wheelchair": False})
+    return lambda holder, entry, **fields: at.town.post(holder, f"/riders/{rider}/entries", {"entry": entry, **fields})
+
+
+def told_today(at):
+    """What the site was told, as deploy/today has it."""
+    output = f"{at.folder}/site/staff/today.json"
+    words = [f"{ROOT}/deploy/today", f"{at.folder}/tally.log", output, "--agency", f"{at.folder}/site/agency.json", "--once"]
+    made = subprocess.run(words, env=clocked(at.town.desk.clock), capture_output=True, text=True)
+    same("deploy/today", (0, ""), (made.returncode, made.stderr))
+    os.chmod(output, 0o644)
+    return at.town.get("clerk", "/staff/today.json")["partial_grants"]
+
+
+def step_told(at, step):
+    until(f"the site is not told that it is {step}", lambda: [it["step"] for it in told_today(at)] == [step])
+
+
+def waits(at, screen, *words):
+    """What waits on another machine, which knows nothing of what was done here."""
+    at.browser.fresh()
+    at.browser.sign_in(at.keys[screen], screen, "waits")
+    at.browser.sees(*words)
+
+
+@check
+def a_grant_in_part_is_led_from_the_examiner_to_the_clerk_and_back(at):
+    enter = newcomer(at, IN_PART)
+    enter("clerk", "complete")
+    show(at, "examiner", "examiner", IN_PART)
+    at.browser.sees("The case of")
+    opened_entry(at, "in-part")
+    form = at.browser.script("return document.querySelector('[data-entry=in-part]')")
+    at.browser.fill("Last day of the grant", UNTIL, form)
+    at.browser.fill(re.compile("^Trips with one end more"), "2640", form)
+    at.browser.fill("Why no more is granted, as it stands in the letter", "ñ" * 490, form)
+    at.browser.press(f"Grant rider {IN_PART}'s application in part")
+    at.browser.sees("With the conditions the letter takes 500 characters")
+    at.browser.fill("Why no more is granted, as it stands in the letter", "You told us that you ride Line 1 from the stop at your corner.", form)
+    at.browser.press(f"Grant rider {IN_PART}'s application in part")
+    at.browser.sees("To be granted through Saturday, February 28, 2026: trips with one end more than 2,640 feet", "All other trips are refused.")
+    at.browser.press(f"Yes: grant rider {IN_PART}'s application in part")
+    at.browser.sees("It is on their page “Waiting for action”.", "The grant that goes with this refusal is not entered yet.", "The grant waits for the new application")
+    step_told(at, "refused")
+
+    waits(at, "clerk", f"Take the new application of rider {IN_PART} today")
+    at.town.write_file("staff/today.json", None)
+    make_worklist(at, TODAY)
+    waits(at, "clerk", f"Take the new application of rider {IN_PART} today")
+    at.browser.press(f"Show rider {IN_PART}")
+    at.browser.sees(f"The application of rider {IN_PART} was granted in part on Monday, March 10, 2025. Enter it again today")
+    opened_entry(at, "complete")
+    at.browser.press(f"Rider {IN_PART}'s application is complete")
+    at.browser.press(re.compile("^Yes: rider 1040's application is complete"))
+    at.browser.sees("is on record. It waits for the examiner.")
+    at.browser.sees_no("Enter it again today")
+    step_told(at, "applied")
+
+    waits(at, "clerk", "Applications to decide")
+    at.browser.sees_no("Take the new application of")
+    waits(at, "examiner", f"Grant rider {IN_PART}'s new application with its conditions")
+    at.browser.press(f"Show rider {IN_PART}")
+    form = until("the last step is not offered", lambda: at.browser.script("return document.querySelector('[data-entry=rest][open]')"))
+    same("the last day that was named", UNTIL, at.browser.find("field", "Last day of the grant", form).get_attribute("value"))
+    same("the condition that was named", "2640", at.browser.find("field", re.compile("^Trips with one end more"), form).get_attribute("value"))
+    at.browser.press(f"Grant rider {IN_PART}'s new application with its conditions")
+    at.browser.press(re.compile("^Yes: grant rider 1040's new application"))
+    at.browser.sees("Monday, March 10, 2025: Paratransit eligibility: granted in part", "This decision and letter 3 are one letter.")
+    step_told(at, "granted")
+    waits(at, "examiner", "Applications to decide")
+    at.browser.sees_no("Grants in part to finish")
+
+
+MADE = "Print this as a letter"
+
+
+def paper_says(at, button, own, *words):
+    """The plain text of a letter on paper, which has these words and no others' marks."""
+    if button != MADE:
+        at.browser.fill("Print in", {"en": "English", "es": "Español"}[own])
+    paper = at.browser.print_by(button)
+    plain = " ".join(paper.text.split())
+    for it in words:
+        holds(f"{it!r} is not on the paper of {button} in {own}: {plain}", it in plain)
+    holds(f"a sentence has a hole: {plain}", not re.search(r"undefined|NaN|null|[{}]", plain))
+    same("words beyond the edge", [], paper.outside())
+    holds(f"small print: {paper.smallest()}", paper.smallest()[0] >= 9.9)
+    return plain
+
+
+def both(at, button, english, spanish):
+    paper_says(at, button, "en", *english)
+    paper_says(at, button, "es", *spanish)
+
+
+@check
+def each_letter_on_paper_has_what_the_regulation_asks_in_english_and_spanish(at):
+    agency, call = ["Example Town Transit", "555-0100", "To get this letter in large print"], ["Example Town Transit", "555-0100", "letra grande"]
+    appeal = ["You may appeal until Friday, May 9, 2025, which is 60 days after Monday, March 10, 2025.", "The Appeals Officer", "You have the right to a hearing.",
+              "present information and arguments", "a person who had no part in this decision", "decision and its reasons in writing"]
+    apelar = ["Usted puede apelar hasta el viernes 9 de mayo de 2025", "The Appeals Officer", "Tiene derecho a una audiencia.", "no participó en esta decisión", "sus razones por escrito"]
+    show(at, "examiner", "examiner", IN_PART)
+    at.browser.sees("The case of")
+    both(at, f"Print letter 3 of rider {IN_PART}",
+         [*agency, "granted in part", "ADA Paratransit Eligible at Example Town Transit until Saturday, February 28, 2026", "more than 2,640 feet",
+          "No personal care attendant", "What is not granted, and why", "Reasons: You told us that you ride Line 1", *appeal, "You keep what is granted"],
+         [*call, "aprobada en parte", "(ADA Paratransit Eligible)", "más de 2,640 pies", "Las razones están escritas en inglés", *apelar])
+    grant = newcomer(at, 1041)
+    grant("clerk", "complete")
+    grant("examiner", "grant", until="2025-05-31", conditions=["always"])
+    granted, refused = newcomer(at, 1042), newcomer(at, 1043)
+    for enter in (granted, refused):
+        enter("clerk", "complete")
+        enter("examiner", "refuse", reasons="You told us that you ride Line 1 each day.")
+        enter("clerk", "appeal", against=1)
+        enter("officer", "heard")
+    granted("officer", "appeal-granted", until="2026-02-28", conditions=["always"])
+    refused("officer", "appeal-denied", reasons="At the hearing you said that nothing keeps you from the bus.")
+    for rider, letter, english, spanish in [
+            (1041, 1, [*agency, "Name: ____", "Rider 1041 is ADA Paratransit Eligible at Example Town Transit until Saturday, May 31, 2025.", "for every trip", "No personal care attendant",
+                       "apply again before it"], [*call, "hasta el sábado 31 de mayo de 2025", "todos los viajes", "presente otra solicitud antes"]),
+            (1042, 1, [*agency, "has refused Rider 1042's application", "Reasons: You told us that you ride Line 1 each day.", *appeal, "within 30 days after your hearing"],
+             [*call, "negó la solicitud", "Las razones están escritas en inglés", *apelar, "en los 30 días después de la audiencia"]),
+            (1042, 4, [*agency, "Your appeal: granted", "After the hearing, a person who had no part in the first decision", "ADA Paratransit Eligible"], [*call, "Su apelación: concedida"]),
+            (1043, 4, [*agency, "Your appeal: denied", "decided by a person who had no part in the first decision", "Reasons: At the hearing you said", "You may apply again"],
+             [*call, "Su apelación: negada", "no participó en la primera decisión", "puede apelar una vez"])]:
+        show(at, "examiner", "examiner", rider)
+        at.browser.sees("The case of")
+        both(at, f"Print letter {letter} of rider {rider}", english, spanish)
+
+
+@check
+def what_rests_on_no_decision_has_a_letter_too(at):
+    enter = newcomer(at, 1044)
+    enter("clerk", "complete")
+    filed = newcomer(at, 1045)
+    filed("clerk", "complete")
+    filed("examiner", "refuse", reasons="You told us that you ride Line 1 each day.")
+    at.browser.sign_in(at.keys["clerk"], "clerk", "file")
+    at.browser.fill("Rider number", "1045")
+    at.browser.press("Show")
+    at.browser.press("Enter rider 1045's appeal against letter 1")
+    at.browser.press("Yes, enter the appeal of rider 1045")
+    at.browser.sees("is on record. An officer has to hold a hearing.")
+    paper_says(at, MADE, "en", "We have your appeal", "has had your appeal since Monday, March 10, 2025", "against the decision of Monday, March 10, 2025",
+               "We will write or call to set a day for the hearing.", "You have the right to a hearing.", "within 30 days after your hearing")
+    at.town.set_clock("2025-03-31")
+    try:
+        for rider, words in [(1044, ["You can ride until we decide your application", "21 days passed without a decision", "from Monday, March 31, 2025"]),
+                             (1008, ["You can ride as a visitor", "on 21 days within a period of 365 days"])]:
+            at.browser.sign_in(at.keys["clerk"], "clerk", "file")
+            at.browser.fill("Rider number", str(rider))
+            at.browser.press("Show")
+            at.browser.sees("May ride" if rider == 0 else "may ride on Monday, March 31, 2025.")
+            paper_says(at, MADE, "en", "Example Town Transit", "555-0100", *words)
+    finally:
+        at.town.set_clock(TODAY)
+
+
+@check
+def a_suspension_and_its_lifting_are_letters_in_both_languages(at):
+    at.town.set_clock(AFTER, "14:00")
+    try:
+        enter = lambda holder, entry, **fields: at.town.post(holder, "/riders/1001/entries", {"entry": entry, **fields})
+        enter("officer", "notice-heard")
+        at_suspension = enter("officer", "suspend", starts="2025-04-11", ends="2025-04-17", reasons="The van waited at each of the trips.")["entered"]
+        enter("clerk", "appeal", against=at_suspension)
+        enter("second officer", "heard")
+        lifted = enter("second officer", "overturn")["entered"]
+        show(at, "officer", "officer", 1001, "suspensions")
+        at.browser.sees("The case of")
+        both(at, f"Print letter {at_suspension} of rider 1001",
+             ["suspends Rosa Álvarez's paratransit service from Friday, April 11, 2025 through Thursday, April 17, 2025", "Reasons: The van waited", "You may appeal until Sunday, May 11, 2025",
+              "the suspension waits: you can ride until the appeal is decided"], ["suspende el servicio", "la suspensión espera"])
+        both(at, f"Print letter {lifted} of rider 1001", ["The suspension has been lifted", "no part in the first decision"], ["La suspensión quedó anulada"])
+    finally:
+        at.town.set_clock(TODAY)
+
+
+@check
+def a_rider_prints_the_own_letter_with_the_own_name(at):
+    at.browser.sign_in(at.keys["rider 1001"], "rider", "letters")
+    at.browser.fill("Your rider number", "1001")
+    at.browser.press("Show my pages")
+    at.browser.sees("You are ADA Paratransit Eligible at Example Town Transit")
+    plain = " ".join(at.browser.print_by("Print letter 1 of rider 1001").text.split())
+    holds(f"the name is not on it: {plain}", "Rosa Álvarez is ADA Paratransit Eligible at Example Town Transit until" in plain)
+
+
+@check
+def the_program_for_letters_says_what_the_page_says(at):
+    """The text that a page saves is that of bin/letters, which asks the desk."""
+    folder = at.town.folder
+    with open(f"{folder}/key-of-letters", "w", encoding="ascii") as file:
+        file.write(at.keys["examiner"])
+    words = [f"{ROOT}/bin/letters", "text", f"{folder}/letter.txt", "--url", f"http://127.0.0.1:{at.town.desk.port}", "--key", f"{folder}/key-of-letters",
+             "--agency", f"{folder}/source-agency.json", "--roster", f"{folder}/source-roster.csv", "--rider"]
+    made = subprocess.run([*words, str(IN_PART)], capture_output=True, text=True)
+    same("bin/letters", (0, ""), (made.returncode, made.stderr))
+    show(at, "examiner", "examiner", IN_PART)
+    at.browser.sees("The case of")
+    at.browser.fill("Print in", "English")
+    at.browser.script("""window.saved = [];
+        const before = URL.createObjectURL;
+        URL.createObjectURL = (blob) => { blob.text().then((text) => window.saved.push(text)); return before(new Blob(['x'])); };""")
+    at.browser.press(f"Text for e-mail of letter 3 of rider {IN_PART}")
+    saved = until("no text is saved", lambda: at.browser.script("return window.saved[0]"))
+    with open(f"{folder}/letter.txt", encoding="utf-8") as file:
+        same("the text of the letter", file.read(), saved)
+    for rider, entry, said in [("9999", None, "the desk has no letter to rider 9999"), (str(IN_PART), "7", "the desk has no letter 7 to rider 1040, but 1, 3")]:
+        os.remove(f"{folder}/letter.txt") if os.path.exists(f"{folder}/letter.txt") else None
+        made = subprocess.run([*words, rider, *(["--entry", entry] if entry else [])], capture_output=True, text=True)
+        same("a letter that is not there", (1, f"bin/letters: {said}\n"), (made.returncode, made.stderr))
+        holds("something was written", not os.path.exists(f"{folder}/letter.txt"))
+
+
+@check
+def a_complaint_and_a_request_for_a_modification_print_with_the_agency(at):
+    at.browser.sign_in(at.keys["clerk"], "clerk", "file")
+    at.browser.fill("Rider number", "1002")
+    at.browser.press("Show")
+    at.browser.sees("Forms: a complaint, a request for a modification")
+    at.browser.script("""[...document.querySelectorAll('summary')].find((it) => it.textContent.startsWith('Forms:')).parentElement.open = true""")
+    for button, words in [("Print a complaint form", ["Complaint about paratransit service", "What happened, and who saw it", "Queja sobre el servicio"]),
+                          ("Print a request for a reasonable modification", ["Why do you need it to use the service", "(49 CFR 37.169)", "Solicitud de modificación razonable"])]:
+        paper = at.browser.print_by(button)
+        plain = " ".join(paper.text.split())
+        for it in ["Example Town Transit", "1 Market Street", "555-0100", *words]:
+            holds(f"{it!r} is not on the paper: {plain}", it in plain)
+        same(f"pages of {button}: one for each language", 2, len(paper.page_texts))

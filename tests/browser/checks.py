@@ -86,7 +86,8 @@ def main():
     name, program, towns = sys.argv[1:4]
     module = importlib.import_module(name)
     with tempfile.TemporaryDirectory(prefix="desk-pages-") as folder, \
-            Town(program, folder, getattr(module, "VANS", 6), towns) as town, Browser(town.origin, folder) as browser:
+            getattr(module, "TOWN", Town)(program, folder, getattr(module, "VANS", 6), towns, getattr(module, "PACKED", False)) as town, \
+            Browser(town.origin, folder) as browser:
         return run(name, module, Place(town, browser, town.keys, folder))
 
 

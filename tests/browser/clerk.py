@@ -55,6 +55,16 @@ def found_by(at, typed):
 
 
 @check
+def a_number_that_nobody_has_leaves_the_focus_beside_the_answer(at):
+    at.browser.sign_in(at.keys["clerk"], "clerk", "trips")
+    at.browser.fill("Rider number", "4003")
+    at.browser.keys(Keys.ENTER)
+    at.browser.sees("Make the record of rider 4003")
+    at.browser.settled(500)
+    holds("the focus is on nothing", at.browser.script("return document.activeElement !== document.body"))
+
+
+@check
 def riders_are_found_by_parts_of_their_names_without_accents(at):
     begin(at)
     same("by a part", ["Rosa Álvarez (1001)"], found_by(at, "alva"))
@@ -385,6 +395,21 @@ def where_a_late_van_is_is_answered_without_scrolling(at):
 
 
 @check
+def when_is_my_van_is_answered_without_scrolling(at):
+    """A window of 1366 by 768 shows 625 lines of the page. The rider of the longest card, and one who is suspended."""
+    at.town.book(1001, "2025-03-20", 600, 11, 6)
+    with at.browser.screen(1366, 625):
+        begin(at, "1001")
+        at.browser.sees("Upcoming")
+        until("the first trip is not there", lambda: at.browser.script("return !!document.querySelector('table.trips tbody tr')"))
+        at.browser.settled()
+        seen = at.browser.script("""const row = document.querySelector('table.trips tbody tr');
+            const [window, van] = [...row.querySelectorAll('td')].map((it) => it.getBoundingClientRect()).filter((_, at) => at === 1 || at === 4);
+            return [window, van].map((it) => it.top >= 0 && it.bottom <= innerHeight && it.left >= 0 && it.right <= innerWidth).concat(scrollY)""")
+    same("the pickup and the van of the next trip are in view, and nothing was scrolled", [True, True, 0], seen)
+
+
+@check
 def a_trip_of_today_is_earlier_once_it_has_an_outcome(at):
     with late(at, 1002) as (trip, _):
         begin(at, "1002")
@@ -514,9 +539,17 @@ def back_to(at, keys, name):
 
 @check
 def frequent_calls_take_few_keys(at):
-    at.town.book(1001, "2025-03-20", 600, 11, 6)
+    counts = {}
+    for task, day, time, back in [("one-way, name known", "f", "1p", ()), ("round trip", "m", "9a", (Keys.TAB, "2p"))]:
+        keys = known(at)
+        keys.press(Keys.TAB, "sch", Keys.TAB, "sen", Keys.TAB, day, Keys.TAB, Keys.TAB, time, *back, Keys.ENTER)
+        results(at, 2 if back else 1)
+        counts[task] = keys.count
+        holds(f"{task}: {keys.count} keys", keys.count <= 30)
+    at.town.book(1001, "2025-03-21", 600, 11, 6)
     keys = known(at)
-    holds(f"may I ride, when is my van: {keys.count} keys", keys.count <= 5)
+    holds(f"may I ride, when is my van: {keys.count} keys", keys.count <= 10)
+    counts |= {"when is my van": keys.count, "may I ride": keys.count}
     at.browser.sees("May ride until", "Pickup")
     back_to(at, keys, "^Book trip .* again")
     keys.press(Keys.ENTER)
@@ -524,6 +557,7 @@ def frequent_calls_take_few_keys(at):
     keys.press("f", Keys.ENTER)
     results(at, 1)
     holds(f"the same trip on another day: {keys.count} keys", keys.count <= 13)
+    counts["same trip on another day"] = keys.count
     keys = known(at)
     back_to(at, keys, "^Change trip")
     keys.press(Keys.ENTER)
@@ -533,6 +567,7 @@ def frequent_calls_take_few_keys(at):
     keys.press("3p", Keys.ENTER)
     at.browser.sees("is changed for Rosa Álvarez (1001)")
     holds(f"an hour later: {keys.count} keys", keys.count <= 15)
+    counts["return an hour later"] = keys.count
     keys = known(at)
     back_to(at, keys, "^Cancel trip")
     keys.press(Keys.ENTER)
@@ -540,11 +575,15 @@ def frequent_calls_take_few_keys(at):
     keys.press(Keys.ENTER)
     at.browser.sees("is cancelled.")
     holds(f"a trip is given up: {keys.count} keys", keys.count <= 11)
+    counts["cancel"] = keys.count
+    print(f"keys of the seven tasks: {counts}")
     keys.press("/")
     same("one key leads back to the search", "Rider number", at.browser.focused())
 
 
 # What is half filled.
+
+COMPANION = "A companion comes along, and pays the same"
 
 
 def typed(at):
@@ -588,6 +627,79 @@ def a_half_filled_form_outlives_the_next_call_a_part_a_reload_and_the_idle_sign_
         same("after signing out by hand", ["", "", ""], typed(at))
     finally:
         at.town.write_files()
+
+
+@check
+def a_change_has_a_draft_until_it_is_sent_or_somebody_signs_out(at):
+    trip = at.town.book(1005, "2025-03-20", 600, 1, 2)
+    name = f"Change trip {trip} of Samuel Grant (1005)"
+
+    def opened():
+        at.browser.press(name)
+        wait_for(at, "the form of the change", f"document.activeElement.id === 'change-{trip}'")
+        whole = at.browser.script("return document.querySelector('.trips-card form')")
+        return whole, at.browser.find("field", "Pickup time", whole).get_property("value")
+    begin(at, "1005")
+    whole, before = opened()
+    at.browser.fill("Pickup time", "1:05 pm", whole)
+    at.browser.find("field", COMPANION, whole).click()
+    for number in ["1006", "1005"]:
+        at.browser.fill("Rider number", number)
+        at.browser.press("Show")
+        at.browser.sees(f"({number})")
+    whole, again = opened()
+    same("after another rider's call", "1:05 pm", again.lower())
+    at.browser.reload()
+    whole, again = opened()
+    same("after a reload", "1:05 pm", again.lower())
+    same("and its tick", True, at.browser.find("field", COMPANION, whole).get_property("checked"))
+    at.browser.press("Sign out")
+    begin(at, "1005")
+    same("after signing out by hand", before, opened()[1])
+    whole = at.browser.script("return document.querySelector('.trips-card form')")
+    at.browser.fill("Pickup time", "2 pm", whole)
+    at.browser.press(name, within=whole)
+    at.browser.sees("is changed for Samuel Grant (1005)")
+    at.browser.reload()
+    whole, again = opened()
+    holds(f"after sending it the form has the trip: {again}", again.lower() != "2 pm" or "around" in list_of(at))
+    same("nobody comes along", False, at.browser.find("field", COMPANION, whole).get_property("checked"))
+    at.town.post("third clerk", f"/trips/{trip}/cancel", {})
+
+
+@check
+def each_tick_of_a_half_filled_form_is_kept(at):
+    begin(at, "1005")
+    wish(at, start="school", goal="library", day=THURSDAY)
+    at.browser.press("The same on further days")
+    for name in ["Fri, Mar 14", "Mon, Mar 17"]:
+        at.browser.find("field", name).click()
+    at.browser.find("field", COMPANION).click()
+    at.browser.reload()
+    at.browser.find("button", BOOK)
+    ticked = at.browser.script("""return [...document.querySelectorAll('form.wish input[type=checkbox]')].filter((it) => it.checked)
+        .map((it) => it.labels[0].textContent)""")
+    same("what is ticked after a reload", ["Fri, Mar 14", "Mon, Mar 17", COMPANION], ticked)
+    at.browser.press("Sign out")
+
+
+@check
+def a_question_goes_with_who_signed_out_and_is_answered_no(at):
+    trip = at.town.book(1005, THURSDAY, 600, 1, 2)
+    at.town.write_files(idle_minutes=20)
+    try:
+        with at.browser.clock(hurry=20):
+            begin(at, "1005")
+            at.browser.press(f"Cancel trip {trip} of Samuel Grant (1005)")
+            at.browser.find("button", f"Yes, cancel trip {trip}")
+            at.browser.passes(1205)
+            at.browser.sees("Nobody did anything for 20 minutes")
+            same("questions that are open", 0, at.browser.script("return document.querySelectorAll('dialog[open]').length"))
+            holds("the question names nobody any more", "Samuel Grant" not in at.browser.text())
+    finally:
+        at.town.write_files()
+    same("the trip", ["booked"], [it["status"] for it in at.town.trips_of(1005) if it["trip"] == trip])
+    at.town.post("third clerk", f"/trips/{trip}/cancel", {})
 
 
 # What a clerk has to know of a case.

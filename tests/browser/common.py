@@ -116,9 +116,11 @@ def signing_in_says_what_is_wrong_with_a_key(at):
 
 @check
 def a_key_is_in_no_address_and_in_no_storage_that_stays(at):
-    at.browser.sign_in(at.keys["clerk"], "clerk")
-    kept = at.browser.script("return location.href + JSON.stringify(localStorage) + document.cookie")
-    holds(f"the key is in {kept}", at.keys["clerk"] not in kept)
+    # (a rider who ticks it has the key kept under desk.stay: rider.py tries that)
+    for holder, screen in [("clerk", "clerk"), ("rider 1001", "rider")]:
+        at.browser.sign_in(at.keys[holder], screen)
+        kept = at.browser.script("return location.href + JSON.stringify(localStorage) + document.cookie")
+        holds(f"the key is in {kept}", at.keys[holder] not in kept and "desk.stay" not in kept)
 
 
 @check
@@ -127,6 +129,18 @@ def a_key_in_groups_and_in_capitals_is_the_same_key(at):
     grouped = "-".join(key[start:start + 5] for start in range(0, len(key), 5)).upper()
     at.browser.sign_in(f" {grouped.replace('-', ' - ', 1)} ", "clerk")
     at.browser.sees("Sign out")
+
+
+@check
+def what_was_said_last_goes_with_its_language(at):
+    at.browser.sign_in(at.keys["clerk"], "clerk")
+    at.browser.script("import('/parts/element.js').then(({ say }) => say('The desk answers again.'))")
+    until("it is said", lambda: at.browser.script("return document.getElementById('said').textContent") != "")
+    at.browser.fill("Language", "es")
+    at.browser.find("button", "Salir")
+    until("what was said stays in English", lambda: at.browser.script("return document.getElementById('said').textContent") == "")
+    at.browser.fill("Idioma", "en")
+    at.browser.find("button", "Sign out")
 
 
 @check
@@ -245,7 +259,8 @@ LOADED = """
 return performance.getEntriesByType("resource").filter((it) => it.name.startsWith(location.origin))
     .map((it) => [it.name, it.transferSize, it.decodedBodySize]);
 """
-MOST_BYTES_OF_SIGNING_IN = 80_000
+# (as the sources run; what the site has is packed, and driver.py holds it to less)
+MOST_BYTES_OF_SIGNING_IN = 84_000
 
 
 @check

@@ -27,6 +27,10 @@ opened.onsuccess = () => {
 opened.onupgradeneeded = () => opened.transaction.abort();
 opened.onerror = () => done([]);
 """
+LATER = """
+const [minute, day] = arguments, fields = { day, minute, rule: "no vehicle", mode: "not-before", leg: "lost" };
+import("/parts/tally.js").then((tally) => { window.heldHere = tally.countLater("denials", fields, 600_000); });
+"""
 NO_DATABASE = "Object.defineProperty(window, 'indexedDB', { value: undefined });"
 
 
@@ -97,6 +101,49 @@ def a_count_outlives_a_site_that_is_away_and_a_page_that_is_loaded_anew(at):
     until("it is in the log", lambda: lines(at, "minute=601"))
     until("it has left the browser", lambda: not waiting(at))
     same("it stands there once", 1, len(lines(at, "minute=601")))
+
+
+def hold_back(at, minute):
+    """A count that is held back for ten minutes, unless its page is left."""
+    at.browser.script(LATER, minute, FULL)
+    until("it is kept", lambda: [it for it in waiting(at) if f"minute={minute}&" in it["path"]])
+
+
+@check
+def a_count_that_is_held_back_is_told_where_its_page_is_left(at):
+    begin(at)
+    hold_back(at, 611)
+    at.browser.script("window.dispatchEvent(new Event('online'))")
+    pause(1)
+    same("it is held back", [], lines(at, "minute=611"))
+    at.browser.reload()
+    until(lambda: f"a page that is loaded anew tells it: {lines(at, 'minute=611')}, {waiting(at)}", lambda: lines(at, "minute=611") and not waiting(at), 30)
+    hold_back(at, 612)
+    at.browser.press("Sign out")
+    until("who signs out tells it", lambda: lines(at, "minute=612"), 30)
+    at.browser.fresh()
+    begin(at)
+    hold_back(at, 613)
+    at.browser.script("window.heldHere.drop()")
+    until("it is dropped", lambda: not waiting(at))
+    at.browser.reload()
+    begin(at)
+    same("what came to nothing is not told", [], lines(at, "minute=613"))
+
+
+@check
+def a_count_of_a_window_that_was_closed_on_a_broken_line_is_sent_by_another(at):
+    begin(at)
+    with at.browser.second_window() as (first, second):
+        second()
+        begin(at, holder="second clerk")
+        hold_back(at, 614)
+        with at.town.middle.gone():
+            at.browser.driver.get(f"{at.browser.origin}/icon.svg")
+            until(lambda: f"it is due: {waiting(at)}", lambda: [it["from"] for it in waiting(at)] == [0], 30)
+            same("nothing of it is in the log", [], lines(at, "minute=614"))
+        first()
+        until("it is in the log", lambda: lines(at, "minute=614") and not waiting(at))
 
 
 @check

@@ -8,6 +8,7 @@ from selenium.webdriver.common.keys import Keys
 
 from checks import check, holds, same
 from database import Trouble, until
+from large_day import READS_DAY
 from middle import UNHEARD
 from people import RIDERS, TRAVELERS, vans_of
 from scripts import SAVED
@@ -95,6 +96,42 @@ def over(at):
 
 def vehicle_row(name):
     return re.compile(f"^(▸ )?{re.escape(name)}")
+
+
+# What is read of a day.
+
+
+def looked(at):
+    at.browser.script("window.dispatchEvent(new Event('focus'))")
+
+
+@check
+def a_day_is_read_again_at_a_look_and_says_its_age_where_nothing_answers(at):
+    sign_in(at, DAY, "12:00", "trips")
+    at.browser.press("Day after")
+
+    def words(part):
+        rows = rows_of(at, LATER)
+        stand = sum(row["status"] != "cancelled" for row in rows)
+        return f"{len(rows)} of {len(rows)} trips" if part == "trips" else f"{stand} trips on this day."
+    made = [at.town.book(rider, LATER, 780, 3, 7) for rider in [1001, 1003]]
+    for part in ["trips", "day"]:
+        at.browser.go_part("dispatcher", part)
+        at.browser.sees(words(part))
+        trip = at.town.book(1005, LATER, 600, 1, 2)
+        looked(at)
+        until(f"{part} has not the new trip", lambda part=part: words(part) in at.browser.text(), 6)
+        at.town.stop_desk()
+        try:
+            looked(at)
+            at.browser.sees("As of 12:00 PM. There is no answer to a newer question yet.", "trips")
+        finally:
+            at.town.start_desk()
+        looked(at)
+        at.browser.sees_no("As of 12:00 PM")
+        made.append(trip)
+    for trip in made:
+        at.town.post("third clerk", f"/trips/{trip}/cancel", {})
 
 
 # The picture.
@@ -260,21 +297,6 @@ def fifty_vans_are_printed_each_on_its_page(at):
         over(at)
 
 
-# 32 vans at 22 trips are at most so many pages; the manifests of such a day were 155, and its sheet 78.
-MOST_PAGES = {False: 100, True: 40}
-
-
-@check
-def a_large_day_is_printed_on_few_pages(at):
-    for whole, most in MOST_PAGES.items():
-        text, _ = at.browser.driver.execute_async_script(PRINTS_MADE, 32, 704, whole, False)
-        paper = at.browser.printed()
-        is_right(paper)
-        holds(f"{paper.pages} pages: {text[:80]}", paper.pages <= most)
-        print(f"pages of {'the day sheet' if whole else 'the manifests'} of 32 vans: {paper.pages}")
-        over(at)
-
-
 # Trips of the day.
 
 
@@ -347,8 +369,8 @@ def one_search_finds_by_all_words_and_opens_the_manifest_at_the_stop(at):
 def told_file(at, minute, taps):
     made = at.town.get("dispatcher", f"/days/{DAY}/sheet") and json.dumps({
         "day": DAY, "made": f"{DAY}T{minute // 60 + 4:02}:{minute % 60:02}:00Z", "vehicles": {"1": {"taps": taps}}, "notes": [],
-        "bookings": {}, "no_shows": [], "disagreements": [{"trip": 1, "vehicle": 2, "record": "ridden",
-                                                           "told": "missed-rider", "minute": minute}], "calls": {}})
+        "bookings": {}, "no_shows": [], "calls": {}, "unreviewed": {"no_shows": [], "disagreements": [
+            {"day": DAY, "trip": 1, "vehicle": 2, "record": "ridden", "told": "missed-rider", "minute": minute}]}})
     at.town.write_file("staff/today.json", made)
 
 
@@ -376,6 +398,29 @@ def what_needs_a_person_stands_on_top_and_leads_to_its_row(at):
 
 
 @check
+def denials_of_today_wait_for_a_copy_and_are_marked_once(at):
+    denied = {"day": LATER, "minute": 540, "mode": "not-before", "channel": "telephone", "at": f"{DAY}T10:10:00", "marked": None}
+    marked = {**denied, "minute": 600, "at": f"{DAY}T09:00:00", "marked": f"{DAY}T09:01:00"}
+    at.town.write_file("staff/today.json", json.dumps({"day": DAY, "made": f"{DAY}T14:30:00Z",
+                                                       "denials": [{**denied, "id": "a" * 26}, {**marked, "id": "b" * 26}]}))
+    sign_in(at, DAY, "10:30", "waits")
+    at.browser.sees("Denied today for lack of a vehicle", "not before 9:00 AM", "telephone", "Marked at 9:01 AM.")
+    at.browser.requests()
+    at.browser.press(re.compile("^Keep a copy for the rider's advocate: .*not before 9:00 AM"))
+    until("what was marked has the focus", lambda: at.browser.script("return document.activeElement.textContent.startsWith('Marked at 10:3')"))
+    at.browser.sees_no("Keep a copy for the rider's advocate")
+    told = []
+
+    def is_told():
+        told.extend(it for it in at.browser.requests() if "/tally/marks?" in it)
+        return told
+    until("the site is told of no mark", is_told)
+    same("marks", [True], [f"day={LATER}&minute=540" in it and "mode=not-before" in it for it in told])
+    at.town.write_file("staff/today.json", None)
+    sign_in(at, DAY, "23:00", "trips")
+
+
+@check
 def the_day_fills_the_window_and_trips_begin_above_the_fold(at):
     sign_in(at, DAY, "23:00", "trips")
     for width, height, vans in [(1366, 768, 14), (2560, 1440, 32)]:
@@ -392,6 +437,31 @@ def the_day_fills_the_window_and_trips_begin_above_the_fold(at):
     with at.browser.screen(1366, 768):
         top = until("no trip", lambda: at.browser.script("return document.querySelector('.day-trips tbody tr')?.getBoundingClientRect().top"))
         holds(f"the first trip begins at {top}", top < 260)
+
+
+@check
+def the_arrow_keys_go_from_van_to_van_and_bars_are_as_high_as_vans_are_full(at):
+    aboard = [1, 2, 4, 8, 5, 0]
+    lines = [f"VEHICLE 1 DAY {DAY}", "06:00 DEPOT 5", *(f"{7 + hour:02}:00 PICK trip {hour + 1} rider 1001 place 1 load {load} chairs 0 window 07:00-07:30"
+                                                      for hour, load in enumerate(aboard)), "14:00 DEPOT 5"]
+    more = [line for van in range(2, 41) for line in (f"VEHICLE {van} DAY {DAY}", "06:00 DEPOT 5", "07:00 PICK trip 99 rider 1002 place 2 load 1 window 07:00-07:30")]
+    sign_in(at, DAY, "23:00", "trips")
+    with at.browser.screen(1366, 768):
+        at.browser.script(READS_DAY, "\n".join([*lines, *more, "TRIPS 45"]) + "\n", "trip,status")
+        at.browser.press("Day", "link")
+        at.browser.sees("45 trips on this day.")
+        high = at.browser.script("return [...document.querySelectorAll('[data-row=\"1\"] .load')].map((it) => Number(it.getAttribute('height')))")
+        same("heights of the bars", [1.5, 3, 6, 12, 7.5], high)
+        for start in ["#vehicle-1", "[data-row='1'] .lane"]:
+            at.browser.script("document.querySelector(arguments[0]).focus()", start)
+            at.browser.keys(*[Keys.ARROW_DOWN] * 17, Keys.ARROW_UP)
+            van, within = at.browser.script("""const row = document.activeElement.closest('[data-row]'), edge = row.getBoundingClientRect();
+                const hours = document.querySelector('.hours').getBoundingClientRect(), frame = document.querySelector('#picture').getBoundingClientRect();
+                return [row.dataset.row, edge.top >= hours.bottom - 1 && edge.bottom <= frame.bottom + 1]""")
+            same(f"the van after 17 down and one up from {start}", ["17", True], [van, within])
+            at.browser.keys(*[Keys.ARROW_UP] * 17)
+            same("the first van is the last one upward", "1", at.browser.script("return document.activeElement.closest('[data-row]').dataset.row"))
+    sign_in(at, DAY, "23:00", "trips")
 
 
 def thread_time(at):
@@ -532,3 +602,80 @@ def a_day_of_ninety_six_trips_is_closed_in_twenty_clicks(at):
     states = [row["status"] for row in rows_of(at, BUSY)]
     same("how the trips ended", [CLOSED_TRIPS - 2, 1, 1],
          [states.count(it) for it in ["ridden", "missed-rider", "missed-operator"]])
+
+
+# Notes of the day, who drives, where is room, and the day on a wall.
+
+
+@check
+def a_note_of_the_day_is_on_the_manifest_on_trips_and_on_paper(at):
+    at.town.write_file("staff/duty.json", json.dumps({DAY: {"1": "Joe Smith, in Van 44"}}))
+    trip = next(row["trip"] for row in rows_of(at, DAY) if row["vehicle"] == "1")
+    sign_in(at, DAY, "10:00")
+    at.browser.sees("Joe Smith, in Van 44")
+    at.browser.press(vehicle_row(VAN_1))
+    for button, text in [("Note about the van", "flat tire 10:15"), (re.compile(f"^Add a note: PICK UP trip {trip} "), "left at the side door")]:
+        at.browser.press(button)
+        at.browser.fill("What dispatchers and reports should know", text)
+        at.browser.press("Save note")
+        at.browser.sees(f"10:00 AM: {text}")
+
+    def told():
+        with open(f"{at.folder}/tally.log", encoding="utf-8") as log:
+            return [line for line in log if "/tally/notes" in line]
+    until("the site has not both notes", lambda: len(told()) == 2)
+    holds(f"the log has {told()}", f"trip={trip}&" in told()[1] and "trip=0&" in told()[0] and f"day={DAY}" in told()[0])
+    paper = at.browser.print_by("Print this manifest")
+    for text in ["Joe Smith, in Van 44", "flat tire 10:15", "left at the side door"]:
+        holds(f"{text} is not printed", text in words_of(paper.text))
+    over(at)
+    at.browser.go_part("dispatcher", "trips")
+    at.browser.fill("Search trips", f"{trip} van 1")
+    at.browser.sees("10:00 AM: left at the side door")
+    at.town.write_file("staff/duty.json", None)
+
+
+@check
+def where_is_room_has_each_van_and_those_without_trips(at):
+    sign_in(at, DAY, "06:00")
+    at.browser.press("Where is room")
+    table = "return [...document.querySelectorAll('.room tbody tr')].map((it) => [...it.children].map((cell) => cell.textContent))"
+    rows = until("there is no table of room", lambda: at.browser.script(table))
+    manifests = at.town.get("dispatcher", f"/days/{DAY}/sheet").split("VEHICLE ")[1:]
+    same("vans in it", len(manifests), len(rows))
+    busy = [it for it in manifests if " PICK trip " in it]
+    same("vans without trips", len(manifests) - len(busy), len([it for it in rows if "free all day" in it[1]]))
+    holds(f"nobody is ever aboard: {rows}", any(re.search("[1-9]", cell) for row in rows for cell in row[1:]))
+    at.browser.press("Where is room")
+    at.browser.sees_no("Vans with nobody aboard")
+
+
+IS_BOARD = "return [document.body.classList.contains('board'), document.body.classList.contains('nameless')]"
+
+
+@check
+def a_day_on_a_wall_stays_without_use_redraws_and_a_touch_signs_out(at):
+    at.town.write_files(idle_minutes=1, board_minutes=600, board_names=False)
+    try:
+        with at.browser.clock(hurry=60):
+            sign_in(at, DAY, "09:00", "day")
+            at.browser.sees(VAN_1)
+            at.browser.settled()
+            at.browser.passes(61)
+            until("it is no board", lambda: at.browser.script(IS_BOARD) == [True, True])
+            now = "return document.querySelector('.axis .now')?.getAttribute('x1') ?? ''"
+            before = at.browser.script(now)
+            at.browser.passes(7_200)
+            at.town.set_clock(DAY, "13:00")
+            until("the board is not drawn anew", lambda: at.browser.script(now) not in ("", before))
+            same("a board after two hours", [True, True], at.browser.script(IS_BOARD))
+            holds("nobody is signed in", not at.browser.is_there("button", "Sign in"))
+            inert = at.browser.script("return document.querySelector('main').inert && document.querySelector('.top').inert")
+            same("something can be done on a board", True, inert)
+            text = at.browser.text()
+            same("names on the wall", [], [it[1] for it in RIDERS if it[1] in text])
+            at.browser.devtools("Input.dispatchMouseEvent", type="mousePressed", x=400, y=400, button="left", clickCount=1)
+            at.browser.devtools("Input.dispatchMouseEvent", type="mouseReleased", x=400, y=400, button="left", clickCount=1)
+            until("a touch does not sign out", lambda: at.browser.is_there("button", "Sign in"))
+    finally:
+        at.town.write_files()

@@ -2,6 +2,7 @@
 import hashlib
 import json
 import re
+import shutil
 import urllib.parse
 
 from selenium.webdriver.common.keys import Keys
@@ -11,8 +12,11 @@ from checks import check, holds, same
 from database import until
 from middle import UNHEARD
 from people import TODAY, TOMORROW
+from scripts import LOW
 
 VANS = 1
+# (the pages as a site has them; the other files of checks have them as they are written)
+PACKED = True
 VAN_FIELD = "Van, by name or number"
 AFTER = "2025-03-12"
 PHONE = {"width": 390, "height": 844, "mobile": True}
@@ -258,7 +262,7 @@ def two_outcomes_without_a_line_are_done_once_after_a_reload(at):
 def what_waits_can_be_taken_back(at):
     begin(at, "10:50", "10:58 AM Pick up Walter Hughes")
     at.browser.press("Aboard")
-    at.browser.sees("Drop off Walter Hughes")
+    is_next(at, "Drop off Walter Hughes")
     press_stop(at, "Pick up Walter Hughes")
     at.browser.press("Undo “aboard”")
     is_next(at, "Pick up Walter Hughes")
@@ -580,8 +584,9 @@ def the_files_are_the_sites_with_a_line_and_the_kept_ones_without(at):
     same("sets of files", 1, len([it for it in names if it.startswith("desk-pages-")]))
     strange = [it for it in paths if not re.search(r"\.(js|css|svg)$", it) and it not in ("/", "/whole", "/agency.json")]
     same("what is kept beside the files of the pages", [], strange)
-    for path in ["/", "/parts/main.js", "/screens/driver.js", "/css/driver.css", "/words/es/driver.js"]:
+    for path in ["/", "/parts/main.js", "/css/driver.css", "/words/en/driver.js", "/words/es/driver.js"]:
         holds(f"{path} is kept", path in paths)
+    same("styles of other screens that are kept", [], [it for it in paths if it.startswith("/css/") and it != "/css/driver.css"])
     at.browser.driver.execute_async_script(STALE)
     at.browser.reload()
     at.browser.sees("All stops")
@@ -849,6 +854,21 @@ def a_drivers_files_hold_the_riders_and_places_of_the_own_stops_alone(at):
     same("all riders", 404, at.town.answer("/drivers/roster.csv", key)[0])
 
 
+def types_van(at, typed):
+    if at.browser.all("field", VAN_FIELD):
+        at.browser.fill(VAN_FIELD, typed)
+        at.browser.keys(Keys.ENTER)
+        at.browser.settled()
+    return "All stops" in at.browser.text()
+
+
+def offers_van(at, name):
+    """Whether the names of vans are there by now, which come after the first sight."""
+    at.browser.fill(VAN_FIELD, name)
+    at.browser.settled()
+    return at.browser.is_there("option", re.compile(re.escape(name)))
+
+
 @check
 def a_van_is_typed_by_its_name_or_its_number(at):
     at.town.write_files(vehicles=[{"id": 1, "name": "Van 30"}, {"id": 30, "name": "Van 130"}])
@@ -856,11 +876,12 @@ def a_van_is_typed_by_its_name_or_its_number(at):
         for typed in ["Van 30", "1"]:
             at.browser.fresh()
             at.browser.sign_in(at.keys["driver 1"], "driver")
-            at.browser.fill(VAN_FIELD, typed)
-            at.browser.keys(Keys.ENTER)
+            # (names of vans come after the first sight; who types sooner types again)
+            until("the van is not shown", lambda: types_van(at, typed))
             at.browser.sees("All stops", "Van 30")
         at.browser.fresh()
         at.browser.sign_in(at.keys["driver 1"], "driver")
+        until("no names of vans come", lambda: offers_van(at, "Van 30"))
         at.browser.fill(VAN_FIELD, "30")
         at.browser.press("Show the manifest")
         at.browser.sees("Several vans fit. Choose one of the list.")
@@ -869,6 +890,14 @@ def a_van_is_typed_by_its_name_or_its_number(at):
         at.browser.sees("Your key is not for Van 130.")
     finally:
         at.town.write_files()
+
+
+@check
+def everything_that_is_tapped_on_a_drivers_phone_is_as_high_as_a_finger(at):
+    with at.browser.screen(390, 844, mobile=True):
+        at.browser.fresh()
+        sign_in(at)
+        same("what is lower than 44 pixels", [], at.browser.script(LOW))
 
 
 @check
@@ -922,3 +951,58 @@ def it_is_there_in_spanish(at):
     at.browser.sees("¿Marcar que no se presentó? Rosa Álvarez")
     at.browser.press("Seguir esperando")
     at.browser.fill("Idioma", "English")
+
+
+# From nothing, over a phone's line: 400 kilobits a second, and 400 milliseconds to each answer.
+SLOW = {"milliseconds": 400, "bytes_a_second": 50_000}
+SIGHT = """
+const watch = new MutationObserver(() => {
+    const it = document.querySelector(%s);
+    if (it && it.getClientRects().length && !window.sight) { window.sight = performance.now(); watch.disconnect(); }
+});
+watch.observe(document, { childList: true, subtree: true, attributes: true });
+"""
+# Seconds: 3 are aimed at, and the machine may be busy. Bytes are those of pages that esbuild has packed.
+MOST_SECONDS, MOST_BYTES = 6, {"the form to sign in": 47_000, "the next stop": 68_000}
+
+
+def first_sight(at, what, selector, kept):
+    """The seconds until something is seen on a phone that has nothing of these pages, and the bytes that came."""
+    at.browser.driver.get(f"{at.browser.origin}/icon.svg")
+    at.browser.devtools("Storage.clearDataForOrigin", origin=at.browser.origin, storageTypes="all")
+    at.browser.script("sessionStorage.clear(); for (const [name, value] of Object.entries(arguments[0])) sessionStorage.setItem(name, value)", kept)
+    at.browser.devtools("Network.clearBrowserCache")
+    made = at.browser.devtools("Page.addScriptToEvaluateOnNewDocument", source=SIGHT % json.dumps(selector))
+    at.browser.line(**SLOW)
+    try:
+        at.browser.go("#driver")
+        milliseconds = until(f"{what} is not seen", lambda: at.browser.script("return window.sight"))
+        loaded = at.browser.script("return performance.getEntriesByType('resource').map((it) => [it.name, it.transferSize, it.startTime])")
+        sent = sum(it[1] for it in loaded if it[2] < milliseconds)
+    finally:
+        at.browser.line()
+        at.browser.devtools("Page.removeScriptToEvaluateOnNewDocument", identifier=made["identifier"])
+    print(f"driver: {what} is seen from nothing after {milliseconds / 1000:.2f} s at 400 kbit/s and 400 ms; {len(loaded)} files, {sent} bytes", flush=True)
+    return milliseconds / 1000, sent
+
+
+@check
+def each_screen_of_the_packed_pages_opens(at):
+    at.town.set_clock(TOMORROW, "05:30")
+    for screen, holder in {"rider": "rider 1001", "clerk": "clerk", "examiner": "examiner", "officer": "officer", "dispatcher": "dispatcher", "admin": "admin"}.items():
+        parts = list(at.browser.each_part(at.keys[holder], screen))
+        holds(f"{screen} has no part", parts)
+        at.browser.sees_no("could not be loaded", "undefined")
+        at.browser.press("Sign out")
+        at.browser.find("button", "Sign in")
+
+
+@check
+def the_first_sight_on_a_phones_line_is_soon_there(at):
+    at.town.set_clock(TOMORROW, "05:30")
+    with at.browser.screen(**PHONE):
+        for what, selector, kept in [("the form to sign in", "input[type=password]", {}),
+                                     ("the next stop", ".driver-stop h2", {"desk.key": at.keys["driver 1"], "desk.subject.vehicle": "1"})]:
+            seconds, sent = first_sight(at, what, selector, kept)
+            holds(f"{what} is seen after {seconds:.2f} s", seconds <= MOST_SECONDS)
+            holds(f"{what} takes {sent} bytes", sent <= MOST_BYTES[what] or not shutil.which("esbuild"))

@@ -1,8 +1,13 @@
 """Paper: what Ctrl+P and each button of printing give, read back from the PDF."""
+import contextlib
+import os
 import re
+import shutil
 
-from checks import check, same
+import large_day
+from checks import check, holds, same
 from common import PARTS
+from dispatcher import over
 from paper import squares_in
 
 VANS = 6
@@ -92,3 +97,81 @@ def the_card_of_a_key_has_a_square_that_a_camera_reads(at):
     paper = at.browser.print_by("Print the card of caller 90")
     same("what a camera reads on the card", [key], paper.squares())
     same("pages of the card", 1, paper.pages)
+
+
+# A large day: at most so many pages, where 32 manifests were 155 once, and the day sheet 78.
+
+MOST_MANIFESTS, MOST_SHEET, LEAST_PAGES = 100, 40, 20
+PAGE_OF = {"en": r"Page (\d+) of (\d+)", "es": r"Página (\d+) de (\d+)"}
+BUTTONS = {"en": ("Print all 32 manifests", "Print the day sheet", "Day"),
+           "es": ("Imprimir las 32 hojas de ruta", "Imprimir la hoja del día", "Día")}
+
+
+def keep_paper(paper, name):
+    """Where the environment names a folder as PAGES_SIGHTS, what was printed is kept there."""
+    if folder := os.environ.get("PAGES_SIGHTS"):
+        os.makedirs(folder, exist_ok=True)
+        shutil.copy(paper.file, f"{folder}/{name}.pdf")
+
+
+@contextlib.contextmanager
+def large_day_on_screen(at, language):
+    """The dispatcher's Day shows the large day, as if the desk had it."""
+    large_day.write(at.town)
+    at.town.set_clock(BY_VEHICLE, "11:00")
+    try:
+        at.browser.speak(language)
+        at.browser.sign_in(at.keys["dispatcher"], "dispatcher", "trips", language=language)
+        at.browser.script(large_day.READS_DAY, large_day.sheet(BY_VEHICLE), large_day.rows(BY_VEHICLE))
+        at.browser.go_part("dispatcher", "day")
+        at.browser.find("button", BUTTONS[language][0])
+        yield
+    finally:
+        at.browser.speak("en")
+        at.town.write_files()
+
+
+def numbers_of_pages(paper, language):
+    """Of each page what it says: its number, and how many there are."""
+    return [tuple(map(int, found[0])) if len(found := re.findall(PAGE_OF[language], page)) == 1 else page[-80:]
+            for page in paper.page_texts]
+
+
+def whole_lists(numbers):
+    """Whether pages are numbered from 1 to the last of each list, one list after another."""
+    wanted = [(at, count) for count in [count for number, count in numbers if number == 1] for at in range(1, count + 1)]
+    return numbers == wanted
+
+
+def large_day_is_printed(at, language):
+    manifests, day_sheet, _ = BUTTONS[language]
+    with large_day_on_screen(at, language):
+        paper = at.browser.print_by(manifests)
+        keep_paper(paper, f"manifests-{language}")
+        same("faults of the manifests", [], [it for it in faults_of_paper(paper) if it])
+        printed = " ".join(paper.text.split())
+        missing = [trip for trip in range(1, large_day.VANS * large_day.TRIPS + 1) if len(re.findall(rf"\b{trip}\b", printed)) < 2]
+        same("trips that are not printed", [], missing)
+        holds("the long note is not printed whole", re.sub(r"\W", "", large_day.long_note()) in re.sub(r"\W", "", printed))
+        holds(f"the manifests have {paper.pages} pages", LEAST_PAGES < paper.pages <= MOST_MANIFESTS)
+        numbers = numbers_of_pages(paper, language)
+        same("vans whose first page is there", large_day.VANS, sum(number == 1 for number, _ in numbers))
+        holds(f"pages of each van are numbered: {numbers}", whole_lists(numbers))
+        over(at)
+        sheet = at.browser.print_by(day_sheet)
+        keep_paper(sheet, f"sheet-{language}")
+        same("faults of the day sheet", [], [it for it in faults_of_paper(sheet) if it])
+        holds(f"the day sheet has {sheet.pages} pages", LEAST_PAGES / 2 < sheet.pages <= MOST_SHEET)
+        same("numbers of the sheet's pages", [(at + 1, sheet.pages) for at in range(sheet.pages)], numbers_of_pages(sheet, language))
+        over(at)
+    print(f"pages of 32 vans, {language}: manifests {paper.pages}, day sheet {sheet.pages}")
+
+
+@check
+def a_large_day_is_printed_on_few_pages(at):
+    large_day_is_printed(at, "en")
+
+
+@check
+def a_large_day_is_printed_on_few_pages_in_spanish(at):
+    large_day_is_printed(at, "es")

@@ -1,5 +1,6 @@
 """The page *Record*: who did what, as an officer and an admin ask it, over the record of the town's own site."""
 import contextlib
+import hashlib
 import os
 import subprocess
 
@@ -24,6 +25,10 @@ def answering(at):
         process.terminate()
         process.wait()
         os.remove(f"{folder}/socket")
+
+
+def digest_of(key):
+    return hashlib.sha256(key.encode()).hexdigest()
 
 
 def begin(at, holder):
@@ -73,6 +78,50 @@ def an_admin_sees_keys_that_one_person_put_for_another(at):
         begin(at, "admin")
         at.browser.sees("put a key for caller 77 (Rosa Peña, examiner)")
         at.browser.sees("put by a key of nobody whom callers.csv names")
+
+
+@check
+def the_spanish_page_answers_in_spanish_and_axe_finds_nothing(at):
+    """The heads, the answer and what is to be looked at, also with the answer on the page; and in English."""
+    number = at.town.book(RIDER, "2025-03-12", 660, 2, 3)
+    at.town.post("admin", "/callers", {"id": 78, "role": "officer", "subject": 0, "digest": "cd" * 32, "name": "Ana Ruiz"})
+    at.browser.speak("es")
+    try:
+        with answering(at):
+            at.town.set_clock(DAY, "10:00")
+            at.browser.sign_in(at.keys["admin"], "admin", "record", "es")
+            at.browser.sees("Quién hizo qué", "puso una clave para el usuario 78 (Ana Ruiz, oficial de apelaciones)", "la puso una")
+            at.browser.fill("¿Qué quiere saber?", "¿Qué pasó con un viaje?")
+            at.browser.fill("Número", str(number))
+            at.browser.press("Mostrar")
+            at.browser.sees(f"Qué pasó con el viaje {number}", f"reservó el viaje {number}", "se prometió: 2025-03-12, recogida de", "hecho")
+            shown = at.browser.text()
+            holds(f"English words in a Spanish answer: {shown[:2000]}", not any(it in shown for it in ("booked", "promised", "caller 78", "done", "put a key", "put by")))
+            same("axe, in Spanish", [], at.browser.axe()["violations"])
+    finally:
+        at.browser.speak("en")
+    with answering(at):
+        begin(at, "admin")
+        asks(at, "What happened to a trip?", number)
+        at.browser.sees(f"booked trip {number}")
+        same("axe, in English", [], at.browser.axe()["violations"])
+
+
+@check
+def a_second_admin_sees_what_the_first_one_put(at):
+    """The line names both: who put the key, and for whom."""
+    second, callers = "second admin's key", f"{at.town.folder}/journal/callers.csv"
+    with open(callers, "w", encoding="utf-8") as file:
+        file.write(f"number,name,role,subject,from,to,digits\n1,Berta Sol,admin,,,,{digest_of(at.keys['admin'])[:12]}\n")
+    try:
+        at.town.post("admin", "/callers", {"id": 79, "role": "admin", "subject": 0, "digest": digest_of(second), "name": "Luz Vega"})
+        at.town.post("admin", "/callers", {"id": 80, "role": "officer", "subject": 0, "digest": "ef" * 32, "name": "Rosa Peña"})
+        with answering(at):
+            at.town.set_clock(DAY, "10:00")
+            at.browser.sign_in(second, "admin", "record")
+            at.browser.sees("put a key for caller 80 (Rosa Peña, officer)", "Berta Sol, admin (caller 1)", "put by one person for another")
+    finally:
+        os.remove(callers)
 
 
 @check

@@ -1,10 +1,13 @@
 """The rider's own pages: own trips, own places, two languages."""
+import hashlib
+import json
 import re
 
-from booking import last_trip
+from booking import begin, last_trip
 from checks import check, holds, same
 from clerk import clock_of, late
 from people import TOMORROW
+from scripts import LOW
 
 VANS = 1
 
@@ -75,6 +78,28 @@ def the_pages_are_spanish_for_who_reads_spanish(at):
     at.browser.sees("Reservar un viaje para el pasajero 1001", "Hora de recogida", "Recogida de regreso")
     at.browser.fill("Idioma", "en")
     at.browser.sees("Pickup time")
+
+
+@check
+def a_trip_on_a_closed_day_warns_the_rider_and_the_clerk(at):
+    right, day = at.town.file("agency.json"), "2025-03-17"
+    at.town.book(1006, day, 600, 3, 7)
+    trip = last_trip(at, 1006)["trip"]
+    at.town.write_file("agency.json", json.dumps({**json.loads(right), "closed": [{"day": day, "name": "Founders Day"}]}).encode())
+    try:
+        sign_in(at, 1006, "trips")
+        show(at, 1006)
+        at.browser.sees("Closed that day: Founders Day. The agency will call you.")
+        at.browser.fill("Language", "es")
+        at.browser.sees("Ese día no hay servicio: Founders Day. La agencia le llamará.")
+        at.browser.fill("Idioma", "en")
+        begin(at, "1006")
+        at.browser.sees("Closed that day: Founders Day. Call the rider.")
+        rows = at.browser.script("return [...document.querySelectorAll('.trips tbody tr')].filter((it) => it.querySelector('.closed-day')).map((it) => it.innerText)")
+        holds(f"trip {trip} alone is warned of: {rows}", len(rows) == 1 and str(trip) in rows[0])
+    finally:
+        at.town.write_file("agency.json", right if isinstance(right, bytes) else right.encode())
+        at.town.post("clerk", f"/trips/{trip}/cancel", {})
 
 
 @check
@@ -170,3 +195,106 @@ def each_rider_of_a_shared_home_is_offered_it_and_reads_no_drivers_note(at):
             same("drivers' notes that are shown", [], [it for it in notes if it in shown])
     finally:
         at.town.write_files()
+
+
+# Staying signed in, on a phone of one's own.
+
+STAY, STAYS = "Stay signed in on this phone or computer", "This browser keeps your key"
+PHONE = {"width": 390, "height": 844, "mobile": True}
+
+
+def kept(at):
+    return at.browser.script("return JSON.stringify({ ...localStorage })")
+
+
+def sign_in_to_stay(at, holder, rider):
+    at.browser.fresh()
+    at.browser.fill("Key", at.keys[holder])
+    at.browser.fill("Screen", "rider")
+    holds("it is ticked already", not at.browser.find("field", STAY).is_selected())
+    at.browser.fill(STAY, True)
+    at.browser.press("Sign in")
+    at.browser.find("button", "Sign out")
+    show(at, rider)
+
+
+def opens_anew(at):
+    """The browser's window is closed, and another one is opened: it keeps nothing but what the browser keeps."""
+    at.browser.driver.get(f"{at.town.origin}/icon.svg")
+    at.browser.script("sessionStorage.clear()")
+    at.browser.go()
+
+
+@check
+def a_rider_who_wants_it_stays_signed_in_until_signing_out(at):
+    sign_in_to_stay(at, "rider 1005", 1005)
+    at.browser.sees(STAYS)
+    holds("the key is not kept", at.keys["rider 1005"] in kept(at))
+    opens_anew(at)
+    at.browser.sees("Pickup between", STAYS)
+    at.browser.press("Sign out")
+    at.browser.find("button", "Sign in")
+    holds(f"the key stays after signing out: {kept(at)}", at.keys["rider 1005"] not in kept(at))
+    opens_anew(at)
+    at.browser.find("button", "Sign in")
+
+
+@check
+def a_rider_who_does_not_want_it_and_staff_do_not_stay(at):
+    at.browser.fresh()
+    sign_in(at, 1005, "trips")
+    show(at, 1005)
+    at.browser.sees("Pickup between")
+    at.browser.sees_no(STAYS)
+    holds("a key is kept that nobody wanted kept", at.keys["rider 1005"] not in kept(at))
+    for holder in ["clerk", "dispatcher", "driver 1"]:
+        sign_in_to_stay(at, holder, 1005)
+        at.browser.settled(1000)
+        at.browser.sees_no(STAYS)
+        holds(f"the key of {holder} is kept", at.keys[holder] not in kept(at))
+    at.browser.fresh()
+    at.browser.fill("Screen", "clerk")
+    holds("staff are asked whether to stay", not at.browser.all("field", STAY))
+
+
+@check
+def a_key_that_was_replaced_is_kept_no_longer(at):
+    sign_in_to_stay(at, "rider 1006", 1006)
+    at.browser.sees(STAYS)
+    put = {"id": 1006, "role": "rider", "subject": 1006}
+    at.town.post("admin", "/callers", {**put, "digest": hashlib.sha256(b"another").hexdigest()})
+    try:
+        opens_anew(at)
+        at.browser.find("button", "Sign in")
+        at.browser.sees("This key is no longer valid")
+        holds("the dead key is kept", at.keys["rider 1006"] not in kept(at))
+    finally:
+        at.town.post("admin", "/callers", {**put, "digest": hashlib.sha256(at.keys["rider 1006"].encode()).hexdigest()})
+    at.browser.fresh()
+
+
+# The phone.
+
+
+@check
+def everything_that_is_tapped_on_a_riders_phone_is_as_high_as_a_finger(at):
+    found = {}
+    with at.browser.screen(**PHONE):
+        at.browser.fresh()
+        at.browser.find("button", "Sign in")
+        found["signing in"] = at.browser.script(LOW)
+        for address in at.browser.each_part(at.keys["rider 1001"], "rider"):
+            found[address] = at.browser.script(LOW)
+    same("what is lower than 44 pixels", {}, {part: low for part, low in found.items() if low})
+
+
+@check
+def the_next_pickup_is_the_first_sight_of_a_riders_phone(at):
+    with at.browser.screen(**PHONE):
+        sign_in(at, 1003, "trips")
+        show(at, 1003)
+        at.browser.sees("Pickup between")
+        at.browser.script("window.scrollTo(0, 0)")
+        top, bottom, height = at.browser.script("""const it = document.querySelector('.trips-card li').getBoundingClientRect();
+            return [it.top, it.bottom, innerHeight]""")
+        holds(f"the next trip is from {top} to {bottom} of {height}", 0 < top < height / 2 and bottom <= height)

@@ -99,3 +99,9 @@ URL.createObjectURL = (blob) => {
     return made.call(URL, blob);
 };
 """
+
+# What is tapped and lower than 44 pixels, with its height; a tick or a radio button is as high as its label.
+LOW = """return [...document.querySelectorAll('a, button, summary, input, select, [role=tab]')].filter((it) => it.checkVisibility() && !it.closest('p, dd, td')
+    && !it.classList.contains('skip')).map((it) => [it, it.type === 'checkbox' || it.type === 'radio' ? it.closest('.tick, label, .field') ?? it : it])
+    .map(([it, box]) => [it.innerText || it.name || it.tagName, Math.round(box.getBoundingClientRect().height * 10) / 10])
+    .filter(([, high]) => high > 0 && high < 44)"""

@@ -28,10 +28,16 @@ def write_certificate(folder):
                     "-out", f"{folder}/certificate.pem"], check=True, capture_output=True)
 
 
-def write_conf(folder, port, desk_port):
+def packed_pages(folder):
+    """The pages as a site has them, in a folder."""
+    subprocess.run([f"{ROOT}/deploy/pack-pages", PAGES, f"{folder}/pages"], check=True, stdout=subprocess.DEVNULL)
+    return f"{folder}/pages"
+
+
+def write_conf(folder, port, desk_port, pages):
     """The site as deploy/site makes it for a trial: in this folder and on ports of its own."""
     words = [f"{ROOT}/deploy/site", "--trial", folder, "--desk", desk_port, "--tls", port, "--plain", free_port(),
-             "--pages", PAGES]
+             "--pages", pages]
     made = subprocess.run([str(it) for it in words], capture_output=True, text=True)
     if made.returncode:
         raise Trouble(f"deploy/site: {made.stderr}")
@@ -39,10 +45,18 @@ def write_conf(folder, port, desk_port):
         text.write(made.stdout)
 
 
+def read_tail(path):
+    """The end of a log, or nothing where there is none."""
+    with contextlib.suppress(OSError), open(path, encoding="utf-8", errors="replace") as text:
+        return text.read()[-500:]
+    return ""
+
+
 class Town:
     """Desk, site and files in a folder. Its clock stands still until it is set."""
 
-    def __init__(self, program, folder, vans, towns):
+    def __init__(self, program, folder, vans, towns, is_packed=False):
+        self.pages = packed_pages(folder) if is_packed else PAGES
         self.folder, self.vans, self.keys, self.site = folder, vans, people.keys_of(vans), None
         self.desk = Desk(program, f"{folder}/desk.db", f"{folder}/clock")
         self.port, self.number = free_port(), int(time.time())
@@ -50,14 +64,22 @@ class Town:
         self.origin = f"https://127.0.0.1:{self.port}"
         self.today = people.TODAY if vans else people.FIRST_DAY
         self.desk.set_clock(self.today)
-        copy_of_database(program, vans, towns, self.desk.file)
+        self.take_database(program, towns)
         write_certificate(folder)
         self.write_files()
 
+    def take_database(self, program, towns):
+        copy_of_database(program, self.vans, towns, self.desk.file)
+
     def __enter__(self):
-        write_conf(self.folder, self.port, self.middle.port)
-        self.start_desk()
-        self.start_site()
+        write_conf(self.folder, self.port, self.middle.port, self.pages)
+        try:
+            self.start_desk()
+            self.start_site()
+        except BaseException:
+            # (nothing else stops them, and tests/pages would read until they end)
+            self.__exit__()
+            raise
         return self
 
     def __exit__(self, *_):
@@ -94,8 +116,15 @@ class Town:
                                                      "FAKETIME_DONT_FAKE_MONOTONIC"])
         words = ["nginx", "-e", f"{self.folder}/nginx.log", "-c", f"{self.folder}/nginx.conf", "-g",
                  f"daemon off;{clock}"]
-        self.site = subprocess.Popen(words, env=clocked(self.desk.clock), stderr=subprocess.DEVNULL)
-        until("the site answers", lambda: self.answer("/") is not None)
+        self.site = subprocess.Popen(words, env=clocked(self.desk.clock), stdout=subprocess.DEVNULL,
+                                     stderr=subprocess.DEVNULL)
+        until("the site answers", self.site_answers)
+
+    def site_answers(self):
+        """Whether the site answers; where nginx has ended, such as over a port that somebody else took, its own words."""
+        if self.site.poll() is not None:
+            raise Trouble(f"nginx ended: {read_tail(f'{self.folder}/nginx.log')}")
+        return self.answer("/") is not None
 
     def stop_site(self):
         if self.site:
@@ -108,7 +137,7 @@ class Town:
     def write_files(self, **changed):
         """The site's files of the agency's own file, with what is changed in it."""
         os.makedirs(f"{self.folder}/site", exist_ok=True)
-        write_site_files(self.folder, {**people.agency_file(max(self.vans, 1)), **changed})
+        write_site_files(self.folder, {**people.agency_file(max(self.vans, 1)), **changed}, people.roster_file(), people.drivers_file())
         self.write_drivers_files()
 
     def write_drivers_files(self):
@@ -180,10 +209,9 @@ class Town:
         return reply["trip"]
 
 
-def write_site_files(folder, agency):
+def write_site_files(folder, agency, roster, drivers):
     """By bin/site-files, as an agency does it; the worklist is a small one."""
-    for name, content in [("agency.json", json.dumps(agency)), ("roster.csv", people.roster_file()),
-                          ("drivers.csv", people.drivers_file())]:
+    for name, content in [("agency.json", json.dumps(agency)), ("roster.csv", roster), ("drivers.csv", drivers)]:
         with open(f"{folder}/source-{name}", "w", encoding="utf-8") as text:
             text.write(content)
     words = [f"{ROOT}/bin/site-files", f"{folder}/source-agency.json", "--roster", f"{folder}/source-roster.csv",

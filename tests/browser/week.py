@@ -15,7 +15,7 @@ MONDAY, TUESDAY, WEDNESDAY, THURSDAY, FRIDAY = (f"2025-03-{day}" for day in (10,
 NEWCOMER, REFUSED, MISSED, TRAVELER = 1701, 1009, 1002, 1005
 # The entry of the case file, and so the letter, that is the suspension: granted, notice and hearing come before it.
 SUSPENSION = 4
-GRANTED = {"Last day of the grant": "2026-02-28", "Every trip": True}
+GRANTED = {"Last day of the grant": "2026-02-28"}
 REASONS = "Reasons, as they stand in the letter"
 
 
@@ -183,7 +183,7 @@ def on_friday_the_one_who_was_refused_appeals_and_is_heard(at):
     case_of(at, "officer", REFUSED, "appeals", FRIDAY)
     enter(at, "heard", f"Rider {REFUSED}'s appeal was heard")
     at.browser.sees("A decision is due within 30 days.")
-    enter(at, "appeal-granted", f"Grant rider {REFUSED}'s appeal", GRANTED)
+    enter(at, "appeal-granted", f"Grant rider {REFUSED}'s appeal", {**GRANTED, "Every trip": True})
     at.browser.sees("is granted. The letter is above.")
     paper = at.browser.print_by(f"Print letter 4 of rider {REFUSED}")
     has(paper, "DECISION appeal granted")

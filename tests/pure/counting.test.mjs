@@ -2,7 +2,7 @@
 
 import assert from "node:assert/strict";
 import { test } from "node:test";
-import { endOf, faultOf, lineOf, namedIn, pathOf, pauseAfter } from "../../pages/parts/counting.js";
+import { endOf, faultOf, isDue, lineOf, namedIn, pathOf, pauseAfter } from "../../pages/parts/counting.js";
 import { EVENTS } from "../../pages/parts/events.js";
 
 const ID = "0123456789abcdefghjkmnpqrs", AT = "2026-11-28T09:24:00";
@@ -25,6 +25,15 @@ test("pauses grow, and none is longer than five minutes", () => {
     const pauses = Array.from({ length: 20 }, (_, at) => pauseAfter(at + 1));
     assert.deepEqual(pauses, [...pauses].sort((a, b) => a - b));
     assert.deepEqual([pauses[0], pauses[19]], [2_000, 300_000]);
+});
+
+test("what is held back waits for its moment, and not for a clock that was put back", () => {
+    const told = 1_800_000_000_000, held = { since: told, from: told + 600_000 };
+    for (let minutes = -10; minutes < 20; minutes += 1) {
+        const now = told + minutes * 60_000;
+        assert.equal(isDue(held, now), minutes >= 10 || minutes < -1, `${minutes} minutes`);
+        assert.equal(isDue({ since: told, from: 0 }, now), true);
+    }
 });
 
 test("a blank, a bracket and a colon are percent-encoded", () => {

@@ -46,6 +46,17 @@ test("taps of other trips, and taps out of order, change nothing", () => {
     assert.equal(late([tap(1, "dropped", 562), tap(1, "aboard", 541)], 563).delay, 2);
 });
 
+test("a rider whom the van has passed by is at risk once the window has closed, until somebody tells of the trip", () => {
+    const both = { ...VAN, stops: [depot(500), pick(1, 540), pick(2, 545), drop(1, 560), drop(2, 600), pick(3, 660), drop(3, 680), depot(700)] }, ridden = new Map([[1, { state: "ridden", minutes: 0 }]]);
+    const risks = (taps, now, doings = ridden) => lateOf(both, taps, doings, now).risks.map(({ trip, due, past }) => [trip, due, past]), begun = [tap(1, "aboard", 541)];
+    assert.deepEqual(risks(begun, 571), [[2, 571, 1]]);
+    assert.deepEqual(risks([...begun, tap(2, "skipped", 546)], 571), [[2, 571, 1]]);
+    assert.deepEqual(risks(begun, 570), []);
+    for (const kind of ["arrived", "aboard", "no-show", "missed", "dropped"]) assert.deepEqual(risks([...begun, tap(2, kind, 546)], 571), []);
+    for (const state of ["ridden", "missed-rider", "missed-operator", "cancelled"]) assert.deepEqual(risks(begun, 571, new Map([...ridden, [2, { state, minutes: 0 }]])), []);
+    assert.deepEqual(risks([], 571), []);
+});
+
 test("a file that is old, of another day, or broken is none", () => {
     const text = JSON.stringify({ day: "2026-03-10", made: "2026-03-10T15:00:00Z", vehicles: { 9: { taps: [tap(1, "aboard", 541), { trip: "x" }] }, 10: {} }, notes: null });
     const now = Date.parse("2026-03-10T15:00:20Z");
@@ -59,7 +70,17 @@ test("what needs a person has the worst first", () => {
     const lates = [{ vehicle: 1, delay: 8, silent: 0, risks: [], last: null }, { vehicle: 2, delay: 24, silent: 0, risks: [], last: null }, { vehicle: 3, delay: 0, silent: 46, risks: [], last: null },
         { vehicle: 4, delay: 4, silent: 0, risks: [], last: null }];
     const doings = new Map([[1, { state: "no-word", minutes: 20 }], [2, { state: "missed-rider", minutes: 0 }]]);
-    const told = { vehicles: new Map(), notes: [], noShows: [{ trip: 1 }, { trip: 2 }], disagreements: [{ trip: 3 }], calls: {} };
+    const told = { day: "2026-03-10", vehicles: new Map(), notes: [], noShows: [{ trip: 1 }, { trip: 2 }], disagreements: [{ trip: 3 }], late: [] };
     const it = attentionOf(lates, told, doings, [VAN]);
-    assert.deepEqual([it.late.map(({ vehicle }) => vehicle), it.silent.length, it.noShows.length, it.disagreements.length, it.open], [[2, 1], 1, 1, 1, [{ vehicle: 9, count: 1 }]]);
+    assert.deepEqual([it.late.map(({ vehicle }) => vehicle), it.silent.length, it.noShows.length, it.disagreements.length, it.open], [[2, 1], 1, 2, 1, [{ vehicle: 9, count: 1 }]]);
+});
+
+test("a no-show waits for dispatch also once the desk has it, and of an earlier day too", () => {
+    const noShow = { day: "2026-03-09", trip: 2, vehicle: 9, from: 545, to: 560, arrived: 575, wait: 5, minute: 580 };
+    const text = JSON.stringify({ day: "2026-03-10", made: "2026-03-10T15:00:00Z", vehicles: {}, no_shows: [], unreviewed: { no_shows: [noShow], disagreements: null },
+        late: [{ vehicle: 4, trip: 97, kind: "dropped", at: "2026-03-09T18:40:00" }, { vehicle: "x" }] });
+    const told = toldIn(text, "2026-03-10", Date.parse("2026-03-10T15:00:20Z"));
+    assert.deepEqual(attentionOf([], told, new Map([[2, { state: "missed-rider", minutes: 0 }]]), []).noShows, [noShow]);
+    assert.deepEqual(told.disagreements, []);
+    assert.deepEqual(told.late.map(({ vehicle }) => vehicle), [4]);
 });

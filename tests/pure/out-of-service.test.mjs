@@ -256,3 +256,19 @@ test("a trip that was pinned once is asked for by what its rider first said", as
     const done = await plans.carryOut(plan, desk.ports);
     assert.deepEqual(desk.first[done.items[0].ticket.trip], { wish: 595, by: null });
 });
+
+test("who was booked anew in the same vehicle has one row, that of the new trip, and is moved once", async () => {
+    const desk = makeDesk({ 1: [trip(10, 1, 600)], 2: [trip(11, 2, 700)] });
+    desk.ports.putVehicle = ((put) => async (fields) => {
+        // (a clerk books the first rider anew in the vehicle, before it is off duty)
+        if (desk.all().length === 2) desk.riders.get(1).push(trip(90, 1, 630));
+        return put(fields);
+    })(desk.ports.putVehicle);
+    let plan = await plans.carryOut(planOf(desk), desk.ports);
+    assert.equal(plan.stopped, "desk.booked");
+    plan = await plans.carryOut(await plans.readAgain(plan, desk.ports), desk.ports);
+    assert.deepEqual([plan.done, plan.items.map(({ old, step }) => [old.trip, step])], [true, [[90, "again"], [11, "again"]]]);
+    for (let look = 0; look < 2; look += 1) plan = await plans.carryOut(plans.toTryAgain(await plans.readAgain(plan, desk.ports)), desk.ports);
+    assert.deepEqual(bookedOn(desk), { 1: 1, 2: 1 });
+    assert.equal(plan.items.length, 2);
+});

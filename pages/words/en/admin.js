@@ -60,6 +60,8 @@ export const words = {
     "admin.percent": "And so many in a hundred of the rider's trips",
     "admin.span_days": "Counted over so many days",
     "admin.policy-hint": "It replaces the whole policy. The desk does not tell the one that holds.",
+    "admin.pattern-danger": "One or two missed trips are no pattern or practice, and a suspension that rests on them will not stand (49 CFR 37.125(h)). Take at least 3, 10 percent and 30 days, or what your board has adopted.",
+    "admin.pattern-hint": "A new desk takes one missed trip for a pattern. 3 missed trips, 10 percent and 30 days are a usual beginning. The page “Waiting for action” shows how many riders would have met some policies in the last 90 days.",
     "admin.policy-last": ({ day }) => `Put last from this browser, on ${day}. Somebody else may have put another one since.`,
     "admin.policy-none": "None was put from this browser yet.",
     "admin.put-policy": "Put the policy",
@@ -168,4 +170,7 @@ export const words = {
     "admin.callers-loaded": ({ count, rows }) => `${count === 1 ? "1 caller" : `${count} callers`} read from the file.${rows ? ` These rows have no right number or role and were left out: ${rows}.` : ""}`,
     "admin.no-callers": "This is no list of callers: its first row does not name the columns number and role. Nothing was read.",
     "admin.of-lock_minutes": "Minutes for which a driver’s phone shows names without a line, 5 to 720",
+    "admin.of-closed": "Closed days, on which nobody is served",
+    "admin.closed-hint": "On each line a day and its name, such as 2026-12-25 Christmas Day.",
+    "admin.closed-wants": ({ line }) => `“${line}” does not begin with a day such as 2026-12-25 that stands there once.`,
 };

@@ -3,7 +3,7 @@
 /** What is told to the site.
  * @type {Record<string, string>} */
 const COUNTS = { denials: "a denial", bookings: "a booking", cancellations: "a cancellation", stops: "a stop", "no-shows": "a no-show", notes: "a note",
-    disagreements: "an entry that disagrees", calls: "a call" };
+    disagreements: "an entry that disagrees", calls: "a call", reviews: "what was found right of a trip" };
 
 /** @type {Record<string, string>} */
 const KINDS = { places: "place", routes: "line", vehicles: "vehicle" };
@@ -39,8 +39,8 @@ export const words = {
     "common.roster-number": ({ row, text }) => `Row ${row} of the roster: “${text}” is no rider's number.`,
     "common.roster-twice": ({ row, text }) => `Row ${row} of the roster: rider ${text} is there twice. The first row counts.`,
     "common.others-wrote": "Another window or device wrote with the same key in the meantime. Nothing is lost: what you sent went on with a higher number.",
-    "common.was-denied": "What was being sent when this page was loaded is denied: ",
-    "common.was-done": "What was being sent when this page was loaded is done, once.",
+    "common.was-denied": "Your last request was denied: ",
+    "common.was-done": "Your last request went through, once.",
     "common.not-loaded": "This screen could not be loaded: the line broke. Nothing that you sent is lost.",
     "common.load-again": "Try again",
     "common.counts-refused": ({ count, what }) => `${count} ${count === 1 ? "count" : "counts"} could not be kept: ${what

@@ -50,7 +50,7 @@ export const words = {
     "denials.37.125(c)/help": "Read the letters of this case. Decide what waits, or take an application first.",
     "denials.37.125(e)": "The last day of the grant is before today.",
     "denials.37.125(e)/help": "Choose a last day that is today or later.",
-    "denials.37.125(g)": "This step of an appeal is out of turn.",
+    "denials.37.125(g)": "This can’t be entered now: an appeal is already on file, or the 60 days are over.",
     "denials.37.125(g)/help": "An appeal comes within 60 days, once for each decision. It is heard, and then decided by somebody who did not decide before.",
     "denials.37.125(h)": "This step of a suspension has no ground yet.",
     "denials.37.125(h)/help": "A notice needs a pattern of missed trips. The rider is heard on it. A suspension begins after today and lasts 30 days at most.",

@@ -9,6 +9,8 @@ export const words = {
     "trips.way": "From and to",
     "trips.to-place": ({ place }) => `to ${place}`,
     "trips.by-time": ({ by }) => `be there by ${by}`,
+    "trips.closed": ({ name }) => `Closed that day${name && `: ${name}`}. Call the rider.`,
+    "trips.closed-rider": ({ name }) => `Closed that day${name && `: ${name}`}. The agency will call you.`,
     "trips.today-window": "Pickup window",
     "trips.today-trip": ({ trip }) => `Trip ${trip}.`,
     "trips.today-waits": ({ van }) => `${van}, no update yet`,

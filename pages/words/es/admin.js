@@ -60,6 +60,8 @@ export const words = {
     "admin.percent": "Y tantos de cada cien viajes del pasajero",
     "admin.span_days": "Contados sobre tantos días",
     "admin.policy-hint": "Reemplaza todo. El sistema no dice qué vale ahora.",
+    "admin.pattern-danger": "Uno o dos viajes a los que no se presentó no son un patrón ni una práctica, y una suspensión basada en ellos no se sostendrá (49 CFR 37.125(h)). Ponga al menos 3, 10 por ciento y 30 días, o lo que haya adoptado su junta.",
+    "admin.pattern-hint": "Un sistema nuevo toma un solo viaje por un patrón. 3 viajes, 10 por ciento y 30 días son un comienzo usual. La página «Lo pendiente» muestra cuántos pasajeros habrían cumplido algunas reglas en los últimos 90 días.",
     "admin.policy-last": ({ day }) => `Lo último puesto desde este navegador, el ${day}. Puede que otra persona haya puesto algo después.`,
     "admin.policy-none": "Todavía no se puso nada desde este navegador.",
     "admin.put-policy": "Poner tarifas y límites",
@@ -168,4 +170,7 @@ export const words = {
     "admin.callers-loaded": ({ count, rows }) => `${count === 1 ? "1 usuario leído" : `${count} usuarios leídos`} del archivo.${rows ? ` Estas filas no tienen número o función correctos y se omitieron: ${rows}.` : ""}`,
     "admin.no-callers": "No es una lista de usuarios: su primera fila no nombra las columnas number y role. No se leyó nada.",
     "admin.of-lock_minutes": "Minutos durante los que el teléfono de un conductor muestra nombres sin conexión, 5 a 720",
+    "admin.of-closed": "Días sin servicio",
+    "admin.closed-hint": "En cada línea, una fecha y su nombre, como 2026-12-25 Navidad.",
+    "admin.closed-wants": ({ line }) => `«${line}» no empieza con una fecha como 2026-12-25 que aparezca una sola vez.`,
 };

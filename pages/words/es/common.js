@@ -3,7 +3,7 @@
 /** Lo que se comunica al sitio.
  * @type {Record<string, string>} */
 const COUNTS = { denials: "una denegación", bookings: "una reserva", cancellations: "una cancelación", stops: "una parada", "no-shows": "una ausencia",
-    notes: "una nota", disagreements: "un dato que no coincide", calls: "una llamada" };
+    notes: "una nota", disagreements: "un dato que no coincide", calls: "una llamada", reviews: "lo que se halló correcto de un viaje" };
 
 /** @type {Record<string, string>} */
 const KINDS = { places: "lugar", routes: "línea", vehicles: "vehículo" };
@@ -48,8 +48,8 @@ export const words = {
     "common.roster-number": ({ row, text }) => `Fila ${row} de la lista: «${text}» no es un número de pasajero.`,
     "common.roster-twice": ({ row, text }) => `Fila ${row} de la lista: el pasajero ${text} está dos veces. Vale la primera fila.`,
     "common.others-wrote": "Mientras tanto, otra ventana u otro aparato escribió con la misma clave. No se perdió nada: lo que envió siguió con un número más alto.",
-    "common.was-denied": "Lo que se estaba enviando cuando se cargó esta página fue denegado: ",
-    "common.was-done": "Lo que se estaba enviando cuando se cargó esta página se hizo, una sola vez.",
+    "common.was-denied": "Su última solicitud fue denegada: ",
+    "common.was-done": "Su última solicitud se hizo, una sola vez.",
     "common.not-loaded": "Esta pantalla no se pudo cargar: se cortó la conexión. No se perdió nada de lo que envió.",
     "common.load-again": "Intentar otra vez",
     "common.counts-refused": ({ count, what }) => `No se ${count === 1 ? "pudo guardar 1 registro" : `pudieron guardar ${count} registros`}: ${what

@@ -53,7 +53,7 @@ export const words = {
     "denials.37.125(g)": "Este paso de la apelación está fuera de orden.",
     "denials.37.125(g)/help": "Una apelación llega dentro de 60 días, una vez por cada decisión. Primero hay audiencia, y después decide alguien que no decidió antes.",
     "denials.37.125(h)": "Este paso de una suspensión todavía no tiene fundamento.",
-    "denials.37.125(h)/help": "Un aviso necesita un patrón de viajes perdidos. Se escucha al pasajero. Una suspensión empieza después de hoy y dura 30 días como máximo.",
+    "denials.37.125(h)/help": "Un aviso necesita un patrón de viajes a los que el pasajero no se presentó. Se escucha al pasajero. Una suspensión empieza después de hoy y dura 30 días como máximo.",
     "denials.37.125(h) trip": "El pasajero está suspendido ese día.",
     "denials.37.125(h) trip/help": "Elija un día después de la suspensión. Una apelación permite viajar hasta que se decida.",
     "denials.37.127(e)": "El visitante ya usó los 21 días de este año.",

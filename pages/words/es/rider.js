@@ -11,4 +11,5 @@ export const words = {
     "rider.show": "Mostrar mis páginas",
     "rider.help": "Si necesita ayuda, llame al ",
     "rider.reading": "Se están leyendo los nombres de sus lugares…",
+    "rider.stays": "Este navegador guarda su clave, y su sesión sigue abierta. Con «Salir» se cierra y la clave se borra.",
 };

@@ -9,6 +9,8 @@ export const words = {
     "trips.way": "Desde y hasta",
     "trips.to-place": ({ place }) => `hasta ${place}`,
     "trips.by-time": ({ by }) => `estar allí a más tardar a las ${by}`,
+    "trips.closed": ({ name }) => `Ese día no hay servicio${name && `: ${name}`}. Llame al pasajero.`,
+    "trips.closed-rider": ({ name }) => `Ese día no hay servicio${name && `: ${name}`}. La agencia le llamará.`,
     "trips.today-window": "Recogida entre las",
     "trips.today-trip": ({ trip }) => `Viaje ${trip}.`,
     "trips.today-waits": ({ van }) => `${van}, todavía sin noticias`,

@@ -1,0 +1,56 @@
+// What is asked for before anything else is here, since on a phone's line each answer takes its time: the agency's file, and what the screen takes
+// that will be shown.
+
+import { SCREENS } from "./screens.js";
+
+const LONGEST_WAIT = 5_000, WORDS = ["common", "signing"], MORE_WORDS = ["denials", "fields"];
+
+/** @param {string} name */
+function kept(name) {
+    try {
+        return localStorage.getItem(name);
+    } catch {
+        return null;
+    }
+}
+
+/** @param {string} rel @param {string} href */
+function link(rel, href) {
+    if (document.querySelector(`link[href="${href}"]`)) return;
+    const it = document.createElement("link");
+    it.rel = rel;
+    it.href = href;
+    document.head.append(it);
+}
+
+const askFor = () => fetch("agency.json", { cache: "no-cache", credentials: "omit", signal: /** @type {any} */ (AbortSignal).timeout(LONGEST_WAIT) });
+
+/** @type {Promise<Response> | null} */
+let first = askFor();
+first.catch(() => {});
+
+/** The reply with the agency's file. What was asked for early is given once, and asked for anew from then on. */
+export function agencyFile() {
+    const it = first ?? askFor();
+    first = null;
+    return it;
+}
+
+// (another language than the one that is kept is known once the agency's file is there)
+const language = kept("desk.language") === "es" ? "es" : "en";
+
+/** Asks for the files of a screen that the page names (index.html): those that a phone shows.
+ * @param {string} id
+ */
+export function askAhead(id) {
+    const files = document.getElementById("early")?.dataset[id]?.split(/\s+/) ?? [], screen = SCREENS.find((it) => it.id === id);
+    for (const name of files) link("modulepreload", name);
+    if (!files.length || !screen) return askWords(MORE_WORDS);
+    for (const name of screen.words) link("modulepreload", `words/${language}/${name}.js`);
+    for (const name of screen.styles) link("stylesheet", `css/${name}.css`);
+}
+
+const askWords = (/** @type {string[]} */ names) => names.forEach((name) => link("modulepreload", `words/${language}/${name}.js`));
+
+askWords(WORDS);
+askAhead(sessionStorage.getItem("desk.key") === null && kept("desk.stay") === null ? "signing" : location.hash.slice(1).split("/")[0] || kept("desk.screen") || "");

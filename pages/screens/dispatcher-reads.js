@@ -1,0 +1,51 @@
+// What the dispatcher's parts read, from the store of all screens: a day, what drivers told of it, and the work of one vehicle.
+
+import { serverNow, today } from "../parts/clock.js";
+import * as desk from "../parts/desk.js";
+import { toldIn } from "../parts/lateness.js";
+import { reading } from "../parts/reads.js";
+import { toldRead } from "../parts/told.js";
+import { readVehicle } from "./dispatcher-plan.js";
+
+/** @typedef {import("../parts/lateness.js").Told} Told */
+/** @typedef {{ text: string | null, csv: string, denied: any }} Day its sheet, null where it was not read yet, and its trips */
+
+const RENEWED = 15_000;
+
+/** A day's sheet and its trips, as of one moment.
+ * @param {string} day
+ */
+export const dayRead = (day) => reading(`/days/${day}/`, { period: RENEWED, read: async (ask) => {
+    const [sheet, trips] = await Promise.all([ask(desk.pathOf.sheet(day)), ask(desk.pathOf.tripsOn(day))]);
+    return [sheet, trips].find((it) => it.silent || it.denied !== undefined) ?? { value: { sheet: sheet.value, csv: trips.value } };
+} });
+
+/** @param {string} day @returns {Day} */
+export function dayNow(day) {
+    const reply = dayRead(day).reply();
+    return { text: reply?.value?.sheet ?? null, csv: reply?.value?.csv ?? "", denied: reply?.denied === undefined ? null : reply };
+}
+
+/** What drivers told today. */
+export const driversRead = () => toldRead({ period: RENEWED });
+
+/** @type {{ text: string | null, day: string, at: number, told: Told | null }} */
+let last = { text: null, day: "", at: 0, told: null };
+
+/** What people told of a day; null where the site has no fresh file of it.
+ * @param {string} day @returns {Told | null}
+ */
+export function toldNow(day) {
+    const text = driversRead().reply()?.value ?? null, now = serverNow(), at = Math.floor(now / RENEWED);
+    if (day !== today()) return null;
+    if (last.text !== text || last.day !== day || last.at !== at) last = { text, day, at, told: toldIn(text, day, now) };
+    return last.told;
+}
+
+/** What a vehicle has from a day on. It takes some sixty requests: it is read where somebody asks for it, and says its age.
+ * @param {number} vehicle @param {string} from
+ */
+export const vehicleRead = (vehicle, from) => reading(`/vehicles/${vehicle}/from/${from}`, { quiet: true, read: async () => {
+    const found = await readVehicle(vehicle, from);
+    return found.denied === undefined ? { value: found } : found;
+} });

@@ -1,0 +1,39 @@
+// What speaks for a no-show, and the line that puts another outcome on record.
+
+import assert from "node:assert/strict";
+import { test } from "node:test";
+
+import { correctionLine, doubtOf, nextOf, OUTCOMES, rowKey } from "../../pages/parts/reviews.js";
+
+const WINDOW = { from: 545, to: 560 };
+
+test("each arrival, wait and moment has its doubt", () => {
+    for (let arrived = 530; arrived < 580; arrived += 1) {
+        for (let wait = 0; wait < 9; wait += 1) {
+            const minute = Math.max(arrived, 545) + wait, wanted = arrived > 560 ? "late" : wait < 5 ? "wait" : null;
+            assert.equal(doubtOf({ ...WINDOW, arrived, wait, minute }, 5), wanted, `${arrived} ${wait}`);
+        }
+    }
+    assert.equal(doubtOf({ ...WINDOW, arrived: null, wait: 0, minute: 559 }, 5), "not-arrived");
+    assert.equal(doubtOf({ ...WINDOW, arrived: 530, wait: 0, minute: 540 }, 0), "early");
+});
+
+test("a line has four columns, whatever somebody types", () => {
+    assert.equal(correctionLine(154, "ridden", "Dana", "phone of the van"), "154,ridden,Dana,phone of the van");
+    assert.equal(correctionLine(154, "ridden", 'O"Neill, Dana', "a\nb\tc"), '154,ridden,"O""Neill, Dana",a b c');
+    assert.equal(correctionLine(7, "missed-operator", "=1+1", "-x"), "7,missed-operator,'=1+1,'-x");
+});
+
+test("what follows is told by the desk's own record", () => {
+    for (const right of OUTCOMES) {
+        assert.equal(nextOf(right, "booked"), "enter");
+        assert.equal(nextOf(right, right), "confirm");
+        for (const record of ["cancelled", null, ...OUTCOMES.filter((it) => it !== right)]) assert.equal(nextOf(right, record), "correct");
+    }
+});
+
+test("a row is the same one after a renewal, and a later entry is another one", () => {
+    const row = { day: "2026-03-10", trip: 5, minute: 560, told: "ridden" };
+    assert.equal(rowKey(row), rowKey({ ...row }));
+    assert.notEqual(rowKey(row), rowKey({ ...row, minute: 561 }));
+});

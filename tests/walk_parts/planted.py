@@ -1,0 +1,83 @@
+"""Faults put back into a copy of the pages, one at a time: what a walk is to find. Each names a file, what stands there and what is put there."""
+
+import os
+import shutil
+import subprocess
+import sys
+import tempfile
+from dataclasses import dataclass
+
+WALK = os.path.join(os.path.dirname(os.path.dirname(os.path.realpath(__file__))), "walk")
+SECONDS = 300
+
+
+@dataclass(frozen=True)
+class Planted:
+    """A fault, and the walk that finds it."""
+
+    name: str
+    file: str
+    old: str
+    new: str
+    seed: int = 21
+    steps: int = 400
+    role: str = "clerk"
+
+
+FAULTS = [
+    Planted("a word is missing", "words/en/trips.js", "    \"trips.list-coming\": \"Upcoming\",\n", ""),
+    Planted("a window is an hour off", "screens/ticket.js", "export const windowOf = ({ window_from: from, window_to: to }) => between(from, to);",
+            "export const windowOf = ({ window_from: from, window_to: to }) => between(from + 60, to + 60);"),
+    Planted("from and to are exchanged in a list", "screens/trips.js", "[placeName(from), part(\"small\", { class: \"to\" }, t(\"trips.to-place\", { place: placeName(to) }))]",
+            "[placeName(from), part(\"small\", { class: \"to\" }, t(\"trips.to-place\", { place: placeName(from) }))]"),
+    Planted("bookings are not counted", "screens/booking-plan.js", "    count(\"bookings\",", "    if (ticket.trip < 0) count(\"bookings\","),
+    Planted("cancellations are not counted", "parts/tally.js", "    if (reply.denied === undefined) await keep({ ...event, from: 0 });", "    if (reply.denied === undefined) await drop(event.id);"),
+    Planted("Spanish is English", "words/es/booking.js", "\"booking.day-wants\":", "\"booking.back-hint\": \"For a round trip. Otherwise leave it empty.\", \"booking.day-wants\":"),
+    Planted("another trip is cancelled", "screens/trips.js", "reply = await cancelTrip(trip.trip, \"rider\");", "reply = await cancelTrip(trip.trip - 1, \"rider\");"),
+    Planted("a scrolling list is a stop of Tab", "parts/combo.js", "\"aria-label\": label, hidden: true, tabindex: -1,", "\"aria-label\": label, hidden: true,"),
+    Planted("a suspension ends with the grant", "screens/rider-card.js", "if (suspended) return days ?",
+            "if (suspended) return `${t(\"clerk.suspended\")} ${t(\"clerk.until\", { day: dayInWords(String(until)) })}`;\n    if (suspended) return days ?"),
+    Planted("what this window wrote is not read again", "parts/reads.js", "    others?.postMessage(\"written\");\n    readSoon();", "    others?.postMessage(\"written\");"),
+    Planted("denials are not counted", "screens/booking-plan.js", "    count(\"denials\",", "    if (minute < 0) count(\"denials\","),
+    Planted("a no is a yes", "parts/ask.js", "    return answer === \"yes\";", "    return answer !== \"\";"),
+    Planted("a note is closed, and the focus goes with it", "parts/notes.js", "    target.focus({ preventScroll: target.id === \"main\" });", ""),
+    Planted("a denial is made where nothing was asked", "screens/booking-plan.js",
+            "const reply = await sent(rider, { ...leg.wish, wish, by }, again);",
+            "const reply = wish > 1200 ? /** @type {any} */ ({ denied: \"no vehicle\" }) : await sent(rider, { ...leg.wish, wish, by }, again);"),
+    Planted("NaN in what was searched", "parts/wishes.js", "if (mode === \"around\") return [cut(minute - NEGOTIATED_MINUTES), cut(minute + NEGOTIATED_MINUTES)];",
+            "if (mode === \"around\") return [cut(minute - NEGOTIATED_MINUTES), cut(minute + NaN)];"),
+    Planted("the first rule ends the plan", "parts/wishes.js", "const OF_MINUTE = [FULL, \"37.131(e)\", \"37.123(b)\"];", "const OF_MINUTE = [FULL];"),
+    Planted("not before is booked at any time after", "parts/wishes.js",
+            "return from <= minute + NEGOTIATED_MINUTES && from >= (mode === \"around\" ? minute - NEGOTIATED_MINUTES : minute);", "return true;"),
+    Planted("a list stays as it was first read", "parts/reads.js", "setInterval(look, LOOKED);", ""),
+    Planted("a change that is denied says not booked", "screens/booking.js", "const heading = trip ? standsWords(trip) : t(", "const heading = t("),
+    Planted("what broke is sent as something new", "parts/desk.js", "const reply = await post(pending.path, pending.body, pending.number);",
+            "const reply = await post(pending.path, pending.body, pending.resent ? pending.number = takeNumber() : pending.number);"),
+    Planted("two sends of one form", "parts/fields.js", "        busy = true;\n        drawInto(box, []);", "        drawInto(box, []);"),
+]
+
+
+def planted_in(pages: str, fault: Planted, folder: str) -> str:
+    """A copy of the pages with the fault; it raises ValueError where what it replaces is not there."""
+    copy = os.path.join(folder, "pages")
+    shutil.copytree(pages, copy)
+    path = os.path.join(copy, fault.file)
+    with open(path, encoding="utf-8") as file:
+        text = file.read()
+    if fault.old not in text:
+        raise ValueError(f"{fault.file} has no {fault.old!r}")
+    with open(path, "w", encoding="utf-8") as file:
+        file.write(text.replace(fault.old, fault.new, 1))
+    return copy
+
+
+def found(pages: str, program: str, towns: str, fault: Planted) -> list[str]:
+    """What the walk says of a fault: its breaches, none where it is not found."""
+    with tempfile.TemporaryDirectory(prefix="desk-planted-") as folder:
+        words = [sys.executable, WALK, "--seed", str(fault.seed), "--steps", str(fault.steps), "--role", fault.role, "--towns", towns, "--first",
+                 "--seconds", str(SECONDS), program]
+        ran = subprocess.run(words, env={**os.environ, "PAGES_FOLDER": planted_in(pages, fault, folder)}, capture_output=True, text=True, check=False)
+        lines = ran.stdout.splitlines()
+        if not lines or not lines[-1].endswith(" failed"):
+            raise ValueError(f"the walk ended early: {ran.stderr[-300:]}")
+        return [f"{line} {lines[at + 1].split(', as')[0].strip()}" for at, line in enumerate(lines[:-1]) if "FAILED" in line]

@@ -1,0 +1,658 @@
+"""Walks: windows with somebody at each, one act after another, and what has to hold after each of them."""
+
+import contextlib
+import os
+import random
+import re
+import time
+from collections.abc import Callable
+from dataclasses import dataclass, field
+from typing import Any
+
+import people
+from browser import Browser
+from database import Trouble
+from middle import CROWDED, HALF, LOST, NO_MEMORY, NO_STORE, NONSENSE, UNHEARD
+from selenium.common.exceptions import WebDriverException
+
+from walk_parts import acts, asked, invariants, shown, speech
+from walk_parts.acts import Act, Task
+from walk_parts.ledger import Ledger, Permit, Write
+from walk_parts.page import Control, Look, Page
+from walk_parts.report import Report
+from walk_parts.towns import WalkTown
+from walk_parts.words import Words
+
+# Seconds after which a comparison counts, after which a list has to know what another device wrote, and a new day.
+PATIENCE, OUTSIDE, NEW_DAY = 10.0, 42.0, 55.0
+BREAKS = [LOST, UNHEARD, HALF, NO_MEMORY, NO_STORE, NONSENSE, CROWDED]
+RARE = ("suspended", "suspension appealed", "conditional", "presumed", "temporary")
+NO_ANSWERS = ("common.no-go-back", "common.no")
+IGNORED = (r"favicon", r"Failed to load resource", r"net::ERR", r"service-worker|ServiceWorker")
+
+
+@dataclass
+class Window:
+    """A window, who sits at it and what that person has in mind."""
+
+    handle: str
+    holder: str
+    role: str
+    task: Task | None = None
+    denied: set[str] = field(default_factory=set)
+    loaded: float = 0.0
+
+
+class Walker:
+    """The walk of one seed."""
+
+    def __init__(self, town: WalkTown, browser: Browser, words: Words, report: Report, roles: list[str]) -> None:
+        self.town, self.browser, self.words, self.report, self.roles = town, browser, words, report, roles
+        self.page, self.ledger, self.number = Page(browser), Ledger(), 0
+        self.choice = random.Random(report.seed)
+        self.recorded, self.offline, self.grace = 0, 0, 0.0
+        self.stale: dict[int, float] = {}
+        self.windows: list[Window] = []
+        self.here: Window
+        self.look: Look
+        self.before: Look
+        self.foreign = {it: words.foreign_to(it) for it in ("en", "es")}
+        self.places = {number: name for number, name, *_ in people.PLACES}
+        self.names = shown.Names({number: name for number, name, _, _, _, private in people.PLACES if not private})
+        self.parts: set[str] = set()
+        self.expected: dict[str, tuple[str, float]] = {}
+        self.confirmed: tuple[Permit, int, str] | None = None
+
+    # Who and where.
+
+    def some_rider(self) -> tuple[int, str, str]:
+        """A rider's number, name and telephone; seldom nobody's."""
+        if self.choice.random() < 0.03:
+            return 4000 + self.choice.randrange(10), "Nobody Known", "999-0000"
+        if self.choice.random() < 0.3:
+            rider = self.choice.choice(people.RIDERS)
+            return rider[0], rider[1], rider[2]
+        rare = [it for it in self.town.riders if it.standing in RARE]
+        person = self.choice.choice(rare if self.choice.random() < 0.4 else self.town.riders)
+        return person.number, person.name, person.telephone
+
+    def place_name(self, place: int) -> str:
+        """The name of a place, as staff know it."""
+        return self.places[place]
+
+    def some_places(self) -> tuple[int, int]:
+        """Where somebody goes from and to; the rider's home often."""
+        public = [1, 2, 3, 6, 7, 8, 9, 4]
+        home = next((it.home for it in self.town.riders if it.number == self.look.subject), None)
+        start = home if home and self.choice.random() < 0.5 else self.choice.choice(public)
+        end = self.choice.choice(public if self.choice.random() < 0.05 else [it for it in public if it != start])
+        return (start, end) if self.choice.random() < 0.6 else (end, start)
+
+    def holder_for(self, role: str) -> str:
+        """Whose key a window of this role has."""
+        if role == "rider":
+            may = [it.number for it in self.town.riders if it.standing in ("always", "presumed", "temporary", "suspended", "refused sixty", "conditional", "refused")]
+            return f"rider {self.choice.choice(may)}"
+        return self.choice.choice({"clerk": ["clerk", "second clerk"], "dispatcher": ["dispatcher"], "driver": ["driver 1"],
+                                   "examiner": ["examiner"], "officer": ["officer", "second officer"], "admin": ["admin"]}[role])
+
+    def open_window(self, role: str) -> None:
+        """A window with somebody who signs in."""
+        if self.windows:
+            self.browser.driver.switch_to.new_window("tab")
+        # (a dialog of printing would hold the window)
+        self.browser.devtools("Page.addScriptToEvaluateOnNewDocument", source="window.print = () => {};")
+        holder = self.holder_for(role)
+        self.here = Window(self.browser.driver.current_window_handle, holder, role)
+        self.windows.append(self.here)
+        self.sign_in()
+
+    def sign_in(self) -> None:
+        """Signs this window in."""
+        language = "es" if self.choice.random() < 0.2 else "en"
+        self.browser.driver.get(f"{self.town.origin}/icon.svg")
+        self.browser.script("localStorage.setItem('desk.language', arguments[0])", language)
+        self.browser.sign_in(self.town.keys[self.here.holder], self.here.role, language=language)
+        if self.here.role == "rider" and self.choice.random() < 0.9:
+            self.browser.script("sessionStorage.setItem('desk.subject.rider', arguments[0])", self.here.holder.split()[1])
+            self.browser.reload()
+        self.here.task, self.here.denied = None, set()
+        self.page.still()
+        self.look = self.page.look()
+        self.note_parts()
+
+    def note_parts(self) -> None:
+        """The names of the parts of this screen."""
+        self.parts = set(self.browser.script("return [...document.querySelectorAll('#parts a')].map((it) => it.textContent.replace(/\\s+/g, ' ').trim())"))
+
+    def go_to(self, window: Window) -> None:
+        """Another window comes to the front."""
+        self.browser.driver.switch_to.window(window.handle)
+        with contextlib.suppress(WebDriverException):
+            self.browser.devtools("Page.bringToFront")
+        self.here = window
+        self.page.still()
+        self.look = self.page.look()
+        self.note_parts()
+
+    # What is done next.
+
+    def is_shunned(self, control: Control) -> bool:
+        """What a curious person leaves alone, so that the walk goes on: signing out, downloads, printing, other screens."""
+        name = control.name.lower()
+        return any(it in name for it in ("sign out", "salir", "skip to", "saltar", "print", "imprim", "csv", "save", "guardar", "tel:")) \
+            or (control.kind == "link" and control.name not in self.parts) or (self.here.role == "admin" and control.submits)
+
+    def tasks(self) -> list[tuple[float, Callable[["Walker"], Task]]]:
+        """What somebody of this role does, with weights."""
+        from walk_parts import roles
+        return roles.TASKS[self.here.role]
+
+    def next_act(self) -> Act:
+        """One act: an answer where something is asked, else what somebody has in mind, or something unexpected."""
+        if self.look.dialog:
+            return self.answer_dialog(0.75)
+        if not self.look.signed_in:
+            return Act("signs in", self.sign_in)
+        if self.number % 13 == 0 and (event := self.world()):
+            return event
+        if self.choice.random() < 0.06:
+            for act in acts.anything(self):
+                return act
+        for _ in range(12):
+            if self.here.task is None:
+                weights = self.tasks()
+                made = self.choice.choices([it for _, it in weights], [weight for weight, _ in weights])[0]
+                self.here.task = made(self)
+            found: Act | None = next(self.here.task, None)
+            if found:
+                return found
+            self.here.task = None
+        return acts.keys(self, "/")
+
+    def answer_dialog(self, yes: float) -> Act:
+        """Answers a question: mostly with what goes on."""
+        buttons = [it for it in self.look.of("button") if not it.off]
+        stays = [it for it in buttons if any(self.words.is_text(it.name, key) for key in NO_ANSWERS)]
+        goes = [it for it in buttons if it not in stays] or buttons
+        if not buttons:
+            return acts.keys(self, "\ue00c")
+        if self.choice.random() < yes or not stays:
+            return acts.press(self, self.choice.choice(goes))
+        if self.choice.random() < 0.3:
+            key = self.town.keys[self.here.holder]
+
+            def escape() -> None:
+                self.ledger.revoke_armed(key)
+                self.page.keys("\ue00c")
+            return Act("Escape", escape, True)
+        return acts.press(self, stays[0])
+
+    # Permits.
+
+    def before_press(self, control: Control) -> None:
+        """What is confirmed by this press."""
+        key, name, step = self.town.keys[self.here.holder], control.name, self.number
+        words = self.words
+        if self.look.dialog:
+            if any(words.is_text(name, it) for it in NO_ANSWERS):
+                self.ledger.revoke_armed(key)
+                return
+            if found := self.number_in(name, "booking.cancel-yes"):
+                self.ledger.give(Permit("cancel", key, step, trip=found))
+            elif words.is_text(name, "booking.same-yes") or words.is_text(name, "booking.all-the-same") or words.is_text(name, "booking.change-yes"):
+                pass
+            else:
+                self.ledger.give(Permit("form", key, step, path=r"/riders/\d+/entries|/riders|/trips/\d+/outcome|/vehicles|/callers|/trips/\d+/(change|cancel)"))
+            return
+        if control.submits and words.is_text(name, "booking.book"):
+            self.confirm(self.booking(key))
+        elif control.submits and (found := self.number_in(name, "booking.change-of")):
+            self.confirm(Permit("change", key, step, rider=self.look.subject, trip=found, armed=True))
+        elif found := self.number_in(name, "booking.offer-no"):
+            self.ledger.give(Permit("cancel", key, step, trip=found))
+        elif found := self.number_in(name, "booking.offer-back"):
+            self.ledger.give(Permit("change", key, step, trip=found))
+        elif any(words.is_text(name, it) for it in ("booking.try-either", "booking.try-earlier", "booking.try-later")):
+            for permit in [it for it in self.ledger.permits if it.key == key and it.what in ("book", "change")][-3:]:
+                permit.armed = False
+        elif control.submits or self.here.role == "driver":
+            self.ledger.give(Permit("form", key, step, path=r"/riders/\d+/entries|/riders|/trips/\d+/outcome|/vehicles|/callers|/policy|/places|/routes"))
+
+    def confirm(self, permit: Permit) -> None:
+        """A form of a trip is sent: what comes of it is held against the replies from here on."""
+        self.ledger.give(permit)
+        self.confirmed = (permit, self.town.recorder.count(), self.here.handle)
+
+    def number_in(self, text: str, key: str) -> int | None:
+        """The trip's number in the text of a key."""
+        return int(re.findall(r"\d+", text)[0]) if self.words.is_text(text, key) and re.search(r"\d", text) else None
+
+    def booking(self, key: str) -> Permit:
+        """What the form of a trip asks for, as it stands there."""
+        form = [it for it in self.look.controls]
+        start, end = (self.place_meant(acts.field(self, it, ("combo",))) for it in ("booking.from", "booking.to"))
+        day = acts.field(self, "booking.day", ("list",))
+        days = {day.value} if day and day.value else set()
+        shorts = {speech.day_short(it): it for it in self.bookable()}
+        if self.look.language == "en":
+            days |= {shorts[it.name] for it in form if it.kind == "checkbox" and it.checked and it.name in shorts}
+        else:
+            days |= set(self.bookable()) if any(it.kind == "checkbox" and it.checked for it in form) else set()
+        back = acts.field(self, "booking.back", ("text",)) or acts.field(self, "booking.back-by", ("text",))
+        legs: dict[tuple[str, int, int], int | None] = {}
+        for it in sorted(days):
+            for one in start:
+                for other in end:
+                    legs[(it, one, other)] = None
+                    if back and back.value.strip():
+                        legs[(it, other, one)] = None
+        return Permit("book", key, self.number, rider=self.look.subject, legs=legs, armed=True)
+
+    def bookable(self) -> list[str]:
+        """The days for which trips are taken today."""
+        import datetime
+        today = datetime.date.fromisoformat(self.town.today)
+        return [(today + datetime.timedelta(days=it)).isoformat() for it in range(1, 15)]
+
+    def place_meant(self, control: Control | None) -> list[int]:
+        """The places that a field may mean: by the whole name, the number, or a part of the name."""
+        text = (control.value if control else "").strip().lower()
+        same = [number for number, name in self.places.items() if text and (name.lower() == text or text == str(number) or text.endswith(f" {number}"))]
+        part = [number for number, name in self.places.items() if text and all(it in name.lower() for it in text.split())]
+        return same or part or ([int(text)] if text.isdigit() else list(self.places))
+
+    # What happens around the windows.
+
+    def world(self) -> Act | None:
+        """Something that nobody at this window does."""
+        way = self.choice.choice(["reload", "back", "offline", "breaks", "breaks", "clock", "outside", "outside", "window", "window", "new window", "midnight"])
+        if way == "reload":
+            return Act("reloads", self.browser.reload)
+        if way == "back":
+            return Act("goes back", self.back)
+        if way == "offline":
+            return Act("the line is cut for some steps", self.cut)
+        if way == "breaks":
+            how = self.choice.choice(BREAKS)
+            return Act(f"the next write meets: {how}", lambda: self.breaks_next(how))
+        if way in ("clock", "midnight"):
+            return Act("time passes" if way == "clock" else "midnight passes", lambda: self.time_passes(way == "midnight"))
+        if way == "outside":
+            return Act("another device writes", self.outside)
+        if way == "window" and len(self.windows) > 1:
+            other = self.choice.choice([it for it in self.windows if it is not self.here])
+            return Act(f"goes to the window of {other.holder}", lambda: self.go_to(other))
+        if way == "new window" and len(self.windows) < 3:
+            role = self.choice.choice(self.roles)
+            return Act(f"opens a window as {role}", lambda: self.open_window(role))
+        return None
+
+    def breaks_next(self, how: str) -> None:
+        """The next write goes wrong on its way."""
+        self.town.recorder.breaks(how)
+
+    def back(self) -> None:
+        """The browser's Back, but not to what was there before the pages."""
+        history = self.browser.devtools("Page.getNavigationHistory")
+        at = history["currentIndex"]
+        if at and "#" in history["entries"][at - 1]["url"]:
+            self.browser.script("history.back()")
+
+    def cut(self) -> None:
+        """The line of this window is gone for three steps."""
+        self.browser.line(offline=True)
+        self.offline = 3
+
+    def time_passes(self, midnight: bool) -> None:
+        """The town's clock goes on: by some hours, or beyond midnight."""
+        import datetime
+        self.minute = getattr(self, "minute", 720)
+        self.grace = time.monotonic() + NEW_DAY
+        if midnight or self.minute > 1200:
+            day = (datetime.date.fromisoformat(self.town.today) + datetime.timedelta(days=1)).isoformat()
+            self.minute = 5
+            self.town.set_clock(day, "00:05")
+        else:
+            self.minute += self.choice.choice([10, 60, 200])
+            self.town.set_clock(self.town.today, f"{self.minute // 60:02}:{self.minute % 60:02}")
+
+    def outside(self) -> None:
+        """Another device cancels or books a trip of the rider who is shown, beside the site."""
+        rider = self.look.subject or self.some_rider()[0]
+        stands = [it for it in self.town.trips(rider) if it["status"] == "booked" and it["day"] > self.town.today]
+        self.stale[rider] = time.monotonic() + OUTSIDE
+        if stands and self.choice.random() < 0.5:
+            self.town.ask("third clerk", f"/trips/{self.choice.choice(stands)['trip']}/cancel", {})
+        else:
+            self.town.book_one(rider, self.choice.choice(self.bookable()), self.choice)
+
+    # The loop.
+
+    def walk(self, steps: int, until: float, first: bool = False) -> None:
+        """So many steps, or as many as there is time for."""
+        self.open_window(self.roles[0])
+        while self.number < steps and time.monotonic() < until and not (first and self.report.breaches):
+            self.number += 1
+            self.choice = random.Random(f"{self.report.seed} {self.number}")
+            self.one_step()
+        self.at_the_end()
+
+    def one_step(self) -> None:
+        """One act and what has to hold after it."""
+        if self.offline:
+            self.offline -= 1
+            if not self.offline:
+                self.browser.line()
+        try:
+            act = self.next_act()
+        except (WebDriverException, Trouble) as error:
+            self.report.did(self.number, f"(could not go on: {str(error)[:100]})")
+            self.here.task = None
+            self.look = self.page.look()
+            return
+        self.report.did(self.number, f"[{self.here.holder}] {act.words}")
+        loaded, self.before = self.look.loaded, self.look
+        try:
+            act.do()
+        except Trouble as error:
+            self.report.breaks("the page can be used", str(error), self.here.role)
+            self.recover()
+            return
+        except WebDriverException as error:
+            self.report.did(self.number, f"(not done: {str(error).splitlines()[0][:100]})")
+            self.here.task = None
+        try:
+            self.settle()
+            self.hold(act, loaded)
+        except WebDriverException as error:
+            self.report.did(self.number, f"(not looked at: {str(error).splitlines()[0][:100]})")
+            self.recover()
+
+    def recover(self) -> None:
+        """After what cannot be gone on with: signed in once more."""
+        with contextlib.suppress(Exception):
+            self.browser.line()
+            self.offline = 0
+            self.sign_in()
+
+    def settle(self) -> None:
+        """Waits until the page is still and nothing is under way, as long as a person would."""
+        self.page.still()
+        end = time.monotonic() + (1.0 if self.offline else PATIENCE)
+        while time.monotonic() < end:
+            self.look = self.page.look()
+            if not self.look.busy and not self.town.recorder.open:
+                return
+            time.sleep(0.05)
+            self.page.still()
+
+    # What has to hold.
+
+    def hold(self, act: Act, loaded: float) -> None:
+        """Takes in what was written, and holds the page against the desk until it agrees or the patience is over."""
+        self.take_writes()
+        if self.look.loaded != loaded:
+            self.here.denied = set()
+            self.note_parts()
+        began = time.monotonic()
+        while True:
+            faults = list(self.faults(act, loaded))
+            if not faults:
+                break
+            if all(self.report.is_known(rule, text) for rule, text, _ in faults):
+                break
+            now = time.monotonic()
+            patience = max([began + PATIENCE, *(it for _, _, it in faults)])
+            if now > patience:
+                for rule, text, _ in faults:
+                    self.report.breaks(rule, text, self.here.role)
+                break
+            time.sleep(0.3)
+            self.take_writes()
+            self.look = self.page.look()
+        self.legs(loaded)
+        self.errors()
+
+    def legs(self, loaded: float) -> None:
+        """What came of a form that was sent, once it has come to its end."""
+        if not self.confirmed or self.look.dialog:
+            return
+        permit, at, handle = self.confirmed
+        if handle != self.here.handle or self.look.loaded != loaded or self.offline or not permit.rider or self.look.subject != permit.rider:
+            self.confirmed = None
+            return
+        end = time.monotonic() + PATIENCE
+        while True:
+            self.take_writes()
+            found = [it for it in self.browser.script(shown.LEGS) if it["inner"] == (permit.what == "change")]
+            exchanges = [it for it in self.town.recorder.since(at) if it.key == permit.key]
+            told = bool(found) or bool(self.browser.script(shown.FAULTS))
+            self.look = self.page.look()
+            if self.look.dialog or self.look.sign or time.monotonic() > end:
+                break
+            if told and not any(it["waiting"] for it in found) and not self.look.busy:
+                break
+            time.sleep(0.1)
+        if self.look.dialog or self.look.busy or self.look.sign:
+            return
+        self.confirmed = None
+        trips = {it["trip"]: it for it in self.town.trips(permit.rider)}
+        halves = self.halves()
+        checks = [*asked.tickets(found, trips, halves), *asked.denials(found, exchanges, self.words)]
+        if permit.armed and permit in self.ledger.permits:
+            checks += [it for it in [asked.never_asked(permit, exchanges, told)] if it]
+        if permit.what == "change":
+            checks += asked.not_changed(found, permit, self.words)
+        for leg in found:
+            checks += [it for it in self.leg(leg, permit, trips) if it]
+        for rule, text in checks:
+            self.report.breaks(rule, text, self.here.role)
+        if not checks:
+            self.report.holds(asked.DONE, len(found) or 1)
+
+    def leg(self, leg: dict[str, Any], permit: Permit, trips: dict[int, dict[str, Any]]) -> list[asked.Fault | None]:
+        """One leg: as it was said, or denied as the desk itself denies it; and what has to be counted of it."""
+        said = asked.said_in(leg["text"], self.words, self.look.language)
+        number = re.search(r"\d+", leg["heading"])
+        if leg["ticket"] and number:
+            self.expect(f"/tally/bookings trip={number[0]}")
+            trip = trips.get(int(number[0]))
+            return [asked.kept_as_said(leg, said, trip)] if said and trip else []
+        names = asked.names_of(leg["denial"], self.words) if leg["denial"] else []
+        if not names or leg["offer"] or not said or not (names[0] == "no vehicle" or names[0][0].isdigit()):
+            return []
+        ends, rule = self.leg_meant(leg, permit), names[0].split(" ")[0]
+        if not ends:
+            self.expect(f"/tally/denials minute={said.minute} rule={rule}")
+            return []
+        day, start, end = ends
+        self.expect(f"/tally/denials day={day} minute={said.minute} rule={rule}")
+        if names[0] not in ("no vehicle", "37.131(e)") or permit.what != "book" or not permit.rider:
+            return []
+        fields = {"rider": permit.rider, "day": day, "from": start, "to": end, "attendant": False, "companions": 0}
+        return [asked.denied_wrongly(leg, said, fields, self.probe)]
+
+    def leg_meant(self, leg: dict[str, Any], permit: Permit) -> tuple[str, int, int] | None:
+        """The day and the ends of a leg that was not booked; None where they are not sure."""
+        if self.look.language == "es" and len({day for day, _, _ in permit.legs}) > 1:
+            return None
+        for day, start, end in permit.legs:
+            ways = leg["text"].find(self.places.get(start, "?")), leg["text"].find(self.places.get(end, "?"))
+            if min(ways) >= 0 and (ways[0] < ways[1] or start == end) and (self.look.language == "es" or speech.day_short(day) in leg["text"]):
+                return day, start, end
+        return None
+
+    def probe(self, fields: dict[str, Any]) -> dict[str, Any]:
+        """Asks the desk beside the pages, and gives up what it books."""
+        reply: dict[str, Any] = self.town.ask("third clerk", "/trips", fields)
+        if "trip" in reply:
+            self.town.ask("third clerk", f"/trips/{reply['trip']}/cancel", {})
+            self.stale[fields["rider"]] = time.monotonic() + OUTSIDE
+        return reply
+
+    def halves(self) -> tuple[str, str]:
+        """How the halves of the day are written."""
+        texts = self.words.texts[self.look.language]
+        return texts.get("common.am", "AM"), texts.get("common.pm", "PM")
+
+    def faults(self, act: Act, loaded: float) -> list[tuple[str, str, float]]:
+        """What does not hold at this moment: the rule, the words, and the moment before which it does not count."""
+        look = self.look
+        found: list[tuple[str, str, float]] = []
+
+        def held(rule: str, texts: list[str]) -> None:
+            found.extend((rule, text, 0.0) for text in texts)
+            if not texts:
+                self.report.holds(rule)
+        held("words", list(invariants.broken_words(look, self.words)))
+        held("language", list(invariants.other_language(look, self.foreign)))
+        held("a sentence about the desk comes from a reply", list(invariants.denials_without_reply(look, self.here.denied, self.words)))
+        if act.by_key and look.loaded == loaded and look.signed_in and self.keeps_focus(act):
+            held("focus", [] if look.focus else [f"the focus is nowhere after {act.words}"])
+        if not self.offline and look.signed_in:
+            found.extend(self.faults_of_lists())
+        return found
+
+    def keeps_focus(self, act: Act) -> bool:
+        """Whether the focus was somewhere, and the keys do not lead beyond the ends of the page."""
+        at, last = self.before.at, len(self.before.controls) - 1
+        if "TAB" in act.words:
+            return 0 < at < last and self.before.dialog == self.look.dialog
+        return bool(self.before.focus)
+
+    def faults_of_lists(self) -> list[tuple[str, str, float]]:
+        """Lists and cards that differ from the desk's present answer."""
+        found: list[tuple[str, str, float]] = []
+        halves = self.halves()
+        for card in self.browser.script(shown.TRIPS):
+            if card["empty"] and "…" in card["text"]:
+                found.append(("what is shown has an age", f"the list of rider {card['rider']} is not read: {card['text'][:100]}", self.grace))
+                continue
+            fault = shown.fault_of_trips(card, self.town.trips(card["rider"]), self.names, halves)
+            if fault:
+                found.append(("what is shown has an age", fault, max(self.grace, self.stale.get(card["rider"], 0.0))))
+            else:
+                self.report.holds("what is shown has an age")
+        found.extend(self.faults_of_days(halves))
+        card = self.browser.script(shown.CARD) if self.here.role == "clerk" and self.look.address.startswith("#clerk") else None
+        if card and self.look.subject:
+            standing = self.town.ask("third clerk", f"/riders/{self.look.subject}/standing/{self.town.today}")
+            fault = shown.fault_of_card(card, standing, self.words, self.look.language)
+            if fault:
+                found.append(("what is shown has an age", fault, self.grace))
+            else:
+                self.report.holds("what is shown has an age")
+        return found
+
+    def faults_of_days(self, halves: tuple[str, str]) -> list[tuple[str, str, float]]:
+        """The trips of a day at the dispatcher's, and the stops at a driver's."""
+        rule, fault = "what is shown has an age", None
+        if self.here.role == "dispatcher" and (given := self.browser.script(shown.DAY_TRIPS)):
+            if not re.fullmatch(r"\d{4}-\d\d-\d\d", given["day"]):
+                return []
+            csv = self.town.ask("dispatcher", f"/days/{given['day']}/trips.csv")
+            fault = shown.fault_of_day(given, csv, self.words, self.look.language, halves) if isinstance(csv, str) else None
+        elif self.here.role == "driver" and (given := self.browser.script(shown.STOPS)):
+            if self.look.language == "en" and given["day"] != speech.day_long(self.town.today):
+                return []
+            text = self.town.ask("driver 1", f"/vehicles/1/manifest/{self.town.today}")
+            fault = shown.fault_of_stops(given, text, halves) if isinstance(text, str) and self.look.language == "en" else None
+        else:
+            return []
+        if fault:
+            return [(rule, fault, max([self.grace, *self.stale.values()]))]
+        self.report.holds(rule)
+        return []
+
+    def take_writes(self) -> None:
+        """Each write that the desk did was confirmed, and each denial is remembered with its key."""
+        for it in self.town.recorder.since(self.recorded):
+            self.recorded += 1
+            for window in self.windows:
+                if self.town.keys[window.holder] == it.key and it.denied:
+                    window.denied.add(it.denied)
+            if it.is_write and it.denied and f"denials.{it.denied}" not in self.words.texts["en"]:
+                self.report.breaks("no denial without words", f"{it.path} is denied {it.denied}", self.here.role)
+            if not it.is_done:
+                continue
+            fault = self.ledger.take(Write(it.path, it.key, it.number, it.fields, it.reply))
+            if fault:
+                self.report.breaks("nothing is done that was not confirmed", fault, self.here.role)
+            else:
+                self.report.holds("nothing is done that was not confirmed")
+            if it.path.endswith("/cancel"):
+                self.expect(f"/tally/cancellations trip={it.path.split('/')[2]}")
+
+    def expect(self, what: str) -> None:
+        """An event that the site's log has to have at the end."""
+        self.expected.setdefault(what, (f"step {self.number}", time.monotonic()))
+
+    def errors(self) -> None:
+        """Errors of the console that nobody caught."""
+        with contextlib.suppress(WebDriverException):
+            for line in self.browser.driver.get_log("browser"):
+                if line["level"] == "SEVERE" and line["source"] not in ("network", "recommendation") \
+                        and not any(re.search(it, line["message"]) for it in IGNORED):
+                    self.report.breaks("no error in the console", line["message"][:400], self.here.role)
+
+    def at_the_end(self) -> None:
+        """What was counted is in the site's log, and nothing waits."""
+        self.browser.line()
+        self.offline = 0
+        self.town.recorder.planned.clear()
+        for window in self.windows:
+            self.leaves_form(window)
+        end = time.monotonic() + 4 * PATIENCE
+        while True:
+            lines = self.town.tally_lines()
+            missing = [what for what in self.expected if not any(all(part in line for part in what.split(" ")) for line in lines)]
+            if not missing or time.monotonic() > end:
+                break
+            time.sleep(0.5)
+        for what in missing:
+            self.report.breaks("what is counted is counted", f"{what} ({self.expected[what][0]}) is not in the site's log", "any")
+        self.report.holds("what is counted is counted", len(self.expected) - len(missing))
+        self.nothing_waits()
+
+    def leaves_form(self, window: Window) -> None:
+        """Whoever sits at a window leaves what stands there in one of the ways in which people do: then nothing is held back any more."""
+        with contextlib.suppress(WebDriverException, Trouble):
+            self.go_to(window)
+            self.browser.line()
+            if self.look.dialog:
+                self.page.keys("\ue00c")
+                self.settle()
+            others = [it for it in self.look.of("link") if it.name in self.parts]
+            way = self.choice.choice(["part", "reload", "sign in"])
+            self.report.did(self.number, f"[{window.holder}] at the end: {way}")
+            if not self.look.signed_in or way == "sign in":
+                self.sign_in()
+            elif way == "part" and others:
+                for it in (others[0], others[-1]):
+                    self.page.press(it, False)
+                    self.settle()
+            else:
+                self.browser.reload()
+
+    def nothing_waits(self) -> None:
+        """No event waits in this browser that one of its windows could send, and the site refused none."""
+        import hashlib
+
+        from counted import QUEUE
+        digests = {hashlib.sha256(self.town.keys[it.holder].encode()).hexdigest() for it in self.windows}
+        end = time.monotonic() + 4 * PATIENCE
+        while True:
+            waits = [it for it in self.browser.driver.execute_async_script(QUEUE) if it.get("digest") in digests]
+            if not waits or time.monotonic() > end:
+                break
+            time.sleep(0.5)
+        path = f"{self.town.folder}/access.log"
+        with open(path if os.path.exists(path) else os.devnull, encoding="utf-8", errors="replace") as log:
+            refused = re.findall(r'"POST (/tally/\S+) [^"]*" (4\d\d)', log.read())
+        for text in [*(f"{it['path']} waits, {it['refused']}" for it in waits), *(f"the site refused {path}: {status}" for path, status in refused if status != "429")]:
+            self.report.breaks("what is counted is counted", text, "any")
+        self.report.holds("what is counted is counted")
+
+
+Any
