@@ -214,6 +214,23 @@ def test_the_last_days_gone_is_another_status(office: Office, tmp_path: Path) ->
     elsewhere.mkdir()
 
 
+def test_verify_says_whether_a_copy_elsewhere_was_compared(office: Office, tmp_path: Path) -> None:
+    """A record that root wrote anew holds by itself, so whoever reads `holds` has to know what was compared."""
+    elsewhere = tmp_path / "elsewhere"
+    elsewhere.mkdir()
+    three_days(office)
+    head = signing.head_of(chain.files_in(office.places.record)[-1])
+    signing.sent(office.places.record, str(elsewhere), head)
+    status, said = office.verify()
+    assert status == verifying.HOLDS and "not compared with a copy elsewhere" in said, said
+    assert "--elsewhere FOLDER" in said
+    status, said = office.verify(elsewhere)
+    assert status == verifying.HOLDS and "not compared" not in said, said
+    office.file().unlink()
+    status, said = office.verify(today=TODAY + timedelta(days=3))
+    assert status == verifying.ENDS_EARLY and "not compared" in said, said
+
+
 def test_a_copy_elsewhere_shows_what_was_rewritten_whole(office: Office, tmp_path: Path) -> None:
     """Root makes the whole chain anew: here it holds, and the copy elsewhere names another digest."""
     elsewhere = tmp_path / "elsewhere"
@@ -423,7 +440,7 @@ def test_a_closed_day_whose_signature_is_gone_does_not_hold(office: Office, tmp_
     today = TODAY + timedelta(days=1)
     assert verifying.verify(office.places, public, None, today)[0] == verifying.HOLDS
     said = verifying.verify(office.places, None, None, today)[1]
-    assert said.endswith("no signature was checked, for lack of the public key"), said
+    assert "; no signature was checked, for lack of the public key" in said, said
     (office.places.record / f"{head.file}.head.sig").unlink()
     status, said = verifying.verify(office.places, public, None, today)
     assert status == verifying.BROKEN and said.endswith("is closed and has no signature"), said
