@@ -72,8 +72,14 @@ function addBody(line, r, key) {
     if (kept.length < sent.length) line.bytes = sent.length;
 }
 
-// The path without keys, also behind a sign in percent. The number of a report has a key's shape, and stays.
+// The path without keys, also where it has their signs in percent: then it is written as plain signs.
 function withoutKeys(key, path) {
+    const plain = path.replace(/%([0-9a-f]{2})/gi, (_, sign) => String.fromCharCode(parseInt(sign, 16)));
+    return cleaned(key, plain) === plain ? cleaned(key, path) : cleaned(key, plain);
+}
+
+// The path without keys, also behind a sign in percent. The number of a report has a key's shape, and stays.
+function cleaned(key, path) {
     const shape = () => /([?&]id=|%[0-9a-f]{2}|[^0-9a-z%])[0-9a-hjkmnp-tv-z]{26}(?![0-9a-z])/gi;
     return withoutOwn(key, !mayHaveKey(path) ? path
         : path.replace(shape(), (found, before) => before.slice(-3) === 'id=' ? found : `${before}(key)`));

@@ -214,6 +214,18 @@ def test_the_last_days_gone_is_another_status(office: Office, tmp_path: Path) ->
     elsewhere.mkdir()
 
 
+def test_a_line_behind_half_a_line_is_read(office: Office) -> None:
+    """The power fell in the middle of a line, and nginx went on behind it. Zeros may stand there too."""
+    for half in (b'{"at":"2026-11-30T05:00:00.000Z","who":"00c0', b"\0" * 40, b'{"at":"'):
+        before = len(office.requests())
+        office.places.requests.write_bytes(half + line(7) + b"\n" + line(8) + b"\n" + half)
+        assert len(office.requests()) == before + 2
+        assert taking.take(office.places, Path("/none"), lambda file: None) == 4
+        assert len(office.requests()) == before + 2
+        status, said = office.verify()
+        assert status == verifying.HOLDS and "lines could not be read" in said, said
+
+
 def test_verify_says_whether_a_copy_elsewhere_was_compared(office: Office, tmp_path: Path) -> None:
     """A record that root wrote anew holds by itself, so whoever reads `holds` has to know what was compared."""
     elsewhere = tmp_path / "elsewhere"
