@@ -1,6 +1,7 @@
 """The replay of writes that were under way at once, and of those near the edge of a minute, over a desk that is played."""
 
 import dataclasses
+import json
 from datetime import datetime, timedelta, timezone
 from pathlib import Path
 from typing import Any
@@ -11,6 +12,7 @@ from hypothesis import strategies as some
 
 from desk_tools.journal import lines, replaying
 from desk_tools.journal.lines import Line
+from desk_tools.journal.places import Places
 
 NOON = datetime(2026, 11, 29, 12, tzinfo=timezone.utc)
 
@@ -67,6 +69,25 @@ class Played(replaying.Replay):
     def compared(self, before: Path, now: Path) -> tuple[int, int]:
         other = sum(one != two for one, two in zip(self.copies[now.name], self.wanted))
         return len(self.wanted) - other, other
+
+
+def test_lines_of_two_sites_come_by_their_moments(tmp_path: Path) -> None:
+    """Each site's lines stay in their own order, and those of another machine name its record."""
+    sites = []
+    for name, moments in (("one", (0, 30, 20, 90)), ("two", (40, 50))):
+        folder = tmp_path / name
+        folder.mkdir()
+        found = [write(name, at=NOON + timedelta(seconds=it), number=it + 1) for it in moments]
+        told = [
+            {"at": lines.told(it.at), "method": "POST", "path": it.path, "status": 200, "took": 1}
+            for it in found
+        ]
+        (folder / "requests").write_text("".join(json.dumps(it) + "\n" for it in told))
+        sites.append(Places(folder, name, timezone.utc))
+    got = [(it.at - NOON, it.site) for it in replaying.lines_of_all(sites, None)]
+    second = str(tmp_path / "two")
+    wanted = [(0, ""), (30, ""), (20, ""), (40, second), (50, second), (90, "")]
+    assert got == [(timedelta(seconds=seconds), site) for seconds, site in wanted]
 
 
 @given(order=some.permutations(range(6)))

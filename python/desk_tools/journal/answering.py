@@ -55,6 +55,7 @@ def answered(path: str, ask: Ask) -> questions.Answer | None:
         or language not in LANGUAGES
         or not number.isascii()
         or not number.isdecimal()
+        or len(number) > len(str(HIGHEST))
         or not 0 < int(number) <= HIGHEST
     ):
         return None

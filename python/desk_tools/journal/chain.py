@@ -17,6 +17,8 @@ from pathlib import Path
 from typing import Any
 
 FIRST = "0" * 64
+# How nginx begins each line, and how this tool begins that of driving times.
+BEGINNINGS = b'{"at":"', b'{"at": "'
 NAME = re.compile(r"(\d{6})-(\d{4}-\d\d-\d\d)\.jsonl(\.gz)?")
 ENTRY = re.compile(rb'\{"n":(\d{1,12}),"chain":"([0-9a-f]{64})","line":(.*)\}', re.DOTALL)
 
@@ -110,13 +112,35 @@ def entries_of(file: File) -> Iterator[Entry]:
             yield entry
 
 
-def safe(line: bytes) -> bytes:
-    """The line as an entry holds it: itself where it is one JSON object, else its bytes in base64."""
+def object_in(line: bytes) -> dict[str, Any] | None:
+    """The JSON object that the bytes are, or None."""
     try:
         found = json.loads(line)
     except (ValueError, RecursionError):
-        found = None
-    if isinstance(found, dict) and "note" not in found and not {*b"\r\n"} & {*line}:
+        return None
+    return found if isinstance(found, dict) else None
+
+
+def lines_of(part: Path) -> Iterator[tuple[bytes, bool]]:
+    """The lines that nginx wrote into a file without their ends, and whether each has one.
+
+    Where the power fell in the middle of a line, nginx goes on behind that half: the half is a line of its own.
+    """
+    with part.open("rb") as file:
+        for raw in file:
+            line, has_end = raw.removesuffix(b"\n"), raw.endswith(b"\n")
+            at = max(line.rfind(it) for it in BEGINNINGS)
+            if at > 0 and object_in(line) is None and object_in(line[at:]) is not None:
+                yield line[:at], True
+                line = line[at:]
+            if line.strip():
+                yield line, has_end
+
+
+def safe(line: bytes) -> bytes:
+    """The line as an entry holds it: itself where it is one JSON object, else its bytes in base64."""
+    found = object_in(line)
+    if found is not None and "note" not in found and not {*b"\r\n"} & {*line}:
         return line
     return json.dumps({"unreadable": base64.b64encode(line).decode()}).encode()
 

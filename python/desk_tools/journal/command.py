@@ -118,10 +118,15 @@ def verify(words: argparse.Namespace) -> int:
 def check(words: argparse.Namespace) -> int:
     """Replays the writes between two copies, and says which rows no line explains."""
     places = places_of(words)
-    known = reading.people_of(places)
+    known, sites = reading.people_of(places), [places]
+    for folder in words.also:
+        if not (folder / "record").is_dir():
+            raise Wrong(f"there is no record in {folder}")
+        sites.append(Places(folder, folder.name, places.zone))
+        known.merge(reading.people_of(sites[-1]))
     people.of_copy(words.before, "", known)
     given = words.before, words.after, words.program, words.zone, words.first
-    found = replaying.check(places, known, *given)
+    found = replaying.check(sites, known, *given)
     for said in found.differing + found.otherwise:
         print(said)
     for said in found.unsure:
@@ -313,6 +318,14 @@ def add_tasks(parsers: "argparse._SubParsersAction[argparse.ArgumentParser]") ->
         type=day,
         metavar="DAY",
         help="read the record from this day on, such as that of BEFORE.db; without it, the whole record",
+    )
+    one.add_argument(
+        "--also",
+        action="append",
+        default=[],
+        type=Path,
+        metavar="FOLDER",
+        help="a copy of the record's folder of another machine that served the agency meanwhile",
     )
     one = parsers.add_parser(
         "callers", help="adds the callers of a copy, whose keys are older than the record"

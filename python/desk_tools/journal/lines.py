@@ -35,6 +35,8 @@ class Line:
     body: bytes | None
     reply: str
     is_whole: bool
+    # The other site whose record has the line; empty for this machine's own.
+    site: str = ""
 
     @property
     def began(self) -> datetime:

@@ -138,6 +138,11 @@ class People:
         """Has these rows from now on."""
         self.rows, self.by_digits, self.found_alike, self.found_borrowed = rows, None, None, None
 
+    def merge(self, other: "People") -> None:
+        """Takes in the rows of another site's record that are not here."""
+        known = {(it.number, it.digits, it.since) for it in self.rows}
+        self.add(*(it for it in other.rows if (it.number, it.digits, it.since) not in known))
+
     def now(self, number: int) -> Person | None:
         """The row of the caller's key now, or the last one."""
         rows = [it for it in self.rows if it.number == number]

@@ -89,10 +89,9 @@ def waiting(path: Path, taken: int) -> Iterator[tuple[int, bytes]]:
     """The whole lines of a file that nginx wrote, behind the first few."""
     if not path.exists():
         return
-    with path.open("rb") as file:
-        for at, line in enumerate(file):
-            if at >= taken and line.endswith(b"\n"):
-                yield 0, line.rstrip(b"\n")
+    for at, (line, has_end) in enumerate(chain.lines_of(path)):
+        if at >= taken and has_end:
+            yield 0, line
 
 
 def people_of(places: Places) -> People:

@@ -6,6 +6,7 @@ since numbers rise; so no clock decides it. The desk serves under a clock that s
 
 import contextlib
 import hashlib
+import heapq
 import http.client
 import json
 import os
@@ -17,8 +18,8 @@ import socket
 import sqlite3
 import subprocess
 import tempfile
-from collections.abc import Iterator
-from dataclasses import dataclass, field
+from collections.abc import Iterator, Sequence
+from dataclasses import dataclass, field, replace
 from datetime import date, datetime, timedelta, timezone
 from pathlib import Path
 from typing import Any
@@ -335,16 +336,23 @@ def free_port() -> int:
             return number
 
 
+def lines_of_all(sites: Sequence[Places], first: date | None) -> Iterator[Line]:
+    """The lines of the records of one site or several without reads, by their moments. Each site's own stay in their order."""
+
+    def of_site(places: Places, name: str) -> Iterator[Line]:
+        reader = reading.Reader(places, first=first)
+        for line in reader.lines(lambda raw: b'"method":"GET"' not in raw):
+            yield replace(line, site=name)
+
+    names = ["", *(str(it.folder) for it in sites[1:])]
+    yield from heapq.merge(*map(of_site, sites, names), key=lambda it: it.at)
+
+
 def writes_since(
-    places: Places,
-    people: People,
-    before: dict[int, int],
-    after: dict[int, int],
-    first: date | None,
+    found: Iterator[Line], people: People, before: dict[int, int], after: dict[int, int]
 ) -> Iterator[Write]:
     """The writes that may have changed the file between two copies, each with its caller."""
-    reader = reading.Reader(places, first=first)
-    for line in reader.lines(lambda raw: b'"method":"GET"' not in raw):
+    for line in found:
         if line.number is None or not line.is_write:
             continue
         if not line.is_done and line.status < lines.UNKNOWN_FROM:
@@ -396,7 +404,7 @@ def difference(ours: dict[str, Any] | None, theirs: dict[str, Any] | None) -> st
 
 
 def check(
-    places: Places,
+    sites: Sequence[Places],
     people: People,
     before: Path,
     after: Path,
@@ -404,7 +412,8 @@ def check(
     zone: str,
     day: date | None = None,
 ) -> Found:
-    """Replays what came between two copies, and compares. The record is read from a day on, or whole."""
+    """Replays what came between two copies, and compares. The records are read from a day on, or whole. The first one is
+    this machine's; others are of sites that served the agency meanwhile."""
     found = Found()
     with tempfile.TemporaryDirectory() as name:
         folder, keys = Path(name), Keys()
@@ -416,7 +425,7 @@ def check(
         keys.put_in(replay.file)
         reached = dict(first)
         try:
-            for group in groups_of(writes_since(places, people, first, last, day)):
+            for group in groups_of(writes_since(lines_of_all(sites, day), people, first, last)):
                 replay_group(replay, group, found, reached)
                 digests.put(group)
         finally:
@@ -551,7 +560,8 @@ def replay_line(
 ) -> None:
     """Makes one write anew, and says where it goes otherwise than its line."""
     whose = " or ".join(map(str, callers))
-    place = f"entry {line.place or '(not chained yet)'}, caller {whose}, number {line.number}, {line.path}"
+    site = f" of {line.site}" if line.site else ""
+    place = f"entry {line.place or '(not chained yet)'}{site}, caller {whose}, number {line.number}, {line.path}"
     if len(callers) > 1:
         found.unsure.append(f"{place}: the keys of callers {whose} begin alike")
     if not line.is_whole:

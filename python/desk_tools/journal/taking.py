@@ -6,7 +6,7 @@ import logging
 import os
 import signal
 import time
-from collections.abc import Callable, Iterator
+from collections.abc import Callable
 from datetime import datetime, timezone
 from pathlib import Path
 
@@ -69,19 +69,14 @@ def rotate(places: Places, last: int, pid_file: Path) -> None:
     reopen(pid_file)
 
 
-def lines_of(part: Path) -> Iterator[bytes]:
-    """The lines of a part without their ends. Half a line at its end is one too: nobody writes to it any more."""
-    with part.open("rb") as file:
-        for line in file:
-            if line.strip():
-                yield line.removesuffix(b"\n")
-
-
 def take_part(writer: chain.Writer, number: int, part: Path) -> int:
-    """Adds the lines of a part that no entry holds yet, and removes it. Returns how many it added."""
+    """Adds the lines of a part that no entry holds yet, and removes it. Returns how many it added.
+
+    Half a line at its end is one too: nobody writes to it any more.
+    """
     if number != writer.part or writer.taken < 0:
         writer.add(chain.noted("taken", part=number, at=now()))
-    found = [chain.safe(it) for it in lines_of(part)][writer.taken :]
+    found = [chain.safe(it) for it, _ in chain.lines_of(part)][writer.taken :]
     writer.add(*found)
     part.unlink()
     return len(found)

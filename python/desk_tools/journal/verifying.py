@@ -8,6 +8,8 @@ from desk_tools.journal import chain, lines, signing
 from desk_tools.journal.places import Places
 
 HOLDS, BROKEN, ENDS_EARLY = 0, 1, 3
+# What is said where nothing was compared: a whole record that root wrote anew holds by itself.
+NOT_COMPARED = "; not compared with a copy elsewhere, which alone shows a record that root wrote anew: --elsewhere FOLDER does that"
 
 
 @dataclass
@@ -188,6 +190,7 @@ def verify(
     unreadable = f"; {seen.unreadable} lines could not be read" if seen.unreadable else ""
     places_torn = ", ".join(map(str, seen.torn))
     torn = f"; half a line was found at entry {places_torn}, and is kept there" if seen.torn else ""
+    notes += "" if elsewhere else NOT_COMPARED
     told = f"{seen.requests} requests in {seen.files} files, up to entry {seen.place}, {seen.day}{unreadable}{torn}{notes}"
     far = max([*seen.marks, 0])
     if far > seen.place:
