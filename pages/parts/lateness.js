@@ -77,12 +77,22 @@ export function lateOf({ vehicle, stops }, taps, doings, now) {
     return { vehicle, last, delay, silent: isSilent ? overdue : 0, risks: [...passed, ...risks] };
 }
 
+/** Each trip on which entries disagree, once.
+ * @param {Disagreement[]} all
+ */
+const onceEach = (all) => all.filter(({ day, trip }, at) => all.findIndex((it) => it.day === day && it.trip === trip) === at);
+
+/** No-shows of which everybody says the same: what somebody disputes stands among the entries that disagree, with the no-show's evidence.
+ * @param {NoShow[]} noShows @param {Disagreement[]} disagreements
+ */
+const undisputed = (noShows, disagreements) => noShows.filter(({ day, trip }) => !disagreements.some((it) => it.day === day && it.trip === trip));
+
 /** What needs a person, the worst first.
  * @param {Late[]} lates @param {Told | null} told @param {Map<number, Doing>} doings @param {Manifest[]} manifests
  */
 export function attentionOf(lates, told, doings, manifests) {
     const open = new Map(manifests.map(({ vehicle, stops }) => [vehicle, stops.filter(({ what, trip }) => what === "PICK" && doings.get(Number(trip))?.state === "no-word").length]));
     return { late: lates.filter(({ delay }) => delay >= LEAST_LATE).sort((a, b) => b.delay - a.delay), risk: lates.flatMap(({ risks }) => risks).sort((a, b) => a.due - b.due),
-        silent: lates.filter(({ silent }) => silent > 0).sort((a, b) => b.silent - a.silent), noShows: told?.noShows ?? [],
-        disagreements: told?.disagreements ?? [], open: [...open].flatMap(([vehicle, count]) => (count ? [{ vehicle, count }] : [])) };
+        silent: lates.filter(({ silent }) => silent > 0).sort((a, b) => b.silent - a.silent), noShows: undisputed(told?.noShows ?? [], told?.disagreements ?? []),
+        disagreements: onceEach(told?.disagreements ?? []), open: [...open].flatMap(([vehicle, count]) => (count ? [{ vehicle, count }] : [])) };
 }

@@ -110,7 +110,7 @@ function readerOf(screen, lock) {
         async refresh() {
             if (isAsking) return;
             isAsking = true;
-            const { vehicle, day, read } = screen.state, told = await readDay(vehicle, day, read?.names ?? NO_NAMES, disputed(screen.state).length > 0);
+            const { vehicle, day, read } = screen.state, told = await readDay(vehicle, day, read?.names ?? NO_NAMES);
             isAsking = false;
             if ("denied" in told && told.denied === "desk.key") return forget();
             if (!("silent" in told)) lock.answered();

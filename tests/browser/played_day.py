@@ -204,6 +204,12 @@ def the_board_is_drawn_and_of_the_whole_day_its_work_is_measured(at):
         at.browser.settled(400)
         STORY.figures["Trips search, thread ms a letter"] = letters(at, "trip-search")
         at.browser.devtools("Performance.disable")
+        print_figures()
+
+
+def print_figures():
+    for figure, value in STORY.figures.items():
+        print(f"{figure}: {value}", flush=True)
 
 
 def letters(at, field):
@@ -694,6 +700,5 @@ def the_file_of_the_day_has_each_tap_once_at_its_moment(at):
     same("taps that count twice", [], [it for it, count in taps.items() if count > 1 and it[0] not in (STORY.disputed.trip,)])
     list_name, trip = STORY.called
     same("the last tick", "called", told["calls"][list_name][str(trip)])
-    for figure, value in STORY.figures.items():
-        print(f"{figure}: {value}")
+    print_figures()
     STORY.second.browser.__exit__()
