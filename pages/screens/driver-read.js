@@ -120,8 +120,8 @@ export async function readDay(vehicle, day, before) {
     const stops = stopsIn(reply.value), [places, riders, { fares, records: exported }, { outcomes, taps }] = await files, records = { ...outcomes, ...exported };
     const names = { places: { ...before.places, ...placesOf(stops, places) }, riders: { ...before.riders, ...riders }, fares: { ...before.fares, ...fares } };
     const read = { text: reply.value, readAt: momentNow(), names, known: knownOf(records, day === today() ? taps : {}) };
-    // (a phone without room for a copy shows what it read all the same)
-    await keepCopy(copyName(vehicle, day), read).catch(() => {});
+    // (a phone without room for a copy shows what it read all the same, and no phone waits for its disk)
+    keepCopy(copyName(vehicle, day), read).catch(() => {});
     return { ...read, stops, records };
 }
 
