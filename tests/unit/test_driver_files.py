@@ -85,7 +85,9 @@ def test_a_driver_reads_the_last_tap_of_each_trip_of_the_day(tmp_path: Path) -> 
     assert json.loads(text)["taps"] == {"7": {"kind": "dropped", "minute": 530}}
 
 
-@pytest.mark.parametrize("content", [None, "[]", "{", '{"day": "2025-03-11", "vehicles": {"x": 1}}'])
+@pytest.mark.parametrize(
+    "content", [None, "[]", "{", '{"day": "2025-03-11", "vehicles": {"x": 1}}']
+)
 def test_a_file_of_the_day_that_is_wrong_is_passed_over(
     tmp_path: Path, content: str | None
 ) -> None:
