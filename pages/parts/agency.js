@@ -120,20 +120,29 @@ export function closedOn(day) {
     return closed ? closed.name ?? "" : null;
 }
 
+/** Each list as it was made last, and of what: a day looks up some thousand names.
+ * @type {Map<Kind, { from: any[], list: any[], byId: Map<number, any> }>}
+ */
+const made = new Map();
+
 /** @param {Kind} kind */
 function listOf(kind) {
+    const from = [served[kind], own, added[kind]], last = made.get(kind);
+    if (last && last.from.every((it, at) => it === from[at])) return last;
     const all = new Map(served[kind]);
     if (kind === "places") own.forEach((record, id) => all.set(id, { ...all.get(id), ...record }));
     recordsIn(kind, added[kind], []).forEach((record, id) => all.set(id, { ...all.get(id), ...record }));
-    return [...all.values()].sort((a, b) => a.id - b.id);
+    const list = [...all.values()].sort((a, b) => a.id - b.id), now = { from, list, byId: new Map(list.map((it) => [it.id, it])) };
+    made.set(kind, now);
+    return now;
 }
 
 /** @returns {Place[]} */
-export const places = () => listOf("places");
+export const places = () => [...listOf("places").list];
 /** @returns {Route[]} */
-export const routes = () => listOf("routes");
+export const routes = () => [...listOf("routes").list];
 /** @returns {Vehicle[]} */
-export const vehicles = () => listOf("vehicles");
+export const vehicles = () => [...listOf("vehicles").list];
 
 /** One line for each thing that is wrong in the files, each once. */
 export const troubles = () => [...new Set([...wrong.values()].flat().map(([key, values]) => t(key, values)))];
@@ -292,7 +301,7 @@ export function isAhead() {
 // Names.
 
 /** @param {number} id */
-export const placeOf = (id) => own.get(id) ?? places().find((place) => place.id === id) ?? null;
+export const placeOf = (id) => own.get(id) ?? listOf("places").byId.get(id) ?? null;
 /** The agency's own word for a place, as it begins a name. */
 export const placeWord = () => agency().place_word.replace(/^./, (letter) => letter.toUpperCase());
 /** @param {number} id */
@@ -300,9 +309,9 @@ export const placeName = (id) => placeOf(id)?.name || `${placeWord()} ${id}`;
 /** @param {number} id */
 export const placeNote = (id) => placeOf(id)?.note ?? "";
 /** @param {number} id */
-export const vehicleName = (id) => vehicles().find((it) => it.id === id)?.name || t("common.vehicle", { vehicle: id });
+export const vehicleName = (id) => listOf("vehicles").byId.get(id)?.name || t("common.vehicle", { vehicle: id });
 /** @param {number} id */
-export const routeName = (id) => routes().find((it) => it.id === id)?.name || t("common.line", { line: id });
+export const routeName = (id) => listOf("routes").byId.get(id)?.name || t("common.line", { line: id });
 
 /** The places that a rider may be offered, as pairs of a number and a name. A private one is offered to its rider alone.
  * @param {number} [rider] @returns {[number, string][]} */

@@ -6,6 +6,7 @@ import { dropText, forgetTexts, keepObject, keepText, keptObject, keptText } fro
 import { digestOf, newKey, normalKey } from "./key.js";
 import { HIGHEST_NUMBER } from "./limits.js";
 import * as line from "./line.js";
+import { earlyReply } from "./read-ahead.js";
 
 /**
  * @template Value
@@ -140,8 +141,9 @@ function bound(signal) {
     return signals.any([signals.timeout(LONGEST_WAIT), ...(signal ? [signal] : [])]);
 }
 
-/** @param {string} path @param {RequestInit} options @param {AbortSignal} [signal] */
-const asked = (path, options, signal) => fetch(path, { ...options, signal: bound(signal),
+/** A read that was asked for early is taken once.
+ * @param {string} path @param {RequestInit & { headers: Record<string, string> }} options @param {AbortSignal} [signal] */
+const asked = (path, options, signal) => (options.method === "POST" ? null : earlyReply(path, options.headers["Desk-Key"])) ?? fetch(path, { ...options, signal: bound(signal),
     cache: "no-store", credentials: "omit", redirect: "error" });
 
 /** @param {string} method @param {string} path @param {Record<string, string>} headers @param {string} [body] @param {AbortSignal} [signal]

@@ -1,6 +1,7 @@
-// What is asked for before anything else is here, since on a phone's line each answer takes its time: the agency's file, and what the screen takes
-// that will be shown.
+// What is asked for before anything else is here, since on a phone's line each answer takes its time: the agency's file, what the screen takes that
+// will be shown, and what a driver's phone will read.
 
+import { dropAhead, readAhead } from "./read-ahead.js";
 import { SCREENS } from "./screens.js";
 
 const LONGEST_WAIT = 5_000, WORDS = ["common", "signing"], MORE_WORDS = ["denials", "fields"];
@@ -52,5 +53,24 @@ export function askAhead(id) {
 
 const askWords = (/** @type {string[]} */ names) => names.forEach((name) => link("modulepreload", `words/${language}/${name}.js`));
 
+/** The day of a moment by the clocks of a zone.
+ * @param {string | null} moment @param {string | undefined} zone
+ */
+const dayOf = (moment, zone) => new Intl.DateTimeFormat("en-CA", { timeZone: zone, year: "numeric", month: "2-digit", day: "2-digit" }).format(new Date(moment ?? NaN));
+
+/** The manifest of the van that this window has shown last, with its names: the day is known by the agency's file.
+ * @param {string} key @param {string} van
+ */
+async function readManifest(key, van) {
+    for (const name of ["places.json", "roster.csv", "outcomes.json"]) readAhead(`/drivers/${van}/${name}`, key);
+    const reply = await first, day = reply?.ok ? dayOf(reply.headers.get("date"), (await reply.clone().json()).zone) : "";
+    if (day) for (const path of [`/vehicles/${van}/manifest/${day}`, `/days/${day}/trips.csv`]) readAhead(path, key);
+    // (what nobody took by then is old)
+    setTimeout(dropAhead, LONGEST_WAIT);
+}
+
+const key = sessionStorage.getItem("desk.key"), van = sessionStorage.getItem("desk.subject.vehicle") ?? "";
+const screen = key === null && kept("desk.stay") === null ? "signing" : location.hash.slice(1).split("/")[0] || kept("desk.screen") || "";
 askWords(WORDS);
-askAhead(sessionStorage.getItem("desk.key") === null && kept("desk.stay") === null ? "signing" : location.hash.slice(1).split("/")[0] || kept("desk.screen") || "");
+askAhead(screen);
+if (key !== null && screen === "driver" && /^[1-9]\d*$/.test(van)) readManifest(key, van).catch(() => {});

@@ -11,7 +11,7 @@
 /** @typedef {{ day: string, trip: number, vehicle: number, from: number, to: number, arrived: number | null, wait: number, minute: number }} NoShow */
 /** @typedef {{ day: string, trip: number, vehicle: number, record: string, told: string, minute: number }} Disagreement */
 /** @typedef {{ vehicle: number, trip: number, text: string, minute: number }} Note */
-/** @typedef {{ day: string, vehicles: Map<number, Tap[]>, notes: Note[], noShows: NoShow[], disagreements: Disagreement[], late: { vehicle: number, at: string }[] }} Told late are taps of an
+/** @typedef {{ day: string, made: number, vehicles: Map<number, Tap[]>, notes: Note[], noShows: NoShow[], disagreements: Disagreement[], late: { vehicle: number, at: string }[] }} Told late are taps of an
  *   earlier day that came today; noShows and disagreements are those of the
  *   last days at which nobody of dispatch has looked */
 
@@ -28,15 +28,21 @@ const listIn = (/** @type {any} */ it) => (Array.isArray(it) ? it.filter((one) =
 export function toldIn(text, day, now) {
     try {
         const it = JSON.parse(text ?? "");
-        if (it?.day !== day || !(now - Date.parse(it.made) < OLDEST)) return null;
+        const made = Date.parse(it?.made);
+        if (it?.day !== day || !(now - made < OLDEST)) return null;
         const vehicles = Object.entries(it.vehicles ?? {}).map(([id, van]) => /** @type {[number, Tap[]]} */ ([Number(id), listIn(van?.taps).filter((tap) => isNumber(tap.trip)
             && isNumber(tap.minute))]));
-        return { day, vehicles: new Map(vehicles), notes: listIn(it.notes), noShows: listIn(it.unreviewed?.no_shows), disagreements: listIn(it.unreviewed?.disagreements),
+        return { day, made, vehicles: new Map(vehicles), notes: listIn(it.notes), noShows: listIn(it.unreviewed?.no_shows), disagreements: listIn(it.unreviewed?.disagreements),
             late: listIn(it.late).filter((tap) => isNumber(tap.vehicle) && typeof tap.at === "string") };
     } catch {
         return null;
     }
 }
+
+/** Whether what was told is fresh still.
+ * @param {Told} told @param {number} now milliseconds
+ */
+export const isFresh = ({ made }, now) => now - made < OLDEST;
 
 /** The stop at which a tap was made.
  * @param {Stop[]} stops @param {Tap} tap
@@ -77,12 +83,22 @@ export function lateOf({ vehicle, stops }, taps, doings, now) {
     return { vehicle, last, delay, silent: isSilent ? overdue : 0, risks: [...passed, ...risks] };
 }
 
+/** Each trip on which entries disagree, once.
+ * @param {Disagreement[]} all
+ */
+const onceEach = (all) => all.filter(({ day, trip }, at) => all.findIndex((it) => it.day === day && it.trip === trip) === at);
+
+/** No-shows of which everybody says the same: what somebody disputes stands among the entries that disagree, with the no-show's evidence.
+ * @param {NoShow[]} noShows @param {Disagreement[]} disagreements
+ */
+const undisputed = (noShows, disagreements) => noShows.filter(({ day, trip }) => !disagreements.some((it) => it.day === day && it.trip === trip));
+
 /** What needs a person, the worst first.
  * @param {Late[]} lates @param {Told | null} told @param {Map<number, Doing>} doings @param {Manifest[]} manifests
  */
 export function attentionOf(lates, told, doings, manifests) {
     const open = new Map(manifests.map(({ vehicle, stops }) => [vehicle, stops.filter(({ what, trip }) => what === "PICK" && doings.get(Number(trip))?.state === "no-word").length]));
     return { late: lates.filter(({ delay }) => delay >= LEAST_LATE).sort((a, b) => b.delay - a.delay), risk: lates.flatMap(({ risks }) => risks).sort((a, b) => a.due - b.due),
-        silent: lates.filter(({ silent }) => silent > 0).sort((a, b) => b.silent - a.silent), noShows: told?.noShows ?? [],
-        disagreements: told?.disagreements ?? [], open: [...open].flatMap(([vehicle, count]) => (count ? [{ vehicle, count }] : [])) };
+        silent: lates.filter(({ silent }) => silent > 0).sort((a, b) => b.silent - a.silent), noShows: undisputed(told?.noShows ?? [], told?.disagreements ?? []),
+        disagreements: onceEach(told?.disagreements ?? []), open: [...open].flatMap(([vehicle, count]) => (count ? [{ vehicle, count }] : [])) };
 }

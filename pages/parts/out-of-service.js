@@ -287,18 +287,19 @@ export function itemNow(item, trips, taken) {
     return step === "booking" || step === "elsewhere" ? { ...item, step: "cancelled", other: null } : item;
 }
 
-/** A plan by what the desk says now; null where it could not be read.
- * @param {Plan} plan @param {Pick<Ports, "tripsOf">} ports @returns {Promise<Plan | null>}
+/** A plan by what the desk says now. Where the desk does not let it be read, it is as before, and stopped says why.
+ * @param {Plan} plan @param {Pick<Ports, "tripsOf">} ports @returns {Promise<Plan>}
  */
 export async function readAgain(plan, ports) {
     /** @type {Map<number, Trip[]>} */
     const all = new Map();
     for (const rider of new Set(plan.items.map((item) => item.rider))) {
         const reply = await ports.tripsOf(rider);
-        if (reply.denied !== undefined) return null;
+        if (reply.denied !== undefined) return { ...plan, stopped: reply.denied };
         all.set(rider, reply.value.trips);
     }
-    return withoutFollowed(plan.items.reduce((now, item) => withItem(now, item, itemNow(item, all.get(item.rider) ?? [], takenIn(now))), plan));
+    const begun = /** @type {Plan} */ ({ ...plan, stopped: null });
+    return withoutFollowed(plan.items.reduce((now, item) => withItem(now, item, itemNow(item, all.get(item.rider) ?? [], takenIn(now))), begun));
 }
 
 /** A plan without the items whose new trip is in the list itself, as where a clerk booked it in the same vehicle: that trip's own item says what becomes of it.

@@ -214,15 +214,39 @@ function laneOf({ vehicle, stops, text }, hours, across, width, most, doings, ri
     return made;
 }
 
+/** What a row does is what the last drawing of all says: a row that shows the same is not drawn again.
+ * @type {Pick<Options, "chosen" | "labelled">}
+ */
+let acting = { chosen: () => {}, labelled: () => {} };
+
+/** What was last drawn of each vehicle's row, and of what.
+ * @type {Map<number, { from: any[], made: Part }>}
+ */
+const rows = new Map();
+
 /** @param {Manifest} manifest @param {[number, number]} hours @param {Across} across @param {number} width @param {number} most @param {Options} options */
 function row(manifest, hours, across, width, most, options) {
-    const { chosen, selected, now, doings, labelled, lates, duty } = options, { vehicle } = manifest, label = duty?.(vehicle) ?? "", risks = new Set(lates?.get(vehicle)?.risks.map(({ trip }) => trip));
-    const choose = () => chosen(vehicle), isChosen = vehicle === selected;
+    const { selected, now, doings, lates, duty } = options, { vehicle } = manifest, risks = new Set(lates?.get(vehicle)?.risks.map(({ trip }) => trip)), head = headWords(manifest, options);
+    const lane = laneOf(manifest, hours, across, width, most, doings, risks), words = rowWords(manifest, doings);
+    const from = [lane, now !== null && across(now), vehicle === selected, vehicleName(vehicle), duty?.(vehicle) ?? "", words, JSON.stringify(head)], last = rows.get(vehicle);
+    if (last && last.from.every((it, at) => it === from[at])) return last.made;
+    const made = rowPart(manifest, across, width, { now, isChosen: vehicle === selected, label: duty?.(vehicle) ?? "", head, words, lane });
+    rows.set(vehicle, { from, made });
+    return made;
+}
+
+/** @param {Manifest} manifest @param {Across} across @param {number} width
+ * @param {{ now: number | null, isChosen: boolean, label: string, head: import("../types").Given, words: string, lane: Part }} shown
+ */
+function rowPart(manifest, across, width, { now, isChosen, label, head, words, lane }) {
+    const { vehicle } = manifest, choose = () => acting.chosen(vehicle);
+    /** @type {Options["labelled"]} */
+    const labelled = (...told) => acting.labelled(...told);
     return part("div", { class: isChosen ? "lane-row chosen" : "lane-row", key: `row-${vehicle}`, "data-row": vehicle, on: { keydown: fromRowToRow } },
-        button([part("span", { class: "van-name" }, isChosen && part("span", { "aria-hidden": "true" }, "▸ "), vehicleName(vehicle), label && part("span", { class: "duty" }, ` ${label}`)), part("small", {}, headWords(manifest, options))], choose,
+        button([part("span", { class: "van-name" }, isChosen && part("span", { "aria-hidden": "true" }, "▸ "), vehicleName(vehicle), label && part("span", { class: "duty" }, ` ${label}`)), part("small", {}, head)], choose,
             { "data-vehicle": vehicle, "aria-pressed": String(isChosen), id: `vehicle-${vehicle}` }),
-        part("div", { class: "lane", tabindex: 0, role: "img", "aria-label": rowWords(manifest, doings), on: { ...pointing(manifest, across, labelled), click: choose } },
-            part("svg", { width, height: HEIGHT, "aria-hidden": "true" }, laneOf(manifest, hours, across, width, most, doings, risks), nowLine(now, across, HEIGHT))));
+        part("div", { class: "lane", tabindex: 0, role: "img", "aria-label": words, on: { ...pointing(manifest, across, labelled), click: choose } },
+            part("svg", { width, height: HEIGHT, "aria-hidden": "true" }, lane, nowLine(now, across, HEIGHT))));
 }
 
 const SAMPLE = { line: "", at: 12, place: 0, load: 0, people: 0, wheelchairs: 0 };
@@ -242,6 +266,7 @@ export const legend = () => part("details", { class: "signs" }, part("summary", 
  * @param {Manifest[]} manifests @param {Options} options
  */
 export function timeline(manifests, options) {
+    acting = options;
     const hours = hoursOf(manifests), { width, across } = scaleOf(hours, options.room), most = fullest(manifests);
     return [part("div", { class: "hours", key: "hours" }, part("span", { class: "corner" }, t("dispatcher.head-vehicle")), axis(hours, across, width, options.now)),
         manifests.filter(({ stops }) => stops.length).map((manifest) => row(manifest, hours, across, width, most, options))];

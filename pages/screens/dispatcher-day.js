@@ -32,23 +32,13 @@ import { review } from "./dispatcher-review.js";
  *   lates: Map<number, import("../parts/lateness.js").Late>, needs: import("./dispatcher-attention.js").Attention }} Known shown are the rows, in their order */
 
 const NAMES_WIDE = 176, NAMES_NARROW = 104, NARROW = 640, BESIDE = 1_200, ONE_WIDE = 452, PADDING = 62, LEAST_ROOM = 320, TIP_WIDE = 260, TIP_BELOW = 34,
-    MOST_FOUND = 10;
+    MOST_FOUND = 10, IDLE = 20;
 
 /** How wide the picture is between the names and the manifest.
  * @param {State} state @param {boolean} hasOne
  */
 const roomOf = ({ wide }, hasOne) => Math.max(LEAST_ROOM, wide - PADDING - (wide < NARROW ? NAMES_NARROW : NAMES_WIDE) - (hasOne && wide >= BESIDE ? ONE_WIDE : 0));
 
-/** What was read last, by its texts: each is read once.
- * @type {{ text: string, csv: string, manifests: Manifest[], rows: Row[] }}
- */
-let parsed = { text: "", csv: "", manifests: [], rows: [] };
-
-/** @param {string} text @param {string} csv */
-function parsedOf(text, csv) {
-    if (parsed.text !== text || parsed.csv !== csv) parsed = { text, csv, manifests: manifestsIn(text), rows: csv ? rowsIn(csv) : [] };
-    return parsed;
-}
 
 /** Makes something anew only where one of what it is made of is another one.
  * @template Made @param {(...from: any[]) => Made} make @returns {(...from: any[]) => Made}
@@ -62,6 +52,9 @@ function madeOnce(make) {
     };
 }
 
+// (an outcome changes the trips, and no manifest)
+const manifestsOf = /** @type {(text: string) => Manifest[]} */ (madeOnce(manifestsIn)), rowsOf = /** @type {(csv: string) => Row[]} */ (madeOnce((csv) => (csv ? rowsIn(csv) : [])));
+
 /** @param {State} state @returns {Known} */
 const knownOf = ({ day, text, csv, chosen, now, told, onlyNeeds }) => knownFrom(day, text, csv, chosen, now, told, onlyNeeds);
 
@@ -69,7 +62,7 @@ const knownFrom = madeOnce((day, text, csv, chosen, now, told, onlyNeeds) => kno
 
 /** @param {Pick<State, "day" | "text" | "csv" | "chosen" | "now" | "told" | "onlyNeeds">} state @returns {Known} */
 function knownMade({ day, text, csv, chosen, now, told, onlyNeeds }) {
-    const { manifests, rows } = parsedOf(text ?? "", csv), busy = manifests.filter(({ stops }) => stops.length > 0), doings = doingOf(manifests, rows, now);
+    const manifests = manifestsOf(text ?? ""), rows = rowsOf(csv), busy = manifests.filter(({ stops }) => stops.length > 0), doings = doingOf(manifests, rows, now);
     const { lates, needs } = attention(manifests, told, doings, now, day === today()), wanted = vansIn(needs);
     const worst = (/** @type {Manifest} */ { vehicle }) => Math.max(lates.get(vehicle)?.delay ?? 0, lates.get(vehicle)?.silent ?? 0);
     const shown = onlyNeeds ? busy.filter(({ vehicle }) => wanted.has(vehicle)).sort((a, b) => worst(b) - worst(a) || a.vehicle - b.vehicle) : busy;
@@ -79,27 +72,42 @@ function knownMade({ day, text, csv, chosen, now, told, onlyNeeds }) {
 
 // One search over the day's trips.
 
-/** What is searched of each pickup of a day, made once for its manifests.
- * @type {{ manifests: Manifest[], entries: { vehicle: number, stop: import("../parts/texts.js").Stop, text: string }[] }}
+/** @typedef {{ vehicle: number, stop: import("../parts/texts.js").Stop, text: string }} Entry */
+/** What is searched of each pickup of a van, made once for its manifest.
+ * @type {WeakMap<Manifest, Entry[]>}
  */
-let searched = { manifests: [], entries: [] };
+const searched = new WeakMap();
 
-/** @param {Manifest[]} manifests */
-function entriesOf(manifests) {
-    if (searched.manifests === manifests) return searched.entries;
-    const entries = manifests.flatMap(({ vehicle, stops }) => stops.filter(({ what }) => what === "PICK").map((stop) => {
+/** @param {Manifest} manifest @returns {Entry[]} */
+function entriesOf(manifest) {
+    const { vehicle, stops } = manifest, known = searched.get(manifest);
+    if (known) return known;
+    const entries = stops.filter(({ what }) => what === "PICK").map((stop) => {
         const drop = stops.find(({ what, trip }) => what === "DROP" && trip === stop.trip), rider = Number(stop.rider);
         return { vehicle, stop, text: searchText([riderName(rider), rider, riderOf(rider)?.telephone, vehicleName(vehicle), vehicle, stop.trip, placeName(stop.place), drop && placeName(drop.place)], folded) };
-    }));
-    searched = { manifests, entries };
+    });
+    searched.set(manifest, entries);
     return entries;
+}
+
+const whenIdle = (/** @type {() => void} */ act) => ("requestIdleCallback" in window ? window.requestIdleCallback(act) : setTimeout(act, IDLE));
+
+/** Makes what is searched while nothing else is to be done, van by van: the first letter does not wait for it.
+ * @param {Manifest[]} manifests
+ */
+function searchAhead(manifests) {
+    const next = manifests.find((it) => !searched.has(it));
+    if (next) whenIdle(() => {
+        entriesOf(next);
+        searchAhead(manifests);
+    });
 }
 
 /** @param {State} state @param {Known} known @param {(vehicle: number, trip: number) => void} go */
 function foundList({ typed }, { manifests }, go) {
     const wanted = folded(typed.trim());
     if (!wanted) return null;
-    const all = entriesOf(manifests).filter(({ text }) => fits(text, wanted)).sort((a, b) => a.stop.at - b.stop.at), now = minuteNow();
+    const all = manifests.flatMap(entriesOf).filter(({ text }) => fits(text, wanted)).sort((a, b) => a.stop.at - b.stop.at), now = minuteNow();
     const near = vanFirst([...all.filter(({ stop }) => stop.at >= now - 60), ...all.filter(({ stop }) => stop.at < now - 60)], wanted, ({ vehicle }) => folded(vehicleName(vehicle)));
     return part("div", { class: "found", role: "status" }, all.length === 0 ? part("p", {}, t("dispatcher.search-none")) : part("ul", { "aria-label": t("dispatcher.search-list") },
         near.slice(0, MOST_FOUND).map(({ vehicle, stop }) => part("li", { key: stop.trip }, button(t("dispatcher.found-trip", { planned: clock(stop.at), rider: riderLabel(Number(stop.rider)),
@@ -268,6 +276,17 @@ export function dayPicture() {
     const fill = () => screen.element.classList.toggle("dispatch-fill", !screen.state.asTable && !screen.state.asRoom);
     fill();
     let moved = false, leave = () => {};
+    /** @type {any[]} */
+    let drawn = [];
+    /** Whether something is there that was not drawn yet: most replies say what is shown already.
+     * @param {string} day
+     */
+    function isNews(day) {
+        const { text, csv, denied } = dayNow(day), now = [day, text, csv, denied, toldNow(day), dutyRead().reply(), nowOn(day), JSON.stringify(dayRead(day).age())];
+        const news = now.some((it, at) => it !== drawn[at]);
+        drawn = now;
+        return news;
+    }
     /** Follows what is read of the day that is shown. */
     function follow() {
         leave();
@@ -278,7 +297,10 @@ export function dayPicture() {
     /** @param {string} day */
     async function heard(day) {
         if (screen.state.day !== day) return;
-        screen.change({ now: nowOn(day) });
+        if (isNews(day)) {
+            screen.change({ now: nowOn(day) });
+            searchAhead(knownOf(stateOf(screen.state)).manifests);
+        }
         openFirst();
         const unplaced = await readUnplaced();
         if (screen.state.day === day && screen.state.unplaced !== unplaced) screen.change({ unplaced });

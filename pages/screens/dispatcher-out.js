@@ -32,6 +32,8 @@ import { settingsFields } from "./dispatcher-vehicles.js";
  *   shown and running name plans */
 
 const LOOKED = 5_000;
+/** Denials after which another key goes on. */
+const KEYLESS = ["desk.key", "desk.caller"];
 
 /** What this window is doing, over every part of the screen: the work goes on while another part is shown.
  * @type {{ plans: Plan[], shown: string | null, running: string | null, unkept: boolean, tell: () => void }}
@@ -130,18 +132,21 @@ function resultWords(item, { mode }) {
     return other ? `${said} ${tripWords(other)}` : said;
 }
 
+/** Why a plan stands still, and how it goes on: with a key that is nobody's, or no dispatcher's, by another one.
+ * @param {string | null} stopped
+ */
+const stoppedWords = (stopped) => [stopped !== null && part("p", {}, stopped === "desk.booked" ? t("dispatcher.out-meanwhile") : t("dispatcher.out-stopped", { says: inWords(stopped, "vehicle").says })),
+    KEYLESS.includes(stopped ?? "") && part("p", {}, t("dispatcher.out-other-key"))];
+
 /** @param {Plan} plan @param {boolean} running */
 function statusWords(plan, running) {
     const counts = countsOf(plan), { mode, done, stopped, vehicle, from, back, isBack, backDenied } = plan, named = { ...counts, vehicle: vehicleName(vehicle), day: dayInWords(from) };
     if (running) return part("p", {}, t(mode === "move" ? "dispatcher.out-running-move" : "dispatcher.out-running-cancel", counts));
-    if (!done) {
-        return part("div", { class: "note" }, part("p", {}, t("dispatcher.out-broken", counts)), stopped !== null && part("p", {}, stopped === "desk.booked"
-            ? t("dispatcher.out-meanwhile") : t("dispatcher.out-stopped", { says: inWords(stopped, "vehicle").says })));
-    }
+    if (!done) return part("div", { class: "note" }, part("p", {}, t("dispatcher.out-broken", counts)), stoppedWords(stopped));
     const others = ["gone", "elsewhere", "passed"].filter((name) => counts[/** @type {"gone"} */ (name)] > 0);
     return [part("p", { class: counts.nowhere || counts.passed ? "note" : "good" }, t(`dispatcher.out-done-${mode}`, named), others.map((name) => ` ${t(`dispatcher.out-done-${name}`, counts)}`)),
         back !== null && part("p", { class: isBack ? null : "note" }, t(isBack ? "dispatcher.out-back" : "dispatcher.out-not-back", { vehicle: vehicleName(vehicle), day: dayInWords(back),
-            says: backDenied ? inWords(backDenied, "vehicle").says : "" }))];
+            says: backDenied ? inWords(backDenied, "vehicle").says : "" })), stopped !== null && part("div", { class: "note" }, stoppedWords(stopped))];
 }
 
 /** Trips that wait to be booked again.
@@ -206,31 +211,32 @@ async function alone(plan, act) {
     });
 }
 
-/** Goes on by what the desk says now.
+/** Goes on by what the desk says now. What keeps it from being read is said; who left the screen hears nothing.
  * @param {Plan} plan @param {(plan: Plan) => Plan} [made]
  */
 const goOn = (plan, made = (it) => it) => alone(plan, async () => {
     const now = await readAgain(plan);
-    if (!now) return;
+    if (now.stopped === "left") return;
     await keep(now);
-    await carryOut(made(now), keep);
+    if (now.stopped === null) await carryOut(made(now), keep);
 });
 
 /** What was found becomes a plan, once the desk was read again and the call list is on disk.
- * @param {Shown} found @param {Mode} mode @param {() => void} begun
+ * @param {Shown} found @param {Mode} mode @param {{ begun: () => void, denied: (denied: string) => void }} told
  */
-async function begin(found, mode, begun) {
+async function begin(found, mode, { begun, denied }) {
     const { vehicle, from, back, items, depot } = found, values = back === null ? null : await valuesOf(found.settings);
     if (work.running || depot === null || (back !== null && !values) || !await sure(found, mode)) return;
     const settings = /** @type {import("../parts/out-of-service.js").Settings | null} */ (values);
     const plan = { vehicle, from, back, mode, depot, settings, items, isOut: false, isBack: false, backDenied: null, stopped: null, done: false, counted: [] };
     await alone(plan, async () => {
         const now = await readAgain(plan);
-        if (!now) return;
+        if (now.stopped !== null) return denied(now.stopped);
         await keep(now);
         saveCalls(`calls-vehicle-${vehicle}-${from}.csv`, `plan-${keyOf(plan)}`, now.items.map(calledOf), (it) => resultWords(now.items.filter(({ old }) => old.trip === it.trip)[0], now));
         begun();
         await carryOut(now, keep);
+        return undefined;
     });
 }
 
@@ -245,11 +251,12 @@ function actsOf(screen) {
         work.tell();
     };
     return {
-        begin: (/** @type {Shown} */ found, /** @type {Mode} */ mode) => begin(found, mode, () => screen.change({ asked: null }, { focus: "out-report" })).then(shown),
+        begin: (/** @type {Shown} */ found, /** @type {Mode} */ mode) => begin(found, mode, { begun: () => screen.change({ asked: null }, { focus: "out-report" }),
+            denied: (denied) => denied !== "left" && screen.change({ denied: { denied } }, { focus: "out-found" }) }).then(shown),
         goOn: (/** @type {Plan} */ plan) => goOn(plan).then(shown), retry: (/** @type {Plan} */ plan) => goOn(plan, toTryAgain).then(shown),
         look: (/** @type {Plan} */ plan) => alone(plan, async () => {
             const now = await readAgain(plan);
-            if (now) await keep(now);
+            if (now.stopped !== "left") await keep(now);
         }).then(shown),
         away, show: (/** @type {string} */ key) => {
             work.shown = key;
@@ -299,6 +306,10 @@ function shownOf({ asked: it }) {
     return it && found ? { ...found, back: it.back, settings: it.settings } : null;
 }
 
+/** Where nobody has the key any more, no list is shown, and it is said how one goes on. */
+const keyGone = () => (dayNow(today()).denied?.denied === "desk.key" ? part("div", { class: "denial", role: "status" }, part("p", {}, inWords("desk.key", "vehicle").says),
+    part("p", {}, t("dispatcher.out-other-key"))) : null);
+
 export function outOfService() {
     let leave = () => {}, leaveDay = () => {}, mayRead = false;
     // (plans name riders, so they are shown to a key that may read a day)
@@ -315,7 +326,7 @@ export function outOfService() {
             const { denied, reading, plans, running } = state, found = shownOf(state);
             const isBegun = running !== null || plans.some((plan) => found && keyOf(plan) === keyOf(found));
             return [part("section", { class: "card" }, part("h2", {}, t("dispatcher.out-heading")), part("p", { class: "hint" }, t("dispatcher.out-hint")), ask),
-                otherPlans(state, acts), reportCard(state, acts), part("div", { id: "out-found", class: "stack", tabindex: -1 }, reading && part("p", {}, t("dispatcher.reading")),
+                otherPlans(state, acts), reportCard(state, acts), !plans.length && keyGone(), part("div", { id: "out-found", class: "stack", tabindex: -1 }, reading && part("p", {}, t("dispatcher.reading")),
                     denied && denialOf(denied, "manifest"), found && [vehicleRead(found.vehicle, state.asked?.from ?? "").age(), todayCard(found), laterCard(found, (mode) => acts.begin(found, mode), isBegun)])];
         } });
     work.tell = () => {
@@ -328,6 +339,7 @@ export function outOfService() {
         leaveDay = dayRead(today()).watch(screen.element, () => {
             mayRead ||= dayNow(today()).text !== null;
             if (mayRead) leaveDay();
+            else screen.change({});
             take();
         });
     };

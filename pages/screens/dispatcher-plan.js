@@ -199,8 +199,8 @@ function portsOf(vehicle, keep) {
  */
 export const carryOut = (plan, keep) => carriedOut(plan, portsOf(plan.vehicle, keep));
 
-/** A plan by what the desk says now; null where it could not be read.
- * @param {Plan} plan @returns {Promise<Plan | null>}
+/** A plan by what the desk says now; stopped says why it could not be read.
+ * @param {Plan} plan @returns {Promise<Plan>}
  */
 export async function readAgain(plan) {
     // (what was under way when the page was loaded anew comes to its end first)

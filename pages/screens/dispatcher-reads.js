@@ -2,7 +2,7 @@
 
 import { serverNow, today } from "../parts/clock.js";
 import * as desk from "../parts/desk.js";
-import { toldIn } from "../parts/lateness.js";
+import { isFresh, toldIn } from "../parts/lateness.js";
 import { reading } from "../parts/reads.js";
 import { toldRead } from "../parts/told.js";
 import { readVehicle } from "./dispatcher-plan.js";
@@ -29,17 +29,19 @@ export function dayNow(day) {
 /** What drivers told today. */
 export const driversRead = () => toldRead({ period: RENEWED });
 
-/** @type {{ text: string | null, day: string, at: number, told: Told | null }} */
-let last = { text: null, day: "", at: 0, told: null };
+/** What was read last, by its text: it is read once, so that who draws sees that nothing has changed.
+ * @type {{ text: string | null, day: string, told: Told | null }}
+ */
+let last = { text: null, day: "", told: null };
 
 /** What people told of a day; null where the site has no fresh file of it.
  * @param {string} day @returns {Told | null}
  */
 export function toldNow(day) {
-    const text = driversRead().reply()?.value ?? null, now = serverNow(), at = Math.floor(now / RENEWED);
+    const text = driversRead().reply()?.value ?? null, now = serverNow();
     if (day !== today()) return null;
-    if (last.text !== text || last.day !== day || last.at !== at) last = { text, day, at, told: toldIn(text, day, now) };
-    return last.told;
+    if (last.text !== text || last.day !== day) last = { text, day, told: toldIn(text, day, 0) };
+    return last.told && isFresh(last.told, now) ? last.told : null;
 }
 
 /** What a vehicle has from a day on. It takes some sixty requests: it is read where somebody asks for it, and says its age.

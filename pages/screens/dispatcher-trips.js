@@ -17,6 +17,7 @@ import { dayBar, nowOn, STOP, theDay } from "./dispatcher-bar.js";
 import { saveCsv, spreadsheetOf } from "./dispatcher-files.js";
 import { notesList, notesOn } from "./dispatcher-notes.js";
 import { dayNow, dayRead, driversRead, toldNow } from "./dispatcher-reads.js";
+import { fromTripToTrip, toFirstRow } from "./dispatcher-rows.js";
 
 /** @typedef {import("../parts/texts.js").Row} Row */
 /** @typedef {import("../types").Given} Given */
@@ -160,9 +161,9 @@ function cardsOf(rows, state, tell) {
 function tripsCard(state, { sort, tell, endRest, search, more }) {
     const { all, shown } = rowsOf(state), { csv, day, most, printing } = state, drawn = printing ? shown : shown.slice(0, most);
     return part("div", { class: "card trips-card" }, part("div", { class: "search-row" }, part("div", { class: "search" }, part("label", { for: "trip-search" }, t("dispatcher.search")),
-        part("input", { id: "trip-search", type: "search", autocomplete: "off", value: state.typed, "aria-describedby": "trip-search-hint", on: { input: (event) => search(event.target.value) } }),
+        part("input", { id: "trip-search", type: "search", autocomplete: "off", value: state.typed, "aria-describedby": "trip-search-hint", on: { input: (event) => search(event.target.value), keydown: toFirstRow } }),
         part("small", { id: "trip-search-hint" }, t("dispatcher.search-hint"))), part("p", { role: "status" }, t("dispatcher.shown", { shown: shown.length, all: all.length }))),
-    part("div", { class: "tall" }, matchMedia(NARROW).matches ? cardsOf(drawn, state, tell)
+    part("div", { class: "tall", on: { keydown: (event) => fromTripToTrip(event, { search: "trip-search", more: drawn.length < shown.length ? more : null }) } }, matchMedia(NARROW).matches ? cardsOf(drawn, state, tell)
         : table(t("dispatcher.trips-of-day"), columnsOf(state, sort, tell), drawn, { rowKey: ({ trip }) => trip, class: "day-trips" })),
     part("div", { class: "row" }, drawn.length < shown.length && button(t("dispatcher.show-more", { count: shown.length - drawn.length }), more),
         button(t("dispatcher.save-desk"), () => save(`trips-${day}.csv`, "text/csv", csv)), button(t("dispatcher.save-sheet"), () => saveCsv(`trips-${day}-names.csv`, spreadsheetOf(all)))),

@@ -13,8 +13,11 @@
  * @typedef {{ stop: string, trip: number, rider: number, what: What, at: string, seen?: boolean, text?: string, onRecord?: string }} Tap at is the
  *     moment, YYYY-MM-DDTHH:MM:SS; onRecord is the outcome that the desk has where it is another one
  * @typedef {Stop & { name: string, done: boolean, isNext: boolean, party: { people: number, chairs: number }, promise: Window | null,
- *     arrived: Entry | null, came: Entry | null, aboard: Entry | null, outcome: Entry | null, denied: Entry | null, taps: Entry[] }} Shown promise and
- *     came are the window of the trip's pickup and the arrival there, at its drop as well
+ *     arrived: Entry | null, came: Entry | null, aboard: Entry | null, outcome: Entry | null, denied: Entry | null, taps: Entry[], elsewhere: string | null,
+ *     isOnRecord: boolean }} Shown promise and came are the window of the trip's pickup and the arrival there, at its drop as well; elsewhere is what
+ *     another phone or dispatch told of the trip, and isOnRecord whether the desk has it
+ * @typedef {Record<string, { how: string, minute: number | null }>} Known of each trip what others told of it; minute is that of the tap, or null where
+ *     it is the desk's own record
  * @typedef {"late" | "early" | "not-arrived" | "wait"} Doubt
  * @typedef {{ promise: Window | null, arrived: number | null, waited: number, doubt: Doubt | null }} Evidence of a no-show: the minute of the
  *     arrival, and how many seconds were waited within the window
@@ -50,16 +53,25 @@ function pickupOf(stops, ofTrip, trip) {
     return { promise: pickup?.window ?? null, came: lastOf(ofTrip, ({ what, stop }) => what === "arrived" && stop === `PICK ${trip}`) };
 }
 
+/** What others have told of a trip that counts on this phone: the desk's record, and taps from before this phone was used. (A later tap may be one of
+ * this phone's own that was undone.)
+ * @param {Known} known @param {number | undefined} trip @param {Entry[]} log */
+function elsewhereOf(known, trip, log) {
+    const it = trip === undefined ? undefined : known[trip], began = Math.min(...log.map(({ tap }) => Math.floor(secondsOf(tap.at) / MINUTE)));
+    return it && (it.minute === null || it.minute < began) ? it : null;
+}
+
 /** The stops of a day with all that is to be shown of each, and which of them is next (-1: none).
- * @param {Stop[]} stops @param {Entry[]} log of this vehicle and day, in its order */
-export function dayOf(stops, log) {
+ * @param {Stop[]} stops @param {Entry[]} log of this vehicle and day, in its order @param {Known} [known] */
+export function dayOf(stops, log, known = {}) {
     const shown = stops.map((stop, at) => {
         const name = nameOf(stop, at, stops.length - 1), mine = log.filter(({ tap }) => tap.stop === name);
         const ofTrip = log.filter(({ tap }) => stop.trip !== undefined && tap.trip === stop.trip);
         const told = lastOf(ofTrip, ({ what }) => isOutcome(what)), aboard = lastOf(ofTrip, ({ what }) => what === "aboard");
         const outcome = told?.state === "denied" ? null : told, passed = mine.some(({ tap }) => tap.what === "left");
-        const done = stop.what === "DEPOT" ? passed : Boolean(told || (stop.what === "PICK" ? aboard || passed : passed && !aboard));
-        return { ...stop, ...pickupOf(stops, ofTrip, stop.trip), name, done, isNext: false, party: partyOf(stop, stops[at - 1]), arrived: lastOf(mine, ({ what }) => what === "arrived"),
+        const other = told ? null : elsewhereOf(known, stop.trip, log), isAboard = Boolean(aboard) || other?.how === "aboard", isOver = Boolean(told) || isOutcome(other?.how ?? "");
+        const done = stop.what === "DEPOT" ? passed : isOver || (stop.what === "PICK" ? isAboard || passed : passed && !isAboard);
+        return { ...stop, elsewhere: other?.how ?? null, isOnRecord: other?.minute === null, ...pickupOf(stops, ofTrip, stop.trip), name, done, isNext: false, party: partyOf(stop, stops[at - 1]), arrived: lastOf(mine, ({ what }) => what === "arrived"),
             aboard, outcome, denied: told?.state === "denied" ? told : null, taps: mine };
     });
     const next = shown.findIndex(({ done }) => !done);
@@ -69,7 +81,7 @@ export function dayOf(stops, log) {
 
 /** The riders aboard whose drop is still to come.
  * @param {Shown[]} stops */
-export const stillAboard = (stops) => stops.filter(({ what, aboard, done }) => what === "DROP" && aboard && !done);
+export const stillAboard = (stops) => stops.filter(({ what, aboard, elsewhere, done }) => what === "DROP" && (aboard || elsewhere === "aboard") && !done);
 
 /** What is left to do on a day that is over: riders aboard of whom nothing was told, what waits, and what was denied and not read. It goes by the
  * taps alone, since the manifest of a day that is over may be gone.
@@ -91,8 +103,8 @@ const FINAL = ["desk.over", "desk.caller", "desk.unknown"];
  * @param {Shown} stop @param {boolean} hasCome whether its day has come @param {boolean} [isLate]
  * @returns {What[]} */
 export function choicesAt(stop, hasCome, isLate = false) {
-    const { what, done, arrived, aboard, outcome, denied } = stop;
-    if (!hasCome) return [];
+    const { what, done, arrived, aboard, outcome, denied, isOnRecord } = stop;
+    if (!hasCome || isOnRecord) return [];
     if (what === "DEPOT") return done ? [] : ["left"];
     if (outcome || FINAL.includes(denied?.denied ?? "") || (what === "PICK" && aboard)) return [];
     /** @type {What[]} */
@@ -154,4 +166,4 @@ export function evidenceOf({ promise, came, what }, minutes, day, now) {
 /** The earlier stops that count as passed where the driver goes on from a later one: not the drops of riders aboard.
  * @param {Shown[]} stops @param {string} from the later one's name */
 export const skipped = (stops, from) => stops.slice(0, Math.max(0, stops.findIndex(({ name }) => name === from)))
-    .filter(({ done, what, aboard }) => !done && !(what === "DROP" && aboard));
+    .filter(({ done, what, aboard, elsewhere }) => !done && !(what === "DROP" && (aboard || elsewhere === "aboard")));

@@ -8,7 +8,7 @@ import { heldFor } from "../parts/queue.js";
 import { t } from "../parts/words.js";
 import { placeNameAt, whoAt } from "./driver-read.js";
 import { behind, deniedIn, heldIn, logOf, namesOf, sheetName, shownDay } from "./driver-state.js";
-import { didWords, stopWords, timeOf } from "./driver-stop.js";
+import { didWords, elsewhereWords, stopWords, timeOf } from "./driver-stop.js";
 
 /** @typedef {import("../parts/queue.js").Entry} Entry */
 /** @typedef {import("./driver-day.js").Shown} Shown */
@@ -132,12 +132,13 @@ export function noticesOf(state, acts) {
 
 /** What came of a stop, for the list.
  * @param {Shown} stop */
-function stateWords({ what, isNext, done, aboard, outcome, denied, taps }) {
+function stateWords({ what, isNext, done, aboard, outcome, denied, taps, elsewhere }) {
     const told = outcome ?? denied, words = told ? didWords(told.tap.what) : "";
     if (denied) return t("driver.state-denied", { what: words });
     if (outcome?.state === "waiting") return t("driver.state-waiting", { what: words });
     if (outcome) return outcome.denied ? t("driver.state-known", { what: words }) : words;
     if (aboard && what === "PICK") return didWords("aboard");
+    if (elsewhere && (elsewhere !== "aboard" || what === "PICK")) return elsewhereWords(elsewhere);
     if (isNext) return t("driver.state-next");
     return done && taps.length ? didWords(what === "DEPOT" ? "done" : "left") : "";
 }

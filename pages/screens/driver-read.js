@@ -2,7 +2,7 @@
 // a line, for the key alone that read it, until it signs out, the day is over, or the phone locks.
 
 import { placeOf, placeWord } from "../parts/agency.js";
-import { momentNow } from "../parts/clock.js";
+import { momentNow, today } from "../parts/clock.js";
 import * as desk from "../parts/desk.js";
 import { copyName } from "../parts/manifest-copies.js";
 import { copyOf, keepCopy } from "../parts/queue.js";
@@ -14,8 +14,9 @@ import { t } from "../parts/words.js";
  * @typedef {{ name?: string, note?: string, latitude?: number, longitude?: number }} PlaceNames
  * @typedef {{ name: string, note: string }} RiderNames
  * @typedef {{ places: Record<string, PlaceNames>, riders: Record<string, RiderNames>, fares: Record<string, number> }} Names
- * @typedef {{ text: string, stops: import("./driver-day.js").Stop[], readAt: string, names: Names }} Read
+ * @typedef {{ text: string, stops: import("./driver-day.js").Stop[], readAt: string, names: Names, known: import("./driver-day.js").Known }} Read
  * @typedef {Record<string, string>} Records how trips ended, as the desk has it
+ * @typedef {Record<string, { kind: string, minute: number }>} Taps the last that drivers of the van told the site's log of each trip
  */
 
 /** @type {Names} */
@@ -28,7 +29,7 @@ const stopsIn = (text) => /** @type {import("./driver-day.js").Stop[]} */ (manif
  * @param {number} vehicle @param {string} day @returns {Promise<Read | null>} */
 export async function keptDay(vehicle, day) {
     const kept = await copyOf(copyName(vehicle, day)).catch(() => null);
-    return kept && { ...kept, stops: stopsIn(kept.text) };
+    return kept && { known: {}, ...kept, stops: stopsIn(kept.text) };
 }
 
 /** A file for the driver of a vehicle, or nothing where the site has none.
@@ -84,34 +85,44 @@ async function exportOf(day) {
     return { fares: Object.fromEntries(rows.map(({ trip, due }) => [trip, due])), records: Object.fromEntries(ended.map(({ trip, status }) => [trip, status])) };
 }
 
-/** How the trips of a vehicle ended, as the site's file for its driver has it.
- * @param {number} vehicle @returns {Promise<Records>} */
+/** How the trips of a vehicle ended, and what its drivers told today, as the site's file for its driver has it.
+ * @param {number} vehicle @returns {Promise<{ outcomes: Records, taps: Taps }>} */
 async function recordsOf(vehicle) {
     try {
-        return JSON.parse(await driversFile(vehicle, "outcomes.json")).outcomes ?? {};
+        const { outcomes, taps } = JSON.parse(await driversFile(vehicle, "outcomes.json"));
+        return { outcomes: outcomes ?? {}, taps: taps ?? {} };
     } catch {
-        return {};
+        return { outcomes: {}, taps: {} };
     }
+}
+
+/** @type {Record<string, string>} */
+const HOW = { aboard: "aboard", dropped: "ridden", "no-show": "missed-rider", missed: "missed-operator" };
+
+/** What others have told of each trip: the desk's record, or else the last tap in the site's log.
+ * @param {Records} records @param {Taps} taps @returns {import("./driver-day.js").Known} */
+function knownOf(records, taps) {
+    const told = Object.entries(taps).flatMap(([trip, { kind, minute }]) => (HOW[kind] ? [[trip, { how: HOW[kind], minute }]] : []));
+    return Object.fromEntries([...told, ...Object.entries(records).map(([trip, how]) => [trip, { how, minute: null }])]);
 }
 
 /** Reads a day once, and keeps a copy of it: what was read, or why not.
  * @param {number} vehicle @param {string} day @param {Names} before names that are known already
- * @param {boolean} isDisputed whether somebody has to know how a trip ended
  * @returns {Promise<(Read & { records: Records }) | { denied: string } | { silent: string }>} */
-export async function readDay(vehicle, day, before, isDisputed) {
+export async function readDay(vehicle, day, before) {
     // (all at once: on a phone's line each answer takes its time)
     const reading = desk.readOnce(`/vehicles/${vehicle}/manifest/${day}`);
-    const files = Promise.all([allPlaces(vehicle), ridersOf(vehicle), exportOf(day), isDisputed ? recordsOf(vehicle) : {}]);
+    const files = Promise.all([allPlaces(vehicle), ridersOf(vehicle), exportOf(day), recordsOf(vehicle)]);
     files.catch(() => {});
     const reply = await reading;
     if (reply.silent) return { silent: reply.silent };
     if (reply.denied) return { denied: reply.denied };
-    const stops = stopsIn(reply.value), [places, riders, { fares, records }, ended] = await files;
+    const stops = stopsIn(reply.value), [places, riders, { fares, records: exported }, { outcomes, taps }] = await files, records = { ...outcomes, ...exported };
     const names = { places: { ...before.places, ...placesOf(stops, places) }, riders: { ...before.riders, ...riders }, fares: { ...before.fares, ...fares } };
-    const read = { text: reply.value, readAt: momentNow(), names };
-    // (a phone without room for a copy shows what it read all the same)
-    await keepCopy(copyName(vehicle, day), read).catch(() => {});
-    return { ...read, stops, records: { ...ended, ...records } };
+    const read = { text: reply.value, readAt: momentNow(), names, known: knownOf(records, day === today() ? taps : {}) };
+    // (a phone without room for a copy shows what it read all the same, and no phone waits for its disk)
+    keepCopy(copyName(vehicle, day), read).catch(() => {});
+    return { ...read, stops, records };
 }
 
 /** @param {number} id @param {Names} names */

@@ -48,7 +48,7 @@ export const logOf = (state, day = state.day) => allOf(state).filter(({ sheet })
 
 /** The stops that are shown, and which of them is next.
  * @param {State} state */
-export const shownDay = (state) => dayOf(state.read?.stops ?? [], logOf(state));
+export const shownDay = (state) => dayOf(state.read?.stops ?? [], logOf(state), state.read?.known);
 
 /** @param {State} state */
 export const namesOf = (state) => state.read?.names ?? NO_NAMES;

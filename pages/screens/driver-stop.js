@@ -33,6 +33,10 @@ export function stopWords({ what, name, rider }, names) {
 /** @param {string} what */
 export const didWords = (what) => t(`driver.did-${what}`);
 
+/** What another phone or dispatch told of a trip.
+ * @param {string} how */
+export const elsewhereWords = (how) => (how === "aboard" ? didWords(how) : t(`driver.record-${how}`));
+
 /** A moment as the agency's clock shows it.
  * @param {string} moment */
 export const timeOf = (moment) => clock(Number(moment.slice(11, 13)) * HOUR + Number(moment.slice(14, 16)));
@@ -84,7 +88,7 @@ const tripOf = ({ trip, load, chairs }) => trip && part("p", { class: "hint" },
  * @param {Shown} stop @param {About} about */
 function waitOf(stop, { now, hasCome, isOver }) {
     const minutes = agency().wait_minutes, wait = waitAt(stop, minutes, now);
-    if (!hasCome || isOver || stop.what !== "PICK" || stop.aboard || stop.outcome || stop.done) return null;
+    if (!hasCome || isOver || stop.what !== "PICK" || stop.aboard || stop.outcome || stop.done || stop.isOnRecord) return null;
     if (!wait) return { words: t("driver.wait-first", { minutes }), over: false, look: "hint" };
     if (wait.left > minutes * HOUR) return { words: t("driver.wait-starts", { time: clock(Math.floor(wait.begins / HOUR)), minutes }), over: false, look: "driver-wait" };
     if (!wait.left) return { words: t("driver.wait-over", { minutes }), over: true, look: "driver-wait over" };
@@ -94,12 +98,13 @@ function waitOf(stop, { now, hasCome, isOver }) {
 /** What was told at a stop: how it ended, whether it waits, and what the desk denied.
  * @param {Shown} stop @param {About} about */
 function toldOf(stop, { noRoom }) {
-    const { arrived, aboard, outcome, denied } = stop, what = didWords((outcome ?? denied)?.tap.what ?? "");
+    const { arrived, aboard, outcome, denied, elsewhere, isOnRecord } = stop, what = didWords((outcome ?? denied)?.tap.what ?? "");
     const how = outcome?.state === "waiting" ? "driver.told-waiting" : outcome?.denied ? "driver.told-known" : "driver.told";
     return part("div", { role: "status", id: "driver-told", class: "driver-told" },
         stop.taps.filter(({ tap }) => tap.what === "note").map(({ tap, order }) => part("p", { key: `note-${order}` }, t("driver.note-at", { time: timeOf(tap.at), text: tap.text }))),
         arrived && !aboard && !outcome && part("p", {}, t("driver.arrived-at", { time: timeOf(arrived.tap.at) })),
         aboard && !outcome && part("p", { class: "good" }, t("driver.told", { what: didWords("aboard") })),
+        elsewhere && !aboard && part("p", { class: "good" }, t(isOnRecord ? "driver.on-record" : "driver.told-elsewhere", { what: elsewhereWords(elsewhere) })),
         outcome && part("p", { class: outcome.state === "waiting" ? "note" : "good" }, t(how, { what })),
         denied && [part("p", { class: "fault" }, t("driver.told-denied", { what })), keptDenialOf(denied.denied, "outcome")],
         noRoom === stop.name && part("p", { class: "denial" }, t("driver.no-room")));

@@ -110,7 +110,7 @@ function readerOf(screen, lock) {
         async refresh() {
             if (isAsking) return;
             isAsking = true;
-            const { vehicle, day, read } = screen.state, told = await readDay(vehicle, day, read?.names ?? NO_NAMES, disputed(screen.state).length > 0);
+            const { vehicle, day, read } = screen.state, told = await readDay(vehicle, day, read?.names ?? NO_NAMES);
             isAsking = false;
             if ("denied" in told && told.denied === "desk.key") return forget();
             if (!("silent" in told)) lock.answered();
@@ -124,10 +124,10 @@ function readerOf(screen, lock) {
         async show(day) {
             const { vehicle, kept, loose, begun, locked } = screen.state;
             screen.change({ ...stateOf(vehicle, day), kept, loose, locked, waits: waitingIn(kept).length, begun: begun && day === today() });
-            await forgetOld(screen.state);
-            const left = await lock.read(), read = left ? await keptDay(vehicle, day) : null;
+            // (the desk is asked at once: what this phone keeps takes its time too)
+            const reading = reader.refresh(), left = await lock.read(), read = left ? await keptDay(vehicle, day) : null;
             if (screen.state.day === day && !screen.state.read) screen.change({ read, locked: left === 0 });
-            await Promise.all([reader.refresh(), reader.lookBack()]);
+            await Promise.all([reading, reader.lookBack(), forgetOld(screen.state)]);
         },
         /** Whether the day before is closed. */
         async lookBack() {

@@ -3,7 +3,8 @@
 bin/site-files makes the agency's whole list of places (staff/places.json) and of riders for drivers
 (drivers/roster.csv). No driver reads these. This command reads the manifests of two days from the
 desk and writes what each van needs of the lists: drivers/VEHICLE/roster.csv, places.json and
-outcomes.json. A van without stops has no files. A file is written whole, and only where it changes.
+outcomes.json, which has what drivers of the van told today as well (staff/today.json). A van without
+stops has no files. A file is written whole, and only where it changes.
 """
 
 import argparse
@@ -32,6 +33,8 @@ STOP = re.compile(r"\d\d:\d\d (?:DEPOT (\d+)|(?:PICK|DROP) trip \d+ rider (\d+) 
 PLACE_FIELDS = ("id", "name", "note", "latitude", "longitude")
 ROSTER_FIELDS = ("rider", "name", "note")
 NAMES = ("roster.csv", "places.json", "outcomes.json")
+# Of what a driver taps, what says how far a trip has come.
+TAPS = ("aboard", "dropped", "no-show", "missed")
 SECONDS = 60
 # Whoever serves the files is in the folder's group; nobody else reads them.
 FILE_MODE, FOLDER_MODE = 0o640, 0o2750
@@ -43,11 +46,12 @@ class Wrong(Exception):
 
 @dataclass
 class Need:
-    """What one driver has to know: numbers of riders and of places, and how trips ended, by their numbers."""
+    """What one driver has to know: numbers of riders and of places, and by trip how it ended and what was tapped."""
 
     riders: set[int] = field(default_factory=set)
     places: set[int] = field(default_factory=set)
     outcomes: dict[int, str] = field(default_factory=dict)
+    taps: dict[int, dict[str, Any]] = field(default_factory=dict)
 
 
 def needs_in(sheets: list[str], exports: list[str]) -> dict[int, Need]:
@@ -84,10 +88,11 @@ def texts_of(
     table.writeheader()
     table.writerows(rows)
     outcomes = {str(trip): how for trip, how in sorted(need.outcomes.items())}
+    taps = {str(trip): tap for trip, tap in sorted(need.taps.items())}
     return {
         "roster.csv": out.getvalue(),
         "places.json": as_json({"places": known}),
-        "outcomes.json": as_json({"outcomes": outcomes}),
+        "outcomes.json": as_json({"outcomes": outcomes, "taps": taps}),
     }
 
 
@@ -159,6 +164,25 @@ def roster_in(folder: Path) -> list[dict[str, str]]:
     except (OSError, ValueError, csv.Error) as error:
         raise Wrong(f"{path}: {getattr(error, 'strerror', None) or error}") from None
     return [{name: it.get(name) or "" for name in ROSTER_FIELDS} for it in rows]
+
+
+def taps_in(folder: Path, day: str) -> dict[int, dict[int, dict[str, Any]]]:
+    """By van and trip the last tap of a day that says how far the trip has come.
+
+    There is none where the file of the day is missing, of another day or not of its form: the other
+    files do not wait for it.
+    """
+    found: dict[int, dict[int, dict[str, Any]]] = {}
+    try:
+        told = object_in(folder / "staff/today.json")
+        for van, it in told["vehicles"].items() if told.get("day") == day else ():
+            for tap in it["taps"]:
+                if tap["kind"] in TAPS:
+                    one = {"kind": tap["kind"], "minute": int(tap["minute"])}
+                    found.setdefault(int(van), {})[int(tap["trip"])] = one
+    except (Wrong, KeyError, TypeError, ValueError, AttributeError) as why:
+        LOG.warning("staff/today.json is passed over: %s", why)
+    return found
 
 
 def days_from(today: str | None, zone: str | None) -> list[str]:
@@ -247,6 +271,9 @@ def make(folder: Path, url: str, key: str, today: str | None) -> str:
         with locked(folder):
             places, roster = places_in(folder), roster_in(folder)
             needs = sorted(needs_in(sheets, exports).items())
+            for van, taps in taps_in(folder, days[0]).items():
+                for need in (need for number, need in needs if number == van):
+                    need.taps = taps
             changed = put(folder, {van: texts_of(need, places, roster) for van, need in needs})
     except OSError as error:
         raise Wrong(f"{error.filename or folder}: {error.strerror}") from None

@@ -321,23 +321,33 @@ def one_trip_ends_and_its_answer_is_where_it_was(at):
     same("what the desk has", "missed-rider", next(row["status"] for row in rows_of(at) if row["trip"] == trip))
 
 
+# The buttons that close a van, also where they are folded away.
+CLOSED = "return [...document.querySelectorAll('.closing button')].map((it) => it.textContent).filter((it) => it.includes(`of ${arguments[0]} completed`))"
+
+
 @check
 def a_van_is_closed_by_its_planned_drops_and_who_is_still_aboard_stays(at):
     text = at.town.get("dispatcher", f"/vehicles/1/manifest/{DAY}")
     drops = {it[3]: int(it[1]) * 60 + int(it[2]) for it in re.finditer(r"(\d\d):(\d\d) DROP trip (\d+)", text)}
     rows = [it for it in booked_on(at, DAY) if it["vehicle"] == "1"]
-    row = next(it for it in rows if drops[it["trip"]] > int(it["window_to"]) + 2)
+    # (the last one who is aboard after the window: others have been dropped off before)
+    row = max((it for it in rows if drops[it["trip"]] > int(it["window_to"]) + 2), key=lambda it: drops[it["trip"]])
     minute = drops[row["trip"]] - 1
     aboard = [it["trip"] for it in rows if int(it["window_to"]) < minute <= drops[it["trip"]]]
     holds(f"nobody is aboard at {minute}: {row} {drops}", aboard)
     past = [it["trip"] for it in rows if drops[it["trip"]] < minute]
     sign_in(at, DAY, f"{minute // 60:02}:{minute % 60:02}", "trips")
-    if not past:
-        at.browser.settled(500)
-        same("vans to close", False, at.browser.is_there("button", re.compile(f"of {VAN_1} completed$")))
-    else:
+    at.browser.sees("Search trips")
+    at.browser.settled(500)
+    # (what can be closed is folded away, and is there all the same)
+    offered = at.browser.script(CLOSED, VAN_1)
+    same("buttons that close the van", bool(past), bool(offered))
+    if past:
         open_closing(at)
-        at.browser.find("button", re.compile(f"remaining {len(past)} trips? of {VAN_1} completed"))
+        at.browser.press(offered[0])
+        listed = re.findall(r"trip (\d+)", at.browser.script("return [...document.querySelectorAll('dialog .long-list li')].map((it) => it.textContent).join('\\n')"))
+        same("the trips that are closed", sorted(past), sorted(listed))
+        at.browser.keys(Keys.ESCAPE)
     sign_in(at, DAY, "23:00", "trips")
 
 
@@ -492,6 +502,32 @@ def a_letter_in_the_search_is_cheap_on_a_day_of_seven_hundred_trips(at):
     sign_in(at, DAY, "23:00", "trips")
 
 
+ROW = """const row = document.activeElement.closest('tbody tr'), head = document.querySelector('.day-trips thead th').getBoundingClientRect();
+return row && [[...row.parentElement.children].indexOf(row), [...row.children].findIndex((it) => it.contains(document.activeElement)),
+    document.activeElement.getBoundingClientRect().top >= head.bottom - 1];"""
+
+
+@check
+def the_arrow_keys_go_through_the_trips_of_the_day(at):
+    sign_in(at, DAY, "23:00", "trips")
+    with at.browser.screen(1366, 400):
+        at.browser.sees("Search trips")
+        count = until("no trips", lambda: at.browser.script("return document.querySelectorAll('.day-trips tbody tr').length"))
+        at.browser.script("document.getElementById('trip-search').focus()")
+        at.browser.keys(Keys.ARROW_DOWN)
+        row, column, _ = at.browser.script(ROW)
+        same("the first row", 0, row)
+        seen = [row]
+        for _ in range(count):
+            at.browser.keys(Keys.ARROW_DOWN)
+            row, now, is_seen = at.browser.script(ROW)
+            same("the column, and whether it is in view", [column, True], [now, is_seen])
+            seen += [row] if row != seen[-1] else []
+        holds(f"rows of {count}: {seen}", seen == sorted(seen) and len(seen) >= count - 2)
+        at.browser.keys(*[Keys.ARROW_UP] * len(seen))
+        same("above the first row", "Search trips", at.browser.focused())
+
+
 @check
 def the_head_stays_and_no_button_is_cut(at):
     with at.browser.screen(1366, 768):
@@ -504,6 +540,16 @@ def the_head_stays_and_no_button_is_cut(at):
         same("buttons that are cut", 0, cut)
 
 
+# From now on what the line of progress says, each text once: the table is drawn as often.
+PROGRESS = """
+window.said = [];
+new MutationObserver(() => {
+    const text = document.getElementById("bulk").textContent;
+    if (text && window.said.at(-1) !== text) window.said.push(text);
+}).observe(document.getElementById("bulk"), { childList: true, subtree: true, characterData: true });
+"""
+
+
 @check
 def all_the_rest_of_a_van_is_asked_once_and_done_once_though_the_line_breaks(at):
     rest = [row["trip"] for row in rows_of(at) if row["vehicle"] == "2" and row["status"] == "booked"]
@@ -511,8 +557,11 @@ def all_the_rest_of_a_van_is_asked_once_and_done_once_though_the_line_breaks(at)
     open_closing(at)
     at.browser.press(f"Mark the remaining {len(rest)} trips of {VAN_2} completed")
     at.browser.sees(f"{VAN_2}: mark {len(rest)} trips completed?", f"trip {rest[0]}")
+    at.browser.script(PROGRESS)
     at.browser.press(f"Yes: {len(rest)} trips completed")
     until("they are not done", lambda: f"{VAN_2}: {len(rest)} trips completed." in at.browser.text())
+    said = at.browser.script("return window.said")
+    holds(f"of {len(rest)} trips the page draws: {said}", len(said) <= len(rest) // 4 + 2)
     states = {row["trip"]: row["status"] for row in rows_of(at)}
     same("not ridden", [], [trip for trip in rest if states[trip] != "ridden"])
 

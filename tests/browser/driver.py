@@ -699,6 +699,25 @@ def a_key_that_was_replaced_takes_all_names_off_the_phone(at):
 
 
 @check
+def a_phone_that_only_reads_forgets_all_names_with_its_key(at):
+    # (nothing waits to be sent: the reading alone has to notice it)
+    begin_bad(at, "08:00", 0)
+    until("nothing waits", lambda: not waits(at))
+    holds("the phone has names before", len(names_here(at)) > 3)
+    put_key(at, "another key of driver 1")
+    try:
+        at.town.middle.writes()
+        at.browser.script("window.dispatchEvent(new Event('online'))")
+        at.browser.sees("This key was replaced or canceled.")
+        at.browser.find("button", "Sign in")
+        same("what was written", [], at.town.middle.writes())
+        same("names on the phone", [], names_here(at))
+        same("copies", [], kept(at)[1])
+    finally:
+        put_key(at, at.keys["driver 1"])
+
+
+@check
 def without_a_line_the_phone_locks_in_time_and_a_clock_that_is_set_back_does_not_open_it(at):
     at.town.write_files(lock_minutes=60)
     try:
@@ -803,6 +822,42 @@ def a_second_outcome_of_a_trip_reads_what_is_on_record_and_dispatch_sees_it(at):
         until("dispatch does not hear of it", lambda: len(events(at, "disagreements")) > before)
     told = events(at, "disagreements")[before:]
     same("disagreements", [(str(trip), "missed-rider", "ridden")], [(it["trip"], it["record"], it["told"]) for it in told])
+
+
+@check
+def a_driver_who_takes_over_a_van_reads_how_its_trips_ended(at):
+    begin_bad(at, "09:30", 0)
+    at.town.set_clock(BAD_DAY, "11:00")
+    rider = next(it["trip"] for it in at.town.trips_of(GRANT) if it["trip"] == BOOKED[0])
+    if status(at, rider, BAD_DAY) == "booked":
+        at.town.post("driver 1", f"/trips/{rider}/outcome", {"outcome": "ridden"})
+    how = {"ridden": "dropped off", "missed-rider": "no-show", "missed-operator": "missed by us"}[status(at, rider, BAD_DAY)]
+    aboard = {"trip": BOOKED[3], "kind": "aboard", "minute": 640}
+    at.town.write_file("staff/today.json", json.dumps({"day": BAD_DAY, "made": f"{BAD_DAY}T15:00:00Z", "vehicles": {"1": {"taps": [aboard]}}}))
+    at.town.write_drivers_files()
+    try:
+        at.browser.fresh()
+        sign_in(at, "11:00", BAD_DAY)
+        texts = lambda trip: at.browser.script("return [...document.querySelectorAll(`#stop-PICK-${arguments[0]}, #stop-DROP-${arguments[0]}`)].map((it) => it.querySelector('.driver-state').textContent)", trip)
+        until(lambda: f"trip {rider} reads {texts(rider)}", lambda: texts(rider) == [how, how])
+        until(lambda: f"trip {BOOKED[3]} reads {texts(BOOKED[3])}", lambda: texts(BOOKED[3])[0] == "aboard")
+        at.browser.script("document.getElementById(`stop-DROP-${arguments[0]}`).click()", rider)
+        at.browser.sees(f"On record: {how}.")
+        same("what is sure to be denied", False, at.browser.is_there("button", "Dropped off"))
+        # (also where the driver goes on from a later stop, and without a line)
+        at.browser.script("document.getElementById(`stop-DROP-${arguments[0]}`).click()", BOOKED[4])
+        at.browser.press("This is my next stop")
+        at.browser.press("Yes: go on from here")
+        same("after earlier stops were passed", [how, how], texts(rider))
+        is_next(at, "Drop off Rosa Álvarez")
+        files_are_kept(at)
+        with at.browser.no_line(at.town):
+            at.browser.reload()
+            at.browser.sees("You’re offline.")
+            same("without a line", [how, how], texts(rider))
+    finally:
+        at.town.write_file("staff/today.json", None)
+        at.town.write_drivers_files()
 
 
 @check

@@ -7,7 +7,7 @@ import re
 from checks import check, holds, same
 from database import until
 from middle import UNHEARD
-from people import key_for
+from people import callers_of, key_for
 from scripts import SAVED
 
 VANS = 6
@@ -219,6 +219,44 @@ def another_dispatchers_key_goes_on_where_one_was_replaced(at):
     at.browser.sees("is out of service from", f"{many(len(before))} canceled.")
     same("trips that are left in it", [], booked_on(at, LATER, van))
     discard(at)
+
+
+def put_dispatchers_key(at, key):
+    digest = hashlib.sha256(key.encode()).hexdigest()
+    number = next(it[0] for it in callers_of(VANS) if it[3] == "dispatcher")
+    reply = at.town.post("admin", "/callers", {"id": number, "role": "dispatcher", "subject": 0, "digest": digest})
+    holds(f"the key is put: {reply}", "denied" not in reply)
+
+
+@check
+def going_on_with_a_dead_key_says_how_another_key_goes_on(at):
+    for van in range(1, VANS + 1):
+        put_on_duty(at, van)
+    van, before = fill_van(at)
+    sign_in(at)
+    show_out(at, van, LATER)
+    at.browser.sees("What happens next")
+    begin(at, f"cancel {many(len(before))}", len(before))
+    ended(at)
+    at.browser.driver.execute_async_script(BROKEN_OFF, "booked")
+    sign_in(at)
+    at.browser.sees("Not finished")
+    put_dispatchers_key(at, "another key of the dispatcher")
+    try:
+        at.browser.press("Go on")
+        at.browser.sees("We don't recognize this key.", "Sign out, then sign in here with another dispatcher’s key.")
+        same("what has the focus", True, "out of service" in at.browser.focused() or "Not finished" in at.browser.focused())
+        # (the part that is opened anew shows no list to a key that is nobody's, and says the same)
+        at.browser.go_part("dispatcher", "vehicles")
+        at.browser.go_part("dispatcher", "out")
+        at.browser.sees("Sign out, then sign in here with another dispatcher’s key.")
+        sign_in(at, holder=SECOND)
+        at.browser.sees("Not finished")
+        at.browser.press("Go on")
+        at.browser.sees("is out of service from")
+        discard(at)
+    finally:
+        put_dispatchers_key(at, at.keys["dispatcher"])
 
 
 @check

@@ -1,7 +1,7 @@
 import assert from "node:assert/strict";
 import { test } from "node:test";
 
-import { behindBy, choicesAt, dayOf, evidenceOf, leftOpen, minuteOn } from "../../pages/screens/driver-day.js";
+import { behindBy, choicesAt, dayOf, evidenceOf, leftOpen, minuteOn, skipped } from "../../pages/screens/driver-day.js";
 
 const DAY = "2025-03-11";
 const STOPS = [
@@ -84,4 +84,25 @@ test("a note at a stop changes nothing of the stop", () => {
     const log = [entry("PICK 9", "note", at(515))];
     assert.equal(pickup(log).done, false);
     assert.deepEqual(choicesAt(pickup(log), true), choicesAt(pickup([]), true));
+});
+
+test("a driver who takes over a van reads how trips ended, and is sent past them", () => {
+    const record = { 9: { how: "missed-rider", minute: null } }, taken = dayOf(STOPS, [entry("out", "left", at(600))], record);
+    assert.deepEqual(taken.stops.map(({ done, elsewhere, isOnRecord }) => [done, elsewhere, isOnRecord]),
+        [[true, null, false], [true, "missed-rider", true], [true, "missed-rider", true], [false, null, false]]);
+    assert.deepEqual(choicesAt(taken.stops[1], true), []);
+    // (also where the stops before the next one were passed)
+    const passed = dayOf(STOPS, [entry("PICK 9", "left", at(600)), entry("DROP 9", "left", at(600))], record);
+    assert.equal(passed.stops[2].elsewhere, "missed-rider");
+    // (what this phone told itself is shown as ever)
+    assert.equal(dayOf(STOPS, [entry("DROP 9", "ridden", at(541), "done")], record).stops[2].elsewhere, null);
+});
+
+test("a tap of another phone counts where it came before the first one here, and takes no choice away", () => {
+    const aboard = { 9: { how: "aboard", minute: 516 } }, first = dayOf(STOPS, [], aboard);
+    assert.deepEqual(first.stops.map(({ done }) => done), [false, true, false, false]);
+    assert.deepEqual(skipped(dayOf(STOPS, [entry("out", "left", at(530))], aboard).stops, "back").map(({ name }) => name), []);
+    assert.deepEqual(choicesAt(first.stops[2], true), ["ridden", "missed-rider", "missed-operator", "left"]);
+    // (it may be one of this phone's own that was undone)
+    assert.equal(dayOf(STOPS, [entry("out", "left", at(480))], aboard).stops[1].done, false);
 });

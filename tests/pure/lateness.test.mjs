@@ -3,6 +3,7 @@ import assert from "node:assert/strict";
 import test from "node:test";
 import { attentionOf, lateOf, toldIn } from "../../pages/parts/lateness.js";
 
+const DAY = "2026-03-10";
 const pick = (trip, at, from = at - 5) => ({ line: "", what: "PICK", trip, rider: 1000 + trip, place: 1, at, window: [from, from + 30], load: 1, people: 1, wheelchairs: 0 });
 const drop = (trip, at) => ({ line: "", what: "DROP", trip, rider: 1000 + trip, place: 2, at, window: null, load: 0, people: 1, wheelchairs: 0 });
 const depot = (at) => ({ line: "", what: "DEPOT", place: 5, at, load: 0, people: 0, wheelchairs: 0 });
@@ -83,4 +84,11 @@ test("a no-show waits for dispatch also once the desk has it, and of an earlier 
     assert.deepEqual(attentionOf([], told, new Map([[2, { state: "missed-rider", minutes: 0 }]]), []).noShows, [noShow]);
     assert.deepEqual(told.disagreements, []);
     assert.deepEqual(told.late.map(({ vehicle }) => vehicle), [4]);
+});
+
+test("a no-show on which two devices disagree waits once, among the entries that disagree", () => {
+    const noShows = [{ day: DAY, trip: 1, minute: 600 }, { day: DAY, trip: 2, minute: 610 }];
+    const disagreements = [{ day: DAY, trip: 2, minute: 612, told: "ridden" }, { day: DAY, trip: 2, minute: 640, told: "ridden" }];
+    const it = attentionOf([], { day: DAY, vehicles: new Map(), notes: [], noShows, disagreements, late: [] }, new Map(), []);
+    assert.deepEqual([it.noShows.map(({ trip }) => trip), it.disagreements.map(({ trip, minute }) => [trip, minute])], [[1], [[2, 612]]]);
 });

@@ -272,3 +272,13 @@ test("who was booked anew in the same vehicle has one row, that of the new trip,
     assert.deepEqual(bookedOn(desk), { 1: 1, 2: 1 });
     assert.equal(plan.items.length, 2);
 });
+
+test("a plan that the desk does not let read stays as it is, and says why", async () => {
+    const desk = makeDesk(THREE), plan = planOf(desk), { tripsOf } = desk.ports;
+    desk.ports.tripsOf = async () => ({ denied: "desk.key" });
+    const denied = await plans.readAgain(plan, desk.ports);
+    assert.deepEqual([denied.stopped, denied.items], ["desk.key", plan.items]);
+    // (another key goes on)
+    desk.ports.tripsOf = tripsOf;
+    assert.equal((await plans.readAgain(denied, desk.ports)).stopped, null);
+});

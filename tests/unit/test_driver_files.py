@@ -69,7 +69,32 @@ def test_the_files_hold_what_the_driver_needs_and_nothing_else() -> None:
     # (the shelter is a stop of the day; another shelter and a rider's home are not)
     assert [it["id"] for it in places] == [1, 10, 5]
     assert all(set(it) <= set(driver_files.PLACE_FIELDS) for it in places)
-    assert json.loads(texts["outcomes.json"]) == {"outcomes": {"3": "missed-rider"}}
+    assert json.loads(texts["outcomes.json"]) == {"outcomes": {"3": "missed-rider"}, "taps": {}}
+
+
+def test_a_driver_reads_the_last_tap_of_each_trip_of_the_day(tmp_path: Path) -> None:
+    taps = [(7, "arrived", 500), (7, "aboard", 505), (8, "skipped", 510), (7, "dropped", 530)]
+    told = [{"trip": trip, "kind": kind, "minute": minute} for trip, kind, minute in taps]
+    (tmp_path / "staff").mkdir()
+    today = tmp_path / "staff/today.json"
+    today.write_text(json.dumps({"day": "2025-03-11", "vehicles": {"3": {"taps": told}}}))
+    wanted = {3: {7: {"kind": "dropped", "minute": 530}}}
+    assert driver_files.taps_in(tmp_path, "2025-03-11") == wanted
+    assert driver_files.taps_in(tmp_path, "2025-03-12") == {}
+    text = texts_of(Need(taps=wanted[3]), [], [])["outcomes.json"]
+    assert json.loads(text)["taps"] == {"7": {"kind": "dropped", "minute": 530}}
+
+
+@pytest.mark.parametrize(
+    "content", [None, "[]", "{", '{"day": "2025-03-11", "vehicles": {"x": 1}}']
+)
+def test_a_file_of_the_day_that_is_wrong_is_passed_over(
+    tmp_path: Path, content: str | None
+) -> None:
+    (tmp_path / "staff").mkdir()
+    if content is not None:
+        (tmp_path / "staff/today.json").write_text(content)
+    assert driver_files.taps_in(tmp_path, "2025-03-11") == {}
 
 
 @given(st.sets(st.integers(1, 20)), st.sets(st.integers(1, 20)))

@@ -225,6 +225,7 @@ export const words = {
     "dispatcher.out-broken": ({ cancelled, count, again }) => `Not finished: ${cancelled} of ${count} canceled, ${again} booked again. Going on reads each rider's trips first.`,
     "dispatcher.out-meanwhile": "Trips came into this vehicle or changed meanwhile. They are in the list now. Look at it, then go on.",
     "dispatcher.out-stopped": ({ says }) => `It had to stop: ${says}`,
+    "dispatcher.out-other-key": "Sign out, then sign in here with another dispatcher’s key. This browser keeps a list that is not finished, and “Go on” is on this page then.",
     "dispatcher.out-unkept": "This browser has no room to keep the list. Keep this window open until it is done, and print the list.",
     "dispatcher.out-go-on": "Go on",
     "dispatcher.out-retry": ({ count }) => `Try again: ${trips(count)} not placed`,

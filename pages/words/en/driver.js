@@ -128,6 +128,7 @@ export const words = {
     "driver.held-for": ({ seconds }) => `It is sent in ${many(seconds, "second", "seconds")}.`,
     "driver.did-note": "note",
     "driver.on-record": ({ what }) => `On record: ${what}.`,
+    "driver.told-elsewhere": ({ what }) => `Another phone marked this trip ${what}.`,
     "driver.on-record-unknown": "Somebody else entered how this trip ended, or it was canceled. Dispatch can see which.",
     "driver.on-record-same": ({ what }) => `On record: ${what}, as you entered it. You can go on.`,
     "driver.call-now": ({ what }) => `If “${what}” is right, call dispatch now. What is on record counts, also against the rider.`,

@@ -225,6 +225,7 @@ export const words = {
     "dispatcher.out-broken": ({ cancelled, count, again }) => `Sin terminar: ${cancelled} de ${count} cancelados, ${again} reservados de nuevo. Al seguir se leen primero los viajes de cada pasajero.`,
     "dispatcher.out-meanwhile": "Mientras tanto llegaron viajes a este vehículo o cambiaron. Ya están en la lista. Mírela y siga.",
     "dispatcher.out-stopped": ({ says }) => `Tuvo que detenerse: ${says}`,
+    "dispatcher.out-other-key": "Salga y entre aquí con la clave de otro despachador. Este navegador guarda la lista sin terminar, y «Seguir» está entonces en esta página.",
     "dispatcher.out-unkept": "Este navegador no tiene lugar para guardar la lista. Deje abierta esta ventana hasta que termine, e imprima la lista.",
     "dispatcher.out-go-on": "Seguir",
     "dispatcher.out-retry": ({ count }) => `Intentar de nuevo: ${trips(count)} sin lugar`,

@@ -128,6 +128,7 @@ export const words = {
     "driver.held-for": ({ seconds }) => `Se envía en ${many(seconds, "segundo", "segundos")}.`,
     "driver.did-note": "nota",
     "driver.on-record": ({ what }) => `Está registrado: ${what}.`,
+    "driver.told-elsewhere": ({ what }) => `Otro teléfono marcó este viaje: ${what}.`,
     "driver.on-record-unknown": "Otra persona anotó cómo terminó este viaje, o se canceló. La central puede ver qué pasó.",
     "driver.on-record-same": ({ what }) => `Está registrado «${what}», como usted lo anotó. Puede seguir.`,
     "driver.call-now": ({ what }) => `Si lo correcto es «${what}», llame ahora a la central. Lo registrado cuenta, también en contra del pasajero.`,
