@@ -117,7 +117,7 @@ def _cases(lines: list[str]) -> list[Case]:
         if cases and not cases[-1].end:
             cases[-1].take(line, row)
         elif opens := CASE.fullmatch(line):
-            cases.append(_opened(*map(int, opens.groups()), row=row))
+            cases.append(_opened(row, *map(int, opens.groups())))
         else:
             raise NoLog.at(row, f"{line[:40]!r} opens no case")
     if cases and not cases[-1].end:
@@ -125,7 +125,7 @@ def _cases(lines: list[str]) -> list[Case]:
     return cases
 
 
-def _opened(vehicle: int, pickup: int, drop: int, row: int) -> Case:
+def _opened(row: int, vehicle: int, pickup: int, drop: int) -> Case:
     if vehicle > HIGHEST:
         raise NoLog.at(row, f"{vehicle} is no number of a vehicle")
     if drop < pickup:
