@@ -438,6 +438,23 @@ def each_letter_on_paper_has_what_the_regulation_asks_in_english_and_spanish(at)
 
 
 @check
+def on_paper_of_any_width_numbers_and_addresses_stay_together(at):
+    enter = newcomer(at, 1049)
+    enter("clerk", "complete")
+    enter("examiner", "refuse", reasons="You told us that you ride Line 1 each day.")
+    show(at, "examiner", "examiner", 1049)
+    at.browser.sees("The case of")
+    for own in "English", "Español":
+        at.browser.fill("Print in", own)
+        at.browser.print_by("Print letter 1 of rider 1049")
+        for tenths in range(30, 56):
+            paper = at.browser.printed(preferCSSPageSize=False, paperWidth=tenths / 10, paperHeight=4)
+            holds(f"a number is broken on paper {tenths / 10} inches wide: {paper.text}", not re.search(r"\b555-?\s*\n", paper.text))
+            pages = [it for it in paper.page_texts if "The Appeals Officer" in it]
+            holds(f"the address is broken on paper {tenths / 10} inches wide: {pages}", len(pages) == 1 and "555-0199" in pages[0].split("The Appeals Officer")[1])
+
+
+@check
 def what_rests_on_no_decision_has_a_letter_too(at):
     enter = newcomer(at, 1044)
     enter("clerk", "complete")
