@@ -478,7 +478,7 @@ def on_paper_of_any_width_numbers_and_addresses_stay_together(at):
     for own in "English", "Español":
         at.browser.fill("Print in", own)
         for tenths in range(34, 56, 2):
-            paper = at.browser.print_by("Print letter 1 of rider 1049", preferCSSPageSize=False, paperWidth=tenths / 10, paperHeight=4)
+            paper = at.browser.print_by("Print letter 1 of rider 1049", preferCSSPageSize=False, paperWidth=tenths / 10, paperHeight=tenths / 10)
             holds(f"a number is broken on paper {tenths / 10} inches wide: {paper.text}", not re.search(r"\b555-?\s*\n", paper.text))
             pages = [" ".join(it.split()) for it in paper.page_texts]
             whole = [it for it in pages if "The Appeals Officer 1 Market Street" in it and "555-0199" in it.split("The Appeals Officer")[1]]
