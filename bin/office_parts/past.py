@@ -47,12 +47,14 @@ WAITING = {
 }
 ENDED = {140: -5, 145: -12, 150: -3}
 REASONS = {
-    OVERDUE: "can use lifts and knows the lines",
-    GRANTED_ON_APPEAL: "walks to the bus stop in summer",
-    UNHEARD: "the form names no condition",
-    REFUSED: "travel training was finished",
-    HEARD: "rides Line 1 each day",
+    OVERDUE: "You told us that you board buses by the lift, and you named the lines that you take to work.",
+    GRANTED_ON_APPEAL: "You wrote that you walk to the bus stop at Main Street in summer, and ride Line 1 from there.",
+    UNHEARD: "Your form and your doctor's note name no condition that keeps you from a bus. Please tell us of any.",
+    REFUSED: "You finished travel training, and rode Lines 1 and 3 by yourself on the last two days of it.",
+    HEARD: "You told us that you ride Line 1 to work and back each day, and that you get to its stop by yourself.",
 }
+# So many bytes the desk takes as reasons.
+MOST_WORDS = 500
 # On which days such riders miss each trip, and until when they have any.
 MISSED = {SUSPENDED: range(-21, -14), NOTICED: range(-14, -7), MISSING: range(-7, 0)}
 LAST_RIDE = {SUSPENDED: -9, **ENDED}
@@ -97,14 +99,14 @@ def granted(number):
     return Entry("grant", -49, EXAMINER, until, None, conditions)
 
 
-def entries_of(number):
-    """The case file of a resident."""
+def entries_of(number, today):
+    """The case file of a resident, as of a day."""
     if number in WAITING:
         return [Entry("complete", WAITING[number], CLERK)]
     files = [Entry("complete", -63, CLERK)]
     if number in REASONS:
         return [*files, Entry("refuse", -49, EXAMINER, words=REASONS[number]), *appeals_of(number)]
-    return [*files, granted(number), *misses_of(number)]
+    return [*files, granted(number), *misses_of(number, today)]
 
 
 def appeals_of(number):
@@ -120,16 +122,35 @@ def appeals_of(number):
     }.get(number, [])
 
 
-def misses_of(number):
-    basis = "missed each trip of a week"
-    return {
-        SUSPENDED: [
-            Entry("notice", -14, CLERK, words=basis),
+def misses_of(number, today):
+    if number == SUSPENDED:
+        return [
+            Entry("notice", -14, CLERK, words=basis_of(number, today, -3, 11)),
             Entry("notice heard", -8, OFFICER),
-            Entry("suspend", -7, OFFICER, -3, 11, words="a pattern of missed trips"),
-        ],
-        NOTICED: [Entry("notice", -5, CLERK, words=basis)],
-    }.get(number, [])
+            Entry("suspend", -7, OFFICER, -3, 11, words="You missed each trip of a week. Each time the van came within the window and waited."),
+        ]
+    return [Entry("notice", -5, CLERK, words=basis_of(number, today, 15, 29))] if number == NOTICED else []
+
+
+def basis_of(number, today, starts, ends):
+    """What a notice says, as the pages write it: the missed trips of the week, as far as there is room, and the days proposed."""
+    weeks = recorded()
+    days = [today + datetime.timedelta(days=it) for it in MISSED[number]]
+    trips = [(day, it) for day in days for it in recorded_on(weeks, day) if it.rider == number and it.pickup is not None]
+    missed = [missed_in_words(day, it) for day, it in sorted(trips, key=lambda it: (it[0], it[1].window_from))]
+    last, first = (today + datetime.timedelta(days=it) for it in (ends, starts))
+    while len(basis := f"Missed trips (no-shows): {'; '.join(missed)}. Proposed suspension: {first} through {last}.".encode()) > MOST_WORDS:
+        missed.pop()
+    return basis.decode()
+
+
+def missed_in_words(day, trip):
+    place = next(name for number, name, *_ in town.PLACES if number == trip.origin)
+    return f"{day}, pickup window {clock(trip.window_from)} to {clock(trip.window_to)}, from {place}"
+
+
+def clock(minute):
+    return f"{minute // 60 % 12 or 12}:{minute % 60:02} {'AM' if minute % 1440 < 720 else 'PM'}"
 
 
 # Trips.

@@ -21,6 +21,10 @@ def number_of(day):
     return day.toordinal() - DAY_ZERO
 
 
+def day_of(number):
+    return datetime.date.fromordinal(number + DAY_ZERO)
+
+
 def bits_of(weekdays):
     return sum(1 << (it - 1) for it in weekdays)
 
@@ -88,7 +92,7 @@ def write_riders(database, people, today):
             insert(
                 database,
                 "entries",
-                (entry_row(rider.id, place, it, today) for place, it in enumerate(past.entries_of(rider.id))),
+                (entry_row(rider.id, place, it, today) for place, it in enumerate(past.entries_of(rider.id, day_of(today)))),
             )
 
 

@@ -11,15 +11,21 @@ OUTCOMES = {"ridden": copies.RIDDEN, "missed-rider": copies.MISSED_BY_RIDER, "mi
 
 
 def read(path):
-    """The right outcome by trip, as the file has it, and a sentence for each row that is wrong. The last row of a trip holds."""
-    found, faults = {}, []
+    """The right outcome by trip, as the file has it, and a sentence for each row that is wrong. A trip has one row."""
+    found, rows, faults = {}, {}, []
     for number, row in enumerate(csv_rows.read(path, COLUMNS), 2):
-        said = fault_of(row)
+        said = fault_of(row) or repeated(int(row["trip"]), rows)
         if said:
             faults.append(f"row {number}: {said}")
         else:
+            rows[int(row["trip"])] = number
             found[int(row["trip"])] = OUTCOMES[row["outcome"].strip()]
     return found, faults
+
+
+def repeated(trip, rows):
+    """What is wrong with a row of a trip that an earlier row has, or nothing."""
+    return f"trip {trip} stands in row {rows[trip]} already, which counts; leave one row of each trip" if trip in rows else None
 
 
 def by_trip(path):

@@ -1,6 +1,8 @@
 """Copies of the desk's file for denials that dispatch marked: the state is there when an advocate asks why."""
+import glob
 import json
 import os
+import time
 
 from .backing_up import Backup
 from .ending import WRONG_WORDS, Failure
@@ -10,15 +12,25 @@ from . import typed  # noqa: F401  (it leads to the package `desk_tools`)
 from desk_tools import event_log
 
 NOTE = "denial-{}.json"
+# A log that was rotated so long ago has no mark that still waits for its copy.
+ROTATED_WITHIN = 7 * 86_400
 
 
 def open_marks(folder, log):
-    """The marks of the site's log for which the folder has no copy yet, the oldest first."""
+    """The marks of the site's log, and of what was just rotated, for which the folder has no copy yet, the oldest first."""
     try:
-        found = event_log.read([log]).of("marks")
+        earlier = rotated(log)
+        # (between a rotation and the next line there may be none)
+        found = event_log.read([*earlier, *([log] if os.path.exists(log) or not earlier else [])]).of("marks")
     except event_log.UnreadableLog as error:
         raise Failure(str(error)) from None
     return [it for it in found if not os.path.exists(f"{folder}/{NOTE.format(it.id)}")]
+
+
+def rotated(log):
+    """The logs into which this one was rotated within a week: its name with a day behind it, as logrotate gives it."""
+    since = time.time() - ROTATED_WITHIN
+    return sorted(it for it in glob.glob(f"{glob.escape(log)}-[0-9]*") if os.path.getmtime(it) >= since)
 
 
 def copy_for(folder, agency, most):

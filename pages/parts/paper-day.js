@@ -7,6 +7,7 @@ import { drawInto, found, part } from "./element.js";
 import { printParts } from "./paper.js";
 import { pagesOf } from "./paper-pages.js";
 import { riderLabel, riderOf } from "./roster.js";
+import { heldTogether } from "./telephones.js";
 import { aboardAt } from "./texts.js";
 import { t } from "./words.js";
 
@@ -104,7 +105,7 @@ const onOnePage = (manifest) => ({ from: 0, to: linesOf(manifest).length, page: 
 function measured(manifests, draw) {
     const paper = found("paper");
     paper.className = "manifests measured";
-    drawInto(paper, manifests.map((manifest) => draw(manifest, onOnePage(manifest))));
+    drawInto(paper, heldTogether(manifests.map((manifest) => draw(manifest, onOnePage(manifest)))));
     return [...paper.querySelectorAll(".van")].map((van) => {
         const high = (/** @type {Element | null} */ it) => it?.getBoundingClientRect().height ?? 0, rows = [...van.querySelectorAll("tbody")];
         const all = rows.map(high), head = high(van) - all.reduce((sum, it) => sum + it, 0), room = PAGE - SPARE - head;

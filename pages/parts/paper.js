@@ -2,6 +2,7 @@
 
 import { agency } from "./agency.js";
 import { button, drawInto, found, part } from "./element.js";
+import { heldTogether } from "./telephones.js";
 import { t } from "./words.js";
 
 /** @typedef {import("../types").Given} Given */
@@ -18,7 +19,7 @@ export function takePaperAway() {
 export function printParts(title, parts, { class: kind = "" } = {}) {
     const before = document.title;
     found("paper").className = kind;
-    drawInto(found("paper"), [agency().unproved && part("p", { class: "unproved" }, t("common.unproved")), title && part("h1", {}, title), parts]);
+    drawInto(found("paper"), [agency().unproved && part("p", { class: "unproved" }, t("common.unproved")), title && part("h1", {}, title), heldTogether(parts)]);
     document.body.classList.add("papered");
     window.addEventListener("afterprint", () => {
         takePaperAway();

@@ -341,12 +341,12 @@ class Browser:
         """From now on, and until the page is loaded anew, a press of Print is counted and opens no dialog."""
         self.script("window.papers = 0; window.print = () => { window.papers += 1; }")
 
-    def print_by(self, name):
-        """What a printer gets after this button was pressed."""
+    def print_by(self, name, **options):
+        """What a printer gets after this button was pressed. (Then the paper is taken away.)"""
         self.papers()
         self.press(name)
         until(f"{name} prints nothing", lambda: self.script("return window.papers > 0"))
-        return self.printed()
+        return self.printed(**options)
 
     def picture(self, name, highest=1500):
         """Makes a picture of docs/pictures anew."""

@@ -379,6 +379,37 @@ def a_grant_in_part_is_led_from_the_examiner_to_the_clerk_and_back(at):
     at.browser.sees_no("Grants in part to finish")
 
 
+@check
+def a_grant_in_part_out_of_order_is_denied_and_what_is_left_undone_still_waits(at):
+    """Two examiners decide at once; and an examiner grants before the clerk took the new application."""
+    out_of_turn, rider, waiting = "This is out of turn", 1046, 1047
+    enter = newcomer(at, rider)
+    enter("clerk", "complete")
+    show(at, "examiner", "examiner", rider)
+    at.browser.sees("The case of")
+    opened_entry(at, "in-part")
+    form = at.browser.script("return document.querySelector('[data-entry=in-part]')")
+    at.browser.fill("Last day of the grant", UNTIL, form)
+    at.browser.fill(re.compile("^Trips with one end more"), "2640", form)
+    at.browser.fill("Why no more is granted, as it stands in the letter", "You told us that you ride Line 1 from the stop at your corner.", form)
+    enter("examiner", "refuse", reasons="You told us that you ride Line 1 each day.")
+    at.browser.press(f"Grant rider {rider}'s application in part")
+    at.browser.press(f"Yes: grant rider {rider}'s application in part")
+    at.browser.sees(out_of_turn)
+    same("what is on record after the second examiner", 404, first_letter_text(at, rider, 2)[0])
+    enter = newcomer(at, waiting)
+    enter("clerk", "complete")
+    enter("examiner", "refuse", reasons=f"Granted in part through {UNTIL} for farther:2640. Not granted: you told us that you ride Line 1 each day.")
+    show(at, "examiner", "examiner", waiting)
+    at.browser.sees("The grant that goes with this refusal is not entered yet.")
+    at.browser.press(f"Grant rider {waiting}'s new application with its conditions")
+    at.browser.press(f"Yes: grant rider {waiting}'s new application with its conditions")
+    at.browser.sees(out_of_turn, "The grant that goes with this refusal is not entered yet.")
+    same("what is on record before the clerk's step", 404, first_letter_text(at, waiting, 2)[0])
+    make_worklist(at, TODAY)
+    waits(at, "clerk", f"Take the new application of rider {waiting} today")
+
+
 MADE = "Print this as a letter"
 
 
@@ -435,6 +466,23 @@ def each_letter_on_paper_has_what_the_regulation_asks_in_english_and_spanish(at)
         show(at, "examiner", "examiner", rider)
         at.browser.sees("The case of")
         both(at, f"Print letter {letter} of rider {rider}", english, spanish)
+
+
+@check
+def on_paper_of_any_width_numbers_and_addresses_stay_together(at):
+    enter = newcomer(at, 1049)
+    enter("clerk", "complete")
+    enter("examiner", "refuse", reasons="You told us that you ride Line 1 each day.")
+    show(at, "examiner", "examiner", 1049)
+    at.browser.sees("The case of")
+    for own in "English", "Español":
+        at.browser.fill("Print in", own)
+        for tenths in range(34, 56, 2):
+            paper = at.browser.print_by("Print letter 1 of rider 1049", preferCSSPageSize=False, paperWidth=tenths / 10, paperHeight=tenths / 10)
+            holds(f"a number is broken on paper {tenths / 10} inches wide: {paper.text}", not re.search(r"\b555-?\s*\n", paper.text))
+            pages = [" ".join(it.split()) for it in paper.page_texts]
+            whole = [it for it in pages if "The Appeals Officer 1 Market Street" in it and "555-0199" in it.split("The Appeals Officer")[1]]
+            holds(f"the address is broken on paper {tenths / 10} inches wide: {pages}", len(whole) == 1)
 
 
 @check

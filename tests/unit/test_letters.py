@@ -50,6 +50,19 @@ def test_the_pages_have_the_table_of_today() -> None:
 # The forms.
 
 
+def test_a_full_disk_leaves_nothing_beside_the_file(tmp_path: Path) -> None:
+    """Where there is no room (a limit of the process stands for it), the old file stays as it is, alone."""
+    (tmp_path / "saved.txt").write_text("A letter.\n\n" * 400)
+    output = tmp_path / "letter.html"
+    output.write_text("old")
+    words = f"ulimit -f 1; exec {TOP}/bin/letters large {output} --text {tmp_path}/saved.txt"
+    ran = subprocess.run(["/bin/sh", "-c", words], capture_output=True, text=True, check=False)
+    assert (ran.returncode, len(ran.stderr.splitlines())) == (1, 1), ran
+    assert ran.stderr.startswith(f"bin/letters: {output}: ")
+    assert sorted(it.name for it in tmp_path.iterdir()) == ["letter.html", "saved.txt"]
+    assert output.read_text() == "old"
+
+
 def run(*words: str, path: str | None = None) -> tuple[int, str]:
     """The command's exit status and what it says."""
     named = {**os.environ, **({"PATH": path} if path is not None else {})}

@@ -1,5 +1,6 @@
 """A log of a refusal in plain sentences: its form, what was in the way, and that each minute is one of the log's own."""
 
+import os
 import re
 import sqlite3
 import subprocess
@@ -66,10 +67,13 @@ def test_each_van_has_one_sentence_and_what_was_most_often_in_the_way_comes_firs
 
 
 @pytest.mark.parametrize(
-    "end, words", [("L 1", "too few seats"), ("M 2", "no way on"), ("S", "too many stops")]
+    "end, stops, words",
+    [("L 1", 0, "too few seats"), ("M 2", 0, "no way on"), ("S", 99, "too many stops")],
 )
-def test_what_is_no_minute_is_told_without_one(end: str, words: str) -> None:
-    told = sentences(refusals(read(f"AUDIT 1\nCASE 4 0 0\n{end}\nDONE\n"))[0], NO_FACTS, "en")
+def test_what_is_no_minute_is_told_without_one(end: str, stops: int, words: str) -> None:
+    places = [(i, j) for i in range(stops + 1) for j in range(i, stops + 1)]
+    cases = [line for i, j in places for line in (f"CASE 4 {i} {j}", end)]
+    told = sentences(refusals(read("\n".join(["AUDIT 1", *cases, "DONE", ""])))[0], NO_FACTS, "en")
     assert words in told and not re.search(r"\d:\d\d", told)
 
 
@@ -98,7 +102,7 @@ def test_a_copy_of_another_day_is_named(day: str, log: str, said: str, tmp_path:
             "INSERT INTO vehicles VALUES (?, 0, ?, 490)", [(1, 0b11111), (2, 0b100)]
         )
     ran = run("-", "--copy", str(copy), "--day", day, text=log)
-    assert (ran.returncode, len(ran.stderr.splitlines())) == ((1, 1) if said else (0, 0)), ran
+    assert (ran.returncode, len(ran.stderr.splitlines())) == ((2, 1) if said else (0, 0)), ran
     assert said.format(copy=copy) in ran.stderr
 
 
@@ -117,8 +121,134 @@ def test_a_copy_of_another_day_is_named(day: str, log: str, said: str, tmp_path:
 )
 def test_what_is_no_log_is_said_in_one_sentence(text: str) -> None:
     ran = run("-", text=text)
-    assert ran.returncode == 1 and ran.stdout == "" and len(ran.stderr.splitlines()) == 1
+    assert ran.returncode == 2 and ran.stdout == "" and len(ran.stderr.splitlines()) == 1
     assert ran.stderr.startswith("bin/why: the ")
+
+
+@pytest.mark.parametrize(
+    "lines, said",
+    [
+        ("CASE 1 0 0|W 3", "line 3: no line of the case raises visit 3"),
+        ("CASE 1 0 0|A 2 600|W 3", "line 4: no line of the case raises visit 3"),
+        ("CASE 1 1 0|L 1", "line 2: the drop-off comes before the pickup"),
+        ("CASE 1 0 0|A 3 9999999999|W 3", "line 3: 9999999999 is no minute"),
+        ("CASE 1 0 0|A 3 99999999999|W 3", "line 3: 'A 3 99999999999' is no line of a case"),
+        ("CASE 1 0 0|A 3 0600|W 3", "line 3: 'A 3 0600' is no line of a case"),
+        ("CASE 4294967296 0 0|L 1", "line 2: 4294967296 is no number of a vehicle"),
+        ("CASE 1 0 101|L 1", "line 2: a route has at most 100 stops"),
+        ("CASE 1 0 0|A 0 600|W 0", "line 3: a line A does not raise visit 0"),
+        ("CASE 1 0 0|T 1 600|W 1", "line 3: a line T does not raise visit 1"),
+        ("CASE 1 0 0|A 4 600|W 4", "line 3: the route of van 1 has no visit 4 here"),
+        ("CASE 1 0 0|L 3", "line 3: the route of van 1 has no visit 3 here"),
+        ("CASE 1 0 0|S", "line 3: a route of 2 stops is not longer than 100"),
+        ("CASE 1 0 0|L 1|CASE 1 0 1|L 1", "line 6: the case 1 1 of van 1 is missing here"),
+        ("CASE 1 0 1|L 1|CASE 1 1 1|L 1", "line 2: the case 0 0 of van 1 is missing here"),
+        ("CASE 1 0 0|L 1|CASE 1 0 0|L 1", "line 4: van 1 has this case already"),
+        ("CASE 2 0 0|L 1|CASE 1 0 0|L 1", "line 4: van 1 comes after van 2"),
+        ("CASE 1 0 0|L 1|W 3", "line 4: 'W 3' opens no case"),
+        ("CASE 1 0 0|CASE 2 0 0|L 1", "line 3: 'CASE 2 0 0' is no line of a case"),
+        ("CASE 1 0 0|F 1 3", "line 4: the case before has no end"),
+    ],
+)
+def test_what_no_right_log_has_is_refused_by_its_line(lines: str, said: str) -> None:
+    ran = run("-", text="\n".join(["AUDIT 1", *lines.split("|"), "DONE", ""]))
+    assert (ran.returncode, ran.stdout, len(ran.stderr.splitlines())) == (2, "", 1), ran
+    assert ran.stderr.startswith(f"bin/why: the text is no log of a refusal: {said}"), ran.stderr
+
+
+WORDS = "EST5EDT,M3.2.0,M11.1.0 KEY 7 2025-03-11 540 2 3 none 0 0".split()
+
+
+def desk_that(folder: Path, says: str, status: int) -> str:
+    """A program in the place of the desk: it keeps its words, and says this of each log."""
+    program = folder / "desk"
+    program.write_text(
+        f'#!/bin/sh\nprintf "%s\\n" "$@" >{folder}/words\ncat "$2" >{folder}/log\necho "{says}"\nexit {status}\n'
+    )
+    program.chmod(0o755)
+    return str(program)
+
+
+def copy_in(folder: Path) -> str:
+    """A copy with van 1 alone."""
+    with sqlite3.connect(folder / "copy.db") as database:
+        database.execute("CREATE TABLE vehicles (id, from_day, days, closes)")
+        database.execute("INSERT INTO vehicles VALUES (1, 0, 127, 490)")
+    return str(folder / "copy.db")
+
+
+@pytest.mark.parametrize("language, said", [("en", "Checked by"), ("es", "Verificado por")])
+def test_a_log_that_desk_audit_accepts_is_said_to_be_checked(
+    language: str, said: str, tmp_path: Path
+) -> None:
+    desk, copy = desk_that(tmp_path, "yes", 0), copy_in(tmp_path)
+    words = ["-", "--copy", copy, "--question", *WORDS, "--language", language]
+    installed = {**os.environ, "PATH": f"{tmp_path}:{os.environ['PATH']}"}
+    for more, env in (["--desk", desk], None), ([], installed):
+        ran = subprocess.run(
+            [TOP / "bin/why", *words, *more], input=EXAMPLE, capture_output=True, text=True, env=env
+        )
+        assert ran.returncode == 0 and f"\n\n{said} `desk audit`" in ran.stdout, ran
+        asked = (tmp_path / "words").read_text().split("\n")
+        assert (asked[0], asked[2:-1]) == ("audit", [copy, *WORDS])
+        assert (tmp_path / "log").read_text() == EXAMPLE and not Path(asked[1]).exists()
+    page = tmp_path / "why.html"
+    run(*words, "--desk", desk, "--html", str(page), text=EXAMPLE)
+    assert f"<strong>{said} `desk audit`" in page.read_text("utf-8")
+
+
+@pytest.mark.parametrize("language, said", [("en", "Not checked: "), ("es", "Sin verificar: ")])
+def test_a_log_that_nobody_checked_is_said_to_be_so(
+    language: str, said: str, tmp_path: Path
+) -> None:
+    page = tmp_path / "why.html"
+    assert f"\n\n{said}" in run("-", "--language", language, text=EXAMPLE).stdout
+    run("-", "--language", language, "--html", str(page), text=EXAMPLE)
+    assert f"<strong>{said}" in page.read_text("utf-8")
+
+
+@pytest.mark.parametrize(
+    "says, status, said",
+    [
+        ("no", 1, "`desk audit` says no: the log does not show"),
+        ("37.131(b)", 1, "`desk audit` says 37.131(b)"),
+        ("fault 50 row 3", 4, "`desk audit` says fault 50 row 3"),
+        ("yes", 1, "`desk audit` says yes"),
+        ("", 7, "`desk audit` says nothing, and ends with status 7"),
+    ],
+)
+def test_a_log_that_desk_audit_does_not_accept_has_no_sentences(
+    says: str, status: int, said: str, tmp_path: Path
+) -> None:
+    words = ["-", "--copy", copy_in(tmp_path), "--question", *WORDS]
+    ran = run(*words, "--desk", desk_that(tmp_path, says, status), text=EXAMPLE)
+    assert (ran.returncode, ran.stdout, len(ran.stderr.splitlines())) == (1, "", 1), ran
+    assert ran.stderr.startswith(f"bin/why: {said}")
+
+
+def test_words_that_check_nothing_are_refused(tmp_path: Path) -> None:
+    copy, question = ["--copy", copy_in(tmp_path)], ["--question", *WORDS]
+    wrong_day = ["--question", *WORDS[:3], "tomorrow", *WORDS[4:]]
+    for words, said in (
+        (["--desk", "/bin/true"], "--question, which is missing"),
+        (question, "--copy goes with --day or --question"),
+        (copy, "--copy goes with --day or --question"),
+        ([*copy, *wrong_day], "'tomorrow' is no day"),
+        ([*copy, *question, "--day", "2025-03-12"], "and --question has 2025-03-11"),
+        ([*copy, *question, "--desk", "/no/desk"], "/no/desk is no program that runs"),
+    ):
+        ran = run("-", *words, text=EXAMPLE)
+        assert (ran.returncode, ran.stdout) == (2, "") and said in ran.stderr, ran
+    bare = {**os.environ, "PATH": "/usr/bin:/bin"}
+    words = [TOP / "bin/why", "-", *copy, *question]
+    ran = subprocess.run(words, input=EXAMPLE, capture_output=True, text=True, env=bare)
+    assert ran.returncode == 2 and "no desk is installed here" in ran.stderr, ran
+
+
+def test_minutes_of_later_days_say_so() -> None:
+    assert clock(1_439, "en") == "11:59 PM" and clock(1_440, "en") == "12:00 AM of the next day"
+    assert clock(2_880 + 61, "en") == "1:01 AM, 2 days later"
+    assert clock(2_880 + 61, "es") == "1:01 a. m., 2 días después"
 
 
 def test_other_files_are_named(tmp_path: Path) -> None:
@@ -148,14 +278,15 @@ def logs(draw: st.DrawFn) -> str:
         stops = draw(st.integers(0, 3))
         for pickup in range(stops + 1):
             for drop in range(pickup, stops + 1):
-                visit = draw(st.integers(0, stops + 3))
+                visit = draw(st.integers(1, stops + 3))
                 day = [f"T 0 {draw(st.integers(1, 1500))}"] if draw(st.booleans()) else []
                 lines += [
                     f"CASE {vehicle} {pickup} {drop}",
                     *day,
                     f"A {visit} {draw(st.integers(0, 1500))}",
                 ]
-                lines.append(draw(st.sampled_from([f"W {visit}", f"L {visit}", f"M {visit}", "S"])))
+                full = min(visit, stops + 2)
+                lines.append(draw(st.sampled_from([f"W {visit}", f"L {full}", f"M {full}"])))
     return "\n".join([*lines, "DONE", ""])
 
 

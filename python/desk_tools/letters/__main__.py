@@ -9,11 +9,10 @@ lines of 40 cells. The exit status is 0 where the file is written, 1 where it ca
 """
 
 import argparse
-import os
 import sys
 from pathlib import Path
 
-from desk_tools import ending
+from desk_tools import ending, whole_file
 from desk_tools.letters import asking, forms
 from desk_tools.letters.forms import NoForm
 
@@ -76,19 +75,11 @@ def content_of(words: argparse.Namespace) -> bytes:
     return made(paragraphs, language).encode()
 
 
-def written(path: Path, content: bytes) -> None:
-    """Writes a file whole; whoever may not read the letter reads nothing of it."""
-    new = path.with_name(f".{path.name}.new")
-    with open(os.open(new, os.O_WRONLY | os.O_CREAT | os.O_TRUNC, 0o600), "wb") as file:
-        file.write(content)
-    os.replace(new, path)
-
-
 def main(arguments: list[str]) -> int:
     """Runs the command."""
     words = words_of(arguments)
     try:
-        written(words.output, content_of(words))
+        whole_file.written(words.output, content_of(words))
         return 0
     except NoForm as error:
         print(f"bin/letters: {error}", file=sys.stderr)

@@ -38,6 +38,9 @@ TEXTS: dict[str, dict[str, str]] = {
         "load": "it would have too few seats or wheelchair places at some stop",
         "no-road": "the driving times have no way on from some stop",
         "length": "its day would have too many stops",
+        "later": "{clock}, {days} days later",
+        "checked": "Checked by `desk audit`: it says yes to this log.",
+        "not-checked": "Not checked: `desk audit` was not asked. It alone decides whether this log is right.",
         "not-said": "What this does not say",
         "not-said-1": "It keeps every stop that is planned in its van and in its order. It does not say "
         "whether another plan of the day would have had room.",
@@ -64,6 +67,9 @@ TEXTS: dict[str, dict[str, str]] = {
         "load": "le faltarían asientos o espacios para silla de ruedas en alguna parada",
         "no-road": "la tabla de recorridos no tiene camino desde alguna parada",
         "length": "su día tendría demasiadas paradas",
+        "later": "{clock}, {days} días después",
+        "checked": "Verificado por `desk audit`: dice que este registro es correcto.",
+        "not-checked": "Sin verificar: no se preguntó a `desk audit`. Solo él decide si este registro es correcto.",
         "not-said": "Lo que esto no dice",
         "not-said-1": "Deja cada parada planeada en su van y en su orden. No dice si otro plan del día habría tenido lugar.",
         "not-said-2": "No mira otra hora, ni una van que no estaba en servicio.",
@@ -76,10 +82,11 @@ TEXTS: dict[str, dict[str, str]] = {
 def clock(minute: int, language: str) -> str:
     """A minute of the day on a clock of twelve hours; one after midnight says so."""
     half = ("AM", "PM") if language == "en" else ("a. m.", "p. m.")
-    later = (
-        {"en": " of the next day", "es": " del día siguiente"}[language] if minute >= 1440 else ""
-    )
-    return f"{minute // 60 % 12 or 12}:{minute % 60:02} {half[minute % 1440 >= 720]}{later}"
+    time = f"{minute // 60 % 12 or 12}:{minute % 60:02} {half[minute % 1440 >= 720]}"
+    if minute >= 2880:
+        return TEXTS[language]["later"].format(clock=time, days=minute // 1440)
+    later = {"en": " of the next day", "es": " del día siguiente"}[language]
+    return f"{time}{later if minute >= 1440 else ''}"
 
 
 def sentences(refusal: Refusal, facts: Facts, language: str) -> str:
