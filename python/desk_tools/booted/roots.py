@@ -25,7 +25,7 @@ MASKED = (
     "systemd-resolved.service apt-daily.timer apt-daily-upgrade.timer e2scrub_all.timer e2scrub_reap.service"
 ).split()
 TOOLS = ("mmdebstrap", "systemd-nspawn", "nsenter", "unshare", "ip", "dpkg-deb")
-KEPT = Path("~/.cache/desk-booted").expanduser()
+KEPT = Path(os.environ.get("DESK_BOOTED") or "~/.cache/desk-booted").expanduser()
 # A root is made once a day, and on a machine under load that takes many minutes.
 SECONDS_TO_MAKE, SECONDS_TO_CLEAN, SECONDS_KEPT = 1_800, 30, 86_400
 MAKING = "making-"
