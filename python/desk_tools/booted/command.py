@@ -146,7 +146,7 @@ def try_all(told: argparse.Namespace, folder: Path, checks: Checks) -> None:
         made = beside.submit(package_for, told, folder / "packages")
         roots.archive()
         package = made.result()
-    end_in_time(MOST_OF_ALL if told.all else MOST)
+    end_in_time(MOST_OF_ALL if told.all or told.only else MOST)
     parts = parts_of(told)
     if parts:
         checks.step("a root of Debian")
