@@ -1,11 +1,12 @@
 """The desk asked by a key of a file, also through the site."""
+import os
 import types
 
 from . import keys  # noqa: F401  (it leads to the package `moving`)
 from moving.desk import Caller, Line
 
 # How many seconds a desk that is down, or a site that is asked too much, is waited for.
-PATIENCE = 60
+PATIENCE = int(os.environ.get("PATIENCE_OF_LINE") or 60)
 
 
 def line_to(url, certificate=None):

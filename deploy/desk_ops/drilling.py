@@ -101,6 +101,8 @@ def fetched(where, shell, name, folder, identity):
     plain = f"{folder}/{name.removesuffix('.age').removesuffix('.gpg')}"
     words = elsewhere.opening_words(name, identity, path, plain)
     if words:
+        if missing := elsewhere.missing_tool(words):
+            raise Failure(f"{name} is encrypted, and {missing}")
         ran(words, f"{name} could not be decrypted by this key")
     return plain
 

@@ -126,8 +126,8 @@ def sealed(seal, path, folder):
     """The path of the copy that goes away: encrypted, where there is a key."""
     if not seal:
         return path, os.path.basename(path)
-    if not shutil.which(seal.words[0]):
-        raise Failure(f"{seal.words[0]} is not installed: apt install {'gnupg' if seal.end == '.gpg' else 'age'}")
+    if missing := rules.missing_tool(seal.words):
+        raise Failure(missing)
     name = os.path.basename(path) + seal.end
     target = pathlib.Path(folder, name)
     ran = subprocess.run(seal.sealing(pathlib.Path(path), target), stdin=subprocess.DEVNULL, capture_output=True, text=True,

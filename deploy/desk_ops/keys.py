@@ -5,9 +5,10 @@ import os
 import sqlite3
 import stat
 import sys
+import tempfile
 
 from . import typed  # noqa: F401  (it leads to the package `desk_tools`)
-from .copying import check_folder_of
+from .copying import check_folder_of, synced
 from .ending import WRONG_WORDS, Failure
 
 ABOVE = os.path.dirname(os.path.dirname(os.path.realpath(__file__)))
@@ -52,13 +53,24 @@ def key_made_or_in(path):
     """The key of a file, which is made where it is not there, and is on the disk before anybody is given the key."""
     if not os.path.exists(path):
         check_folder_of(path)
-        descriptor = os.open(path, os.O_WRONLY | os.O_CREAT | os.O_EXCL, 0o600)
+        make_key(path)
+    return key_in(path)
+
+
+def make_key(path):
+    """A new key in a file, which has its name only once it is whole. Where another one was made meanwhile, that one counts."""
+    folder = os.path.dirname(os.path.abspath(path))
+    descriptor, part = tempfile.mkstemp(prefix=".key-", dir=folder)
+    try:
         with open(descriptor, "w", encoding="ascii") as file:
-            os.fchmod(descriptor, 0o600)
             file.write(moving_keys.made() + "\n")
             file.flush()
             os.fsync(descriptor)
-    return key_in(path)
+        with contextlib.suppress(FileExistsError):
+            os.link(part, path)
+    finally:
+        os.remove(part)
+    synced(folder)
 
 
 @contextlib.contextmanager

@@ -1,8 +1,9 @@
-"""The lock by which one process alone has a database, as the desk and SQLite take it."""
+"""Locks: that of a database, as the desk and SQLite take it, and that of a folder, which one script alone works in."""
 import contextlib
 import fcntl
 import os
 import struct
+import time
 
 from .ending import Failure
 
@@ -31,3 +32,33 @@ def locked(path):
         except OSError:
             raise Failure(f"another process has {path}: stop the desk first") from None
         yield
+
+
+@contextlib.contextmanager
+def alone(folder, patience, why):
+    """Only one process at a time has the folder's lock; one waits so many seconds for it."""
+    line, end = os.open(folder, os.O_RDONLY | os.O_DIRECTORY), time.monotonic() + patience
+    try:
+        while True:
+            try:
+                fcntl.flock(line, fcntl.LOCK_EX | fcntl.LOCK_NB)
+                break
+            except BlockingIOError:
+                if time.monotonic() >= end:
+                    raise Failure(why) from None
+                time.sleep(0.2)
+        yield
+    finally:
+        os.close(line)
+
+
+def is_held(folder):
+    """Whether a process has the folder's lock."""
+    line = os.open(folder, os.O_RDONLY | os.O_DIRECTORY)
+    try:
+        fcntl.flock(line, fcntl.LOCK_SH | fcntl.LOCK_NB)
+        return False
+    except BlockingIOError:
+        return True
+    finally:
+        os.close(line)

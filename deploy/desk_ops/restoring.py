@@ -13,12 +13,15 @@ from .content import check_whole, content_of, content_of_pair
 from .copying import check_copy, check_room, copied, folder_within, size_of, summed, synced
 from .ending import WRONG_WORDS, Failure, pass_over_signals
 from .judge import judge_or_migrate, migrated
+from .locking import alone
 from .places import program_to_start
 from .zones import check_zone
 
 EMPTY_LOG = 41
 # The new file, what the desk opens and throws away, and what SQLite writes as it goes.
 COPIES = 3
+# So many seconds it waits for another script that works in the folder.
+PATIENCE = 2
 
 
 def check_backup(copy):
@@ -87,6 +90,12 @@ class Restore:
         if not os.path.isdir(self.desk.folder):
             raise Failure(f"there is no folder {self.desk.folder}: set the machine up first, as README.md says")
         check_zone(self.desk)
+        with alone(self.desk.folder, PATIENCE, f"somebody else has {self.desk.folder} at this moment, for a restore or for a "
+                   "copy: nothing was changed"):
+            self.prepare_and_replace()
+        return self
+
+    def prepare_and_replace(self):
         check_room(self.desk.folder, COPIES * size_of(self.copy), "restoring this backup")
         program = program_to_start(self.desk.process())
         before = os.umask(0o077)
@@ -96,7 +105,6 @@ class Restore:
                 self.replace(file)
         finally:
             os.umask(before)
-        return self
 
     def replace(self, file):
         """The part in which the office is without the desk."""

@@ -6,7 +6,6 @@ serves. Who opens the desk holds the lock of `copies/` meanwhile. `opening.py` h
 """
 import contextlib
 import datetime
-import fcntl
 import hashlib
 import json
 import os
@@ -20,6 +19,7 @@ from .content import check_whole, content_of, summary_of_pair
 from .copying import check_copy, copied, folder_within, give_name, synced
 from .ending import WRONG_WORDS, Failure, sentence_of
 from .judge import judge
+from .locking import alone, is_held
 from .places import program_to_start
 from .retention import copies_in, kept_of, name_after
 
@@ -93,36 +93,6 @@ def digest_of(path):
         while piece := file.read(1 << 20):
             total.update(piece)
     return total.hexdigest()
-
-
-@contextlib.contextmanager
-def alone(folder, patience, why):
-    """Only one process at a time has the folder's lock; one waits so many seconds for it."""
-    line, end = os.open(folder, os.O_RDONLY | os.O_DIRECTORY), time.monotonic() + patience
-    try:
-        while True:
-            try:
-                fcntl.flock(line, fcntl.LOCK_EX | fcntl.LOCK_NB)
-                break
-            except BlockingIOError:
-                if time.monotonic() >= end:
-                    raise Failure(why) from None
-                time.sleep(0.2)
-        yield
-    finally:
-        os.close(line)
-
-
-def is_held(folder):
-    """Whether a process has the folder's lock."""
-    line = os.open(folder, os.O_RDONLY | os.O_DIRECTORY)
-    try:
-        fcntl.flock(line, fcntl.LOCK_SH | fcntl.LOCK_NB)
-        return False
-    except BlockingIOError:
-        return True
-    finally:
-        os.close(line)
 
 
 # On the first machine.

@@ -46,6 +46,8 @@ def decrypted(path, folder, identity):
         raise Failure(str(wrong)) from None
     if not words:
         return path
+    if missing := elsewhere.missing_tool(words):
+        raise Failure(f"{path} is encrypted, and {missing}")
     ran = subprocess.run(words, capture_output=True, text=True, stdin=subprocess.DEVNULL, check=False)
     if ran.returncode:
         raise Failure(f"{path} could not be decrypted by this key: {' '.join(ran.stderr.split())[:200]}")

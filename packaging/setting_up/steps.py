@@ -32,6 +32,9 @@ def make_file(changes):
         run(f"{TOP}/deploy/new-desk", KEYS, env={**os.environ, "DESK": PROGRAM, "FILE": FILE})
     found = []
     for name in sorted(os.listdir(KEYS), key=len) if os.path.isdir(KEYS) else []:
+        # (what begins with a dot is a key that a killed setup did not finish)
+        if name.startswith("."):
+            continue
         with open(f"{KEYS}/{name}", encoding="ascii") as file:
             found.append((name, file.read().strip()))
     return found

@@ -4,7 +4,8 @@ import dataclasses
 import datetime
 import pathlib
 import re
-from collections.abc import Iterable
+import shutil
+from collections.abc import Iterable, Sequence
 
 NONE_YET = "none yet"
 # The night's backup, and what a new machine needs beside it, as desk-backup.service names them.
@@ -123,6 +124,14 @@ def seal_of(recipient: str | None) -> Seal | None:
         key,
     )
     return Seal(".gpg", (*words, "--encrypt", "--output"))
+
+
+def missing_tool(words: Sequence[str]) -> str | None:
+    """What to say where the program of a command is not installed; None where it is."""
+    if shutil.which(words[0]):
+        return None
+    package = "gnupg" if words[0] == "gpg" else words[0]
+    return f"{words[0]} is not installed: apt install {package}"
 
 
 def opening_words(name: str, identity: str | None, source: str, target: str) -> list[str] | None:

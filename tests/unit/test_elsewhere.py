@@ -90,3 +90,11 @@ def test_zones(named: dict[str, str], rules: dict[str, str], said: str | None) -
     found = zones.difference(named, rules)
     assert (found is None) == (said is None)
     assert said is None or said in str(found)
+
+
+def test_a_tool_that_is_not_installed() -> None:
+    """The package to install is named; gpg is in gnupg."""
+    assert elsewhere.missing_tool(["sh", "-c", "true"]) is None
+    assert elsewhere.missing_tool(["no-such-age"]) == (
+        "no-such-age is not installed: apt install no-such-age"
+    )

@@ -6,8 +6,8 @@ Without --all one machine is set up, sees a night and is upgraded. With it the r
 its removal and purge; two machines with a line between them change over and back while clients write, a third comes
 back from the copies of a lost disk, and keys are stolen, all by the commands of the installed documents.
 
-Each machine is a root of Debian 12 (mmdebstrap, kept in ~/.cache/desk-booted for a day), run by systemd-nspawn with a
-network of its own. Where this machine cannot boot one, that is said and nothing is counted. Whatever happens, the
+Each machine is a root of Debian 12, run by systemd-nspawn with a network of its own. mmdebstrap makes the root, which is
+kept in ~/.cache/desk-booted for a day; DESK_BOOTED names another folder. Where none can be made, an older one counts. Where this machine cannot boot one, that is said and nothing is counted. Whatever happens, the
 machines end, after some minutes at the latest. The last line is 'N passed, M failed', and the exit status 1 where
 something failed.
 """
@@ -65,8 +65,8 @@ SLOW: dict[str, Callable[[Town], None]] = {
 LAST: dict[str, Callable[[Town], None]] = {"removing": removing.check}
 # On a machine of its own, by --all.
 SETUPS, TWO = "setups", "two"
-# After so many seconds all is ended and counts as failed.
-MOST, MOST_OF_ALL = 600, 2_400
+# After so many seconds all is ended and counts as failed. The package and the root are made before that time begins.
+MOST, MOST_OF_ALL, MOST_TO_MAKE = 600, 3_600, 600
 PREFIX = "desk-booted-"
 
 
@@ -140,11 +140,13 @@ def package_for(told: argparse.Namespace, folder: Path) -> Path:
 def try_all(told: argparse.Namespace, folder: Path, checks: Checks) -> None:
     """Each part that is asked for."""
     checks.step("a package, and what roots are made of")
+    end_in_time(roots.SECONDS_TO_MAKE + MOST_TO_MAKE)
     (folder / "packages").mkdir()
     with ThreadPoolExecutor(1) as beside:
         made = beside.submit(package_for, told, folder / "packages")
         roots.archive()
         package = made.result()
+    end_in_time(MOST_OF_ALL if told.all or told.only else MOST)
     parts = parts_of(told)
     if parts:
         checks.step("a root of Debian")
@@ -173,7 +175,6 @@ def main(arguments: list[str]) -> int:
     if missing:
         print(f"tests/booted: left out: all of it, for lack of {missing}")
         return checks.end()
-    end_in_time(MOST_OF_ALL if told.all else MOST)
     with place_for(told.keep) as folder:
         try:
             try_all(told, folder, checks)

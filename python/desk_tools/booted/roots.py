@@ -2,9 +2,11 @@
 
 from __future__ import annotations
 
+import contextlib
 import hashlib
 import os
 import shutil
+import signal
 import subprocess
 import time
 import uuid
@@ -23,8 +25,10 @@ MASKED = (
     "systemd-resolved.service apt-daily.timer apt-daily-upgrade.timer e2scrub_all.timer e2scrub_reap.service"
 ).split()
 TOOLS = ("mmdebstrap", "systemd-nspawn", "nsenter", "unshare", "ip", "dpkg-deb")
-KEPT = Path("~/.cache/desk-booted").expanduser()
-SECONDS_TO_MAKE, SECONDS_KEPT = 300, 86_400
+KEPT = Path(os.environ.get("DESK_BOOTED") or "~/.cache/desk-booted").expanduser()
+# A root is made once a day, and on a machine under load that takes many minutes.
+SECONDS_TO_MAKE, SECONDS_TO_CLEAN, SECONDS_KEPT = 1_800, 30, 86_400
+MAKING = "making-"
 
 
 class NoRoot(Exception):
@@ -53,6 +57,7 @@ def archive(packages: list[str] | None = None) -> Path:
     if path.exists() and time.time() - path.stat().st_mtime < SECONDS_KEPT:
         return path
     KEPT.mkdir(parents=True, exist_ok=True)
+    forget_unfinished()
     try:
         return made_archive(path, names)
     except NoRoot as reason:
@@ -62,25 +67,65 @@ def archive(packages: list[str] | None = None) -> Path:
         return path
 
 
+def forget_unfinished() -> None:
+    """Removes what trials left that were killed while they made a root."""
+    for room in KEPT.glob(f"{MAKING}*"):
+        if not Path(f"/proc/{room.name.removeprefix(MAKING)}").exists():
+            shutil.rmtree(room, ignore_errors=True)
+
+
 def made_archive(path: Path, names: list[str]) -> Path:
     """The archive, made now. Raises NoRoot where that fails; then an older one stays."""
-    made = path.with_suffix(f".{os.getpid()}.tar")
+    room = KEPT / f"{MAKING}{os.getpid()}"
+    shutil.rmtree(room, ignore_errors=True)
+    room.mkdir(mode=0o755)
+    made = room / path.name
     words = ["mmdebstrap", "--quiet", "--variant=minbase", "--skip=cleanup/apt/lists"]
     words += ["--dpkgopt=force-unsafe-io"]
     words += [f"--include={','.join(names)}", SUITE, str(made)]
     try:
-        ran = subprocess.run(
-            words, capture_output=True, text=True, check=False, timeout=SECONDS_TO_MAKE
-        )
-        if ran.returncode:
-            said = ran.stderr.strip().splitlines()
-            raise NoRoot(f"mmdebstrap failed: {said[-1] if said else ran.returncode}")
+        status, said = run_in(room, words, SECONDS_TO_MAKE)
+        if status:
+            raise NoRoot(f"mmdebstrap failed: {(said.splitlines() or [str(status)])[-1]}")
         made.rename(path)
     except subprocess.TimeoutExpired:
         raise NoRoot(f"mmdebstrap took longer than {SECONDS_TO_MAKE} seconds") from None
     finally:
-        made.unlink(missing_ok=True)
+        shutil.rmtree(room, ignore_errors=True)
     return path
+
+
+def run_in(room: Path, words: list[str], seconds: float) -> tuple[int, str]:
+    """Runs a command whose temporary files are in the room; its status, and what it said of errors.
+
+    Raises TimeoutExpired once it, and all that it started, has ended.
+    """
+    with open(room / "said", "w+", encoding="utf-8", errors="replace") as said:
+        with subprocess.Popen(
+            # (who ends this ends it too, whatever the way)
+            ["setpriv", "--pdeathsig", "TERM", *words],
+            stdin=subprocess.DEVNULL,
+            stdout=said,
+            stderr=said,
+            env={**os.environ, "TMPDIR": str(room)},
+            start_new_session=True,
+        ) as process:
+            try:
+                process.wait(seconds)
+            except BaseException:
+                end_group(process)
+                raise
+        said.seek(0)
+        return process.returncode, said.read().strip()
+
+
+def end_group(process: subprocess.Popen[bytes]) -> None:
+    """Ends a process and all of its group: first as one who asks, then at once."""
+    for number, seconds in (signal.SIGTERM, SECONDS_TO_CLEAN), (signal.SIGKILL, SECONDS_TO_CLEAN):
+        with contextlib.suppress(ProcessLookupError):
+            os.killpg(process.pid, number)
+        with contextlib.suppress(subprocess.TimeoutExpired):
+            process.wait(seconds)
 
 
 def unpacked(folder: Path, packages: list[str] | None = None) -> Path:

@@ -11,6 +11,7 @@ from desk_tools.booted.second import COPY, copies
 from desk_tools.booted.town import Town
 
 RUNNING, KEYS, COMMANDS = "RUNNING.md", "When something is wrong with a key", "The commands"
+ANOTHER = "Another key for the admin"
 RIDER, HIGHEST = 7, 4_294_967_295
 CLERK, RADIO, PANEL, MINE, WHEEL = "the clerk", "the radio", "the panel", "the rider", "the wheel"
 EACH_DAY = [1, 2, 3, 4, 5, 6, 7]
@@ -106,8 +107,9 @@ def make_town(town: Town) -> None:
     for number, wish in (1, 600), (2, 780):
         write(town, MINE, number, "/trips", trip(day + timedelta(days=1), wish))
     machine.run("cat >/etc/desk/roster.csv", stdin="rider,name,telephone\n7,Ana Lind,555-0107\n")
+    text = documents.block(machine, RUNNING, ANOTHER, "cat >/root/keys/1-admin")
     for name, key in ("1-admin", town.admin), ("clerk", CLERK):
-        machine.run(f"mkdir -p /root/keys && umask 077 && cat >/root/keys/{name}", stdin=f"{key}\n")
+        machine.run(documents.filled(text, {"1-admin": name}), stdin=f"{key}\n")
     machine.run(f"echo '127.0.0.1 {office.NAME}' >>/etc/hosts")
 
 
@@ -154,7 +156,6 @@ def check(town: Town) -> None:
             "CLERKS-KEYFILE": "/root/keys/clerk",
             f"/var/backups/desk/{COPY}": backup,
             "NUMBER": str(RIDER),
-            "riders-key": "/root/keys/riders-key",
         },
     )
     told = documents.play(machine, text, check=False)
@@ -182,7 +183,6 @@ def check(town: Town) -> None:
             f"/var/backups/desk/{COPY}": backup,
             "2025-03-11T18:30": f"{day}T00:00",
             "NUMBER": "6",
-            "drivers-key": "/root/keys/drivers-key",
         },
     )
     told = documents.play(machine, text, check=False)
