@@ -260,6 +260,8 @@ def other_part(walker: "Walker") -> Task:
 
 def appeal(walker: "Walker") -> Task:
     """Appeals a decision, by its letter."""
+    if not button(walker, "cases.appeal-own", "cases.appeal-for"):
+        yield from to_part(walker, "rider.letters", "clerk.file")
     if appeals := button(walker, "cases.appeal-own", "cases.appeal-for"):
         yield press(walker, appeals[0])
         if walker.look.dialog:
@@ -324,29 +326,6 @@ def at_the_stop(walker: "Walker") -> Task:
         yield press(walker, walker.choice.choice(found))
         if walker.look.dialog:
             yield walker.answer_dialog(0.8)
-
-
-LETTER = "The rider can reach each bus stop near the home, and each bus of these lines has a ramp."
-
-
-def decide(walker: "Walker") -> Task:
-    """Fills one of the forms of a case, and sends it."""
-    sends = [it for it in walker.look.controls if it.kind == "button" and it.submits and not it.off and it.form]
-    if not sends:
-        return
-    chosen = walker.choice.choice(sends)
-    for control in [it for it in walker.look.controls if it.form == chosen.form and it.name][:8]:
-        if control.type == "date":
-            yield choose(walker, control, walker.bookable()[walker.choice.randrange(14)])
-        elif control.kind == "text":
-            yield type_into(walker, control, LETTER if "eason" in control.name else str(walker.choice.randint(1, 5000)))
-        elif control.kind in ("checkbox", "radio") and walker.choice.random() < 0.4:
-            yield press(walker, control)
-    again = [it for it in walker.look.controls if it.kind == "button" and it.submits and it.name == chosen.name and not it.off]
-    if again and walker.choice.random() < 0.8:
-        yield press(walker, again[0])
-        if walker.look.dialog:
-            yield walker.answer_dialog(0.7)
 
 
 HARMLESS = ("button", "summary", "link", "checkbox", "radio", "list", "combo")

@@ -6,7 +6,7 @@ import random
 import re
 import time
 from collections.abc import Callable
-from dataclasses import dataclass, field
+from dataclasses import dataclass
 from typing import Any
 
 import people
@@ -15,7 +15,7 @@ from database import Trouble
 from middle import CROWDED, HALF, LOST, NO_MEMORY, NO_STORE, NONSENSE, UNHEARD
 from selenium.common.exceptions import WebDriverException
 
-from walk_parts import acts, asked, invariants, shown, speech
+from walk_parts import acts, asked, case_holding, invariants, shown, speech
 from walk_parts.acts import Act, Task
 from walk_parts.ledger import Ledger, Permit, Write
 from walk_parts.page import Control, Look, Page
@@ -39,8 +39,6 @@ class Window:
     holder: str
     role: str
     task: Task | None = None
-    denied: set[str] = field(default_factory=set)
-    loaded: float = 0.0
 
 
 class Walker:
@@ -62,6 +60,9 @@ class Walker:
         self.parts: set[str] = set()
         self.expected: dict[str, tuple[str, float]] = {}
         self.confirmed: tuple[Permit, int, str] | None = None
+        self.entry: tuple[str, int] | None = None
+        self.entered: tuple[Permit, int, str] | None = None
+        self.in_part: set[int] = set()
 
     # Who and where.
 
@@ -116,7 +117,7 @@ class Walker:
         if self.here.role == "rider" and self.choice.random() < 0.9:
             self.browser.script("sessionStorage.setItem('desk.subject.rider', arguments[0])", self.here.holder.split()[1])
             self.browser.reload()
-        self.here.task, self.here.denied = None, set()
+        self.here.task = None
         self.page.still()
         self.look = self.page.look()
         self.note_parts()
@@ -197,14 +198,19 @@ class Walker:
         if self.look.dialog:
             if any(words.is_text(name, it) for it in NO_ANSWERS):
                 self.ledger.revoke_armed(key)
+                self.entry = None
+                return
+            if case_holding.is_yes(self, name):
+                case_holding.confirm(self)
                 return
             if found := self.number_in(name, "booking.cancel-yes"):
                 self.ledger.give(Permit("cancel", key, step, trip=found))
             elif words.is_text(name, "booking.same-yes") or words.is_text(name, "booking.all-the-same") or words.is_text(name, "booking.change-yes"):
                 pass
             else:
-                self.ledger.give(Permit("form", key, step, path=r"/riders/\d+/entries|/riders|/trips/\d+/outcome|/vehicles|/callers|/trips/\d+/(change|cancel)"))
+                self.ledger.give(Permit("form", key, step, path=r"/riders|/trips/\d+/outcome|/vehicles|/callers|/trips/\d+/(change|cancel)"))
             return
+        case_holding.before_entry(self, name)
         if control.submits and words.is_text(name, "booking.book"):
             self.confirm(self.booking(key))
         elif control.submits and (found := self.number_in(name, "booking.change-of")):
@@ -217,7 +223,7 @@ class Walker:
             for permit in [it for it in self.ledger.permits if it.key == key and it.what in ("book", "change")][-3:]:
                 permit.armed = False
         elif control.submits or self.here.role == "driver":
-            self.ledger.give(Permit("form", key, step, path=r"/riders/\d+/entries|/riders|/trips/\d+/outcome|/vehicles|/callers|/policy|/places|/routes"))
+            self.ledger.give(Permit("form", key, step, path=r"/riders|/trips/\d+/outcome|/vehicles|/callers|/policy|/places|/routes"))
 
     def confirm(self, permit: Permit) -> None:
         """A form of a trip is sent: what comes of it is held against the replies from here on."""
@@ -393,7 +399,6 @@ class Walker:
         """Takes in what was written, and holds the page against the desk until it agrees or the patience is over."""
         self.take_writes()
         if self.look.loaded != loaded:
-            self.here.denied = set()
             self.note_parts()
         began = time.monotonic()
         while True:
@@ -412,6 +417,7 @@ class Walker:
             self.take_writes()
             self.look = self.page.look()
         self.legs(loaded)
+        case_holding.hold_entry(self, loaded)
         self.errors()
 
     def legs(self, loaded: float) -> None:
@@ -507,12 +513,16 @@ class Walker:
                 self.report.holds(rule)
         held("words", list(invariants.broken_words(look, self.words)))
         held("language", list(invariants.other_language(look, self.foreign)))
-        held("a sentence about the desk comes from a reply", list(invariants.denials_without_reply(look, self.here.denied, self.words)))
+        held("a sentence about the desk comes from a reply", list(invariants.denials_without_reply(look, self.denied(look.loaded / 1000), self.denied(0.0), self.words)))
         if act.by_key and look.loaded == loaded and look.signed_in and self.keeps_focus(act):
             held("focus", [] if look.focus else [f"the focus is nowhere after {act.words}"])
         if not self.offline and look.signed_in:
             found.extend(self.faults_of_lists())
         return found
+
+    def denied(self, since: float) -> set[str]:
+        """The denials that this window's key got from a moment on."""
+        return {it.denied for it in self.town.recorder.of_key(self.town.keys[self.here.holder], since) if it.denied}
 
     def keeps_focus(self, act: Act) -> bool:
         """Whether the focus was somewhere, and the keys do not lead beyond the ends of the page."""
@@ -535,6 +545,7 @@ class Walker:
             else:
                 self.report.holds("what is shown has an age")
         found.extend(self.faults_of_days(halves))
+        found.extend(case_holding.faults(self))
         card = self.browser.script(shown.CARD) if self.here.role == "clerk" and self.look.address.startswith("#clerk") else None
         if card and self.look.subject:
             standing = self.town.ask("third clerk", f"/riders/{self.look.subject}/standing/{self.town.today}")
@@ -569,9 +580,6 @@ class Walker:
         """Each write that the desk did was confirmed, and each denial is remembered with its key."""
         for it in self.town.recorder.since(self.recorded):
             self.recorded += 1
-            for window in self.windows:
-                if self.town.keys[window.holder] == it.key and it.denied:
-                    window.denied.add(it.denied)
             if it.is_write and it.denied and f"denials.{it.denied}" not in self.words.texts["en"]:
                 self.report.breaks("no denial without words", f"{it.path} is denied {it.denied}", self.here.role)
             if not it.is_done:
