@@ -27,11 +27,17 @@ def faults(walker: "Walker") -> Iterator[tuple[str, str, float]]:
     texts = walker.words.texts[language]
     for it in walker.browser.script(cases.LETTERS) if rider else []:
         if it["letters"] or it["says"] == texts["cases.letters-none"]:
-            yield from told(walker, AGE, cases.fault_of_letters(it, town.letters(rider), town.today, walker.words, language))
+            yield from told(walker, AGE, cases.fault_of_letters(it, town.letters(rider), appealed(walker, rider), town.today, walker.words, language))
     yield from said_as_done(walker)
     if walker.look.address.endswith("/waits") and walker.here.role in LIVE and (rows := walker.browser.script(cases.ROWS)):
         found = [cases.fault_of_lists(rows, text, LIVE[walker.here.role]) for text in town.worklists[-2:]]
         yield from told(walker, AGE, None if None in found else found[-1])
+
+
+def appealed(walker: "Walker", rider: int) -> set[int]:
+    """The letters against which this window's key has entered an appeal."""
+    taken = walker.town.recorder.of_key(walker.town.keys[walker.here.holder], 0.0)
+    return {it.fields["against"] for it in taken if it.is_done and it.path == f"/riders/{rider}/entries" and it.fields.get("entry") == "appeal"}
 
 
 def told(walker: "Walker", rule: str, fault: str | None) -> Iterator[tuple[str, str, float]]:

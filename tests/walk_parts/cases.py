@@ -20,7 +20,7 @@ LETTERS = HEAD + """
 return [...document.querySelectorAll(".card")].filter((it) => seen(it) && it.querySelector(":scope > ol.letters, :scope > [role=status]") && !it.querySelector(":scope > table, #standing-answer"))
     .map((card) => ({ age: plain(card.querySelector(":scope > .age")?.textContent), says: plain(card.querySelector(":scope > [role=status]")?.textContent),
         letters: [...card.querySelectorAll(":scope > ol.letters > li")].map((it) => ({ heading: plain(it.querySelector("h3")?.textContent), text: it.querySelector("pre")?.textContent ?? "",
-            whole: plain(it.innerText), parts: [...it.querySelectorAll(":scope > p")].map((one) => plain(one.textContent)) })) }));
+            whole: plain(it.innerText), offers: Boolean(it.querySelector(":scope > .row button.danger")), parts: [...it.querySelectorAll(":scope > p")].map((one) => plain(one.textContent)) })) }));
 """
 DONE = HEAD + """
 return [...[...document.querySelectorAll("details.entry[data-entry] p.good")].map((it) => [it.closest("details").dataset.entry, it]),
@@ -67,13 +67,15 @@ def fault_of_standing(shown: dict[str, Any], standing: dict[str, Any], words: Wo
     wanted = [("verdict", shown["verdict"].startswith("✓" if may else "✗")), ("reason", texts.get(f"cases.why-{kind}", "") in text),
               ("suspension", (texts["cases.suspended"] in text) == bool(standing["suspended"])),
               ("last day", not standing.get("until") or speech.day_of(standing["until"], language) in text)]
-    wanted += [("conditions", f"{int(it.split(':')[1]):,}" in text) for it in standing.get("conditions") or [] if it.startswith("farther:")]
+    several = standing.get("conditions") or []
+    wanted += [("choice of conditions", len(several) < 2 or (" or " if language == "en" else " o ") in text)]
+    wanted += [("conditions", f"{int(it.split(':')[1]):,}" in text) for it in several if it.startswith("farther:")]
     wrong = [name for name, holds in wanted if not holds]
     return f"the {' and '.join(wrong)} of a standing: {text[:240]!r}, and the desk has {standing}" if wrong else None
 
 
-def fault_of_letters(shown: dict[str, Any], letters: list[tuple[int, str]], today: str, words: Words, language: str) -> str | None:
-    """How the letters of a rider differ from the desk's, or None."""
+def fault_of_letters(shown: dict[str, Any], letters: list[tuple[int, str]], appealed: set[int], today: str, words: Words, language: str) -> str | None:
+    """How the letters of a rider differ from the desk's, or None. appealed are those that this browser's key has appealed."""
     if shown["age"]:
         return None
     got, wanted = [it["text"].strip() for it in shown["letters"]], [text.strip() for _, text in letters]
@@ -82,6 +84,8 @@ def fault_of_letters(shown: dict[str, Any], letters: list[tuple[int, str]], toda
     known = [lines_of(text) for _, text in letters]
     for at, (one, lines) in enumerate(zip(shown["letters"], known, strict=True)):
         fault = fault_of_letter(one, lines, known[at + 1:], today, words, language)
+        if not fault and letters[at][0] in appealed and one["offers"] and not any(it.get("DECISION") in ANSWERED for it in known[at + 1:]):
+            fault = "an appeal against it was entered here, and it may be entered again"
         if fault:
             return f"letter {letters[at][0]}: {fault}"
     return None

@@ -53,6 +53,18 @@ FAULTS = [
     Planted("a change that is denied says not booked", "screens/booking.js", "const heading = trip ? standsWords(trip) : t(", "const heading = t("),
     Planted("what broke is sent as something new", "parts/desk.js", "const reply = await post(pending.path, pending.body, pending.number);",
             "const reply = await post(pending.path, pending.body, pending.resent ? pending.number = takeNumber() : pending.number);"),
+    Planted("an appeal is said to be taken until another day", "screens/letters.js", "const lastDay = ({ date }) => plus(date, APPEAL_DAYS);",
+            "const lastDay = ({ date }) => plus(date, APPEAL_DAYS - 1);", role="examiner"),
+    Planted("the standing of a day is that of today", "screens/cases.js", "read: reading(desk.pathOf.standing(rider, day)) });", "read: reading(desk.pathOf.standing(rider, today())) });",
+            role="examiner"),
+    Planted("one condition or another is both", "screens/cases.js", "conditions: anyOf(conditions.map((it) => conditionInWords(it))) }), \" (49", "conditions: conditions.map((it) => conditionInWords(it)).join(\" and \") }), \" (49",
+            role="examiner"),
+    Planted("letters after an entry without one are not read", "screens/letters.js", "const WITHOUT_LETTER = 4;", "const WITHOUT_LETTER = 0;", role="examiner"),
+    Planted("a decision that is denied is said to be done", "screens/cases.js", "send: (given) => enter(rider, { entry, ...entryOf(given) }),",
+            "send: (given) => enter(rider, { entry, ...entryOf(given) }).then((it) => (it.denied === undefined ? it : /** @type {any} */ ({ value: { entered: 1 } }))),", role="officer"),
+    Planted("an entry is sent twice", "parts/entered.js", "    const reply = await desk.enter(rider, fields);", "    await desk.enter(rider, fields);\n    const reply = await desk.enter(rider, fields);", role="examiner"),
+    Planted("a filed appeal is offered again", "screens/letters.js", "const filed = appealedHere(letter, letters, entered);", "const filed = /** @type {any} */ (null) && appealedHere(letter, letters, entered);", role="rider"),
+    Planted("a list of what waits loses its last row", "screens/worklist.js", "rows: [...it.querySelectorAll(\"tbody tr\")].map(", "rows: [...it.querySelectorAll(\"tbody tr\")].slice(0, -1).map(", role="officer"),
     Planted("two sends of one form", "parts/fields.js", "        busy = true;\n        drawInto(box, []);", "        drawInto(box, []);"),
 ]
 

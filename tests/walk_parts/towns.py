@@ -7,6 +7,7 @@ import io
 import os
 import random
 import subprocess
+import time
 from typing import Any
 
 import people
@@ -64,6 +65,7 @@ class WalkTown(base.Town):
         self.numbers: dict[str, int] = {}
         self.last_minute = choice.choice([1439, 1439, 1380, 1425])
         self.tally_log = f"{folder}/tally.log"
+        self.ahead = 0
         self.worklists: list[str] = []
         self.known_letters: dict[int, list[tuple[int, str]]] = {}
 
@@ -201,12 +203,21 @@ class WalkTown(base.Town):
         with open(path, encoding="utf-8") as file:
             self.worklists.append(file.read())
 
-    def set_clock(self, day: str, hour: str = people.NOON) -> None:
-        """The town's clock; the night makes the list of what waits."""
-        is_new = day != self.today
-        super().set_clock(day, hour)
-        if is_new and self.worklists:
+    def now(self) -> datetime.datetime:
+        """What the town's clock shows."""
+        return datetime.datetime.fromtimestamp(time.time() + self.ahead, people.ZONE)
+
+    def goes_to(self, moment: datetime.datetime) -> None:
+        """The town's clock goes on from this moment. It runs, as clocks do: a page asks again after so many seconds of it. The night makes the list of what waits."""
+        self.ahead = round(moment.timestamp() - time.time())
+        with open(f"{self.desk.clock}.new", "w", encoding="ascii") as text:
+            text.write(f"{self.ahead:+d}\n")
+        # (a program that reads an empty file would believe the machine's clock)
+        os.replace(f"{self.desk.clock}.new", self.desk.clock)
+        if (day := self.now().date().isoformat()) != self.today or not self.worklists:
+            self.today = day
             self.write_worklist()
+            self.write_drivers_files()
 
     def tally_lines(self) -> list[str]:
         """The lines of the site's log of what it was told."""

@@ -1,6 +1,7 @@
 """Walks: windows with somebody at each, one act after another, and what has to hold after each of them."""
 
 import contextlib
+import datetime
 import os
 import random
 import re
@@ -25,6 +26,8 @@ from walk_parts.words import Words
 
 # Seconds after which a comparison counts, after which a list has to know what another device wrote, and a new day.
 PATIENCE, OUTSIDE, NEW_DAY = 10.0, 42.0, 55.0
+# The hour from which on the next thing that the clock does is to pass midnight.
+LATE = 20
 BREAKS = [LOST, UNHEARD, HALF, NO_MEMORY, NO_STORE, NONSENSE, CROWDED]
 RARE = ("suspended", "suspension appealed", "conditional", "presumed", "temporary")
 NO_ANSWERS = ("common.no-go-back", "common.no")
@@ -257,7 +260,6 @@ class Walker:
 
     def bookable(self) -> list[str]:
         """The days for which trips are taken today."""
-        import datetime
         today = datetime.date.fromisoformat(self.town.today)
         return [(today + datetime.timedelta(days=it)).isoformat() for it in range(1, 15)]
 
@@ -312,16 +314,12 @@ class Walker:
 
     def time_passes(self, midnight: bool) -> None:
         """The town's clock goes on: by some hours, or beyond midnight."""
-        import datetime
-        self.minute = getattr(self, "minute", 720)
+        now, more = self.town.now(), self.choice.choice([10, 60, 200])
         self.grace = time.monotonic() + NEW_DAY
-        if midnight or self.minute > 1200:
-            day = (datetime.date.fromisoformat(self.town.today) + datetime.timedelta(days=1)).isoformat()
-            self.minute = 5
-            self.town.set_clock(day, "00:05")
+        if midnight or now.hour >= LATE:
+            self.town.goes_to((now + datetime.timedelta(days=1)).replace(hour=0, minute=5))
         else:
-            self.minute += self.choice.choice([10, 60, 200])
-            self.town.set_clock(self.town.today, f"{self.minute // 60:02}:{self.minute % 60:02}")
+            self.town.goes_to(now + datetime.timedelta(minutes=more))
 
     def outside(self) -> None:
         """Another device cancels or books a trip of the rider who is shown, beside the site."""
