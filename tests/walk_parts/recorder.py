@@ -82,8 +82,8 @@ class Recorder(Middle):
         return whole
 
     def asked(self, request: bytes) -> bytes:
-        """The desk's own reply."""
-        whole: bytes = super().asked(request)
+        """The desk's own reply, which is kept."""
+        whole = self.passed_on(request)
         head, _, body = request.partition(b"\r\n\r\n")
         reply_head, _, reply_body = whole.partition(b"\r\n\r\n")
         words = head.split(b" ", 2)
@@ -97,6 +97,11 @@ class Recorder(Middle):
                 object_in(reply_body) if b"application/json" in reply_head else {}, "", time.time())
             with self.lock:
                 self.exchanges.append(kept)
+        return whole
+
+    def passed_on(self, request: bytes) -> bytes:
+        """The desk's own reply."""
+        whole: bytes = super().asked(request)
         return whole
 
     def since(self, at: int) -> list[Exchange]:

@@ -28,6 +28,8 @@ from walk_parts.words import Words
 PATIENCE, OUTSIDE, NEW_DAY = 10.0, 42.0, 55.0
 # The hour from which on the next thing that the clock does is to pass midnight.
 LATE = 20
+# Steps after which a walk that ends at its first breach holds what was counted against the log.
+OFTEN = 40
 BREAKS = [LOST, UNHEARD, HALF, NO_MEMORY, NO_STORE, NONSENSE, CROWDED]
 RARE = ("suspended", "suspension appealed", "conditional", "presumed", "temporary")
 NO_ANSWERS = ("common.no-go-back", "common.no")
@@ -334,12 +336,14 @@ class Walker:
     # The loop.
 
     def walk(self, steps: int, until: float, first: bool = False) -> None:
-        """So many steps, or as many as there is time for."""
+        """So many steps, or as many as there is time for. Where the first breach ends it, counts are held against the log every now and then."""
         self.open_window(self.roles[0])
         while self.number < steps and time.monotonic() < until and not (first and self.report.breaches):
             self.number += 1
             self.choice = random.Random(f"{self.report.seed} {self.number}")
             self.one_step()
+            if first and self.number % OFTEN == 0 and not self.report.breaches:
+                self.at_the_end()
         self.at_the_end()
 
     def one_step(self) -> None:
@@ -599,8 +603,13 @@ class Walker:
         with contextlib.suppress(WebDriverException):
             for line in self.browser.driver.get_log("browser"):
                 if line["level"] == "SEVERE" and line["source"] not in ("network", "recommendation") \
-                        and not any(re.search(it, line["message"]) for it in IGNORED):
+                        and not any(re.search(it, line["message"]) for it in IGNORED) and not self.is_said(line["message"]):
                     self.report.breaks("no error in the console", line["message"][:400], self.here.role)
+
+    def is_said(self, message: str) -> bool:
+        """Whether an error is that of a file which did not come over a broken line, and the page says so."""
+        said = self.words.texts[self.look.language]["common.not-loaded"]
+        return bool(self.offline) and "Failed to fetch dynamically imported module" in message and self.look.shows(said)
 
     def at_the_end(self) -> None:
         """What was counted is in the site's log, and nothing waits."""
@@ -609,16 +618,17 @@ class Walker:
         self.town.recorder.planned.clear()
         for window in self.windows:
             self.leaves_form(window)
-        end = time.monotonic() + 4 * PATIENCE
+        expected, end = self.expected, time.monotonic() + 4 * PATIENCE
         while True:
             lines = self.town.tally_lines()
             missing = [what for what in self.expected if not any(all(part in line for part in what.split(" ")) for line in lines)]
             if not missing or time.monotonic() > end:
                 break
             time.sleep(0.5)
+        found, self.expected = len(self.expected) - len(missing), {}
         for what in missing:
-            self.report.breaks("what is counted is counted", f"{what} ({self.expected[what][0]}) is not in the site's log", "any")
-        self.report.holds("what is counted is counted", len(self.expected) - len(missing))
+            self.report.breaks("what is counted is counted", f"{what} ({expected[what][0]}) is not in the site's log", "any")
+        self.report.holds("what is counted is counted", found)
         self.nothing_waits()
 
     def leaves_form(self, window: Window) -> None:
