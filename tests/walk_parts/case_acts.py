@@ -32,7 +32,7 @@ def fitting_rider(walker: "Walker", kind: str) -> int:
     """The number of a rider in whose case such an entry is due; at times any other's."""
     if walker.choice.random() < 0.15:
         return walker.some_rider()[0]
-    if kind == "rest" and walker.in_part:
+    if kind in ("rest", "complete") and walker.in_part and walker.choice.random() < 0.7:
         return walker.choice.choice(sorted(walker.in_part))
     fits = [it.number for it in walker.town.riders if it.standing in FITS.get(kind, ("waits",))]
     return walker.choice.choice(fits) if fits else walker.some_rider()[0]

@@ -15,20 +15,23 @@ AGE = "what is shown has an age"
 # Lists of what waits that a reader has from the site's log in place of the night's list.
 LIVE = {"clerk": {"offers", "in-part"}, "dispatcher": {"offers"}, "examiner": {"in-part"}, "officer": set[str]()}
 PATIENCE = 10.0
+# The parts of screens that show a case.
+SCREENS = ("#clerk/file", "#examiner", "#officer", "#rider/standing", "#rider/letters")
 
 
 def faults(walker: "Walker") -> Iterator[tuple[str, str, float]]:
     """What a case shows otherwise than the desk has it. What agrees is counted."""
     rider, language, town = walker.look.subject, walker.look.language, walker.town
-    for it in walker.browser.script(cases.STANDINGS) if rider else []:
+    case = walker.browser.script(cases.CASE) if rider and walker.look.address.startswith(SCREENS) else {"standings": [], "letters": [], "done": []}
+    for it in case["standings"]:
         day = cases.first_day(it["verdict"], language)
         standing = town.ask("third clerk", f"/riders/{rider}/standing/{day}") if day else {"standing": "none", "suspended": False}
         yield from told(walker, AGE, cases.fault_of_standing(it, standing, walker.words, language) if day else f"a standing without a day: {it['verdict']!r}")
     texts = walker.words.texts[language]
-    for it in walker.browser.script(cases.LETTERS) if rider else []:
+    for it in case["letters"]:
         if it["letters"] or it["says"] == texts["cases.letters-none"]:
             yield from told(walker, AGE, cases.fault_of_letters(it, town.letters(rider), appealed(walker, rider), town.today, walker.words, language))
-    yield from said_as_done(walker)
+    yield from said_as_done(walker, case["done"])
     if walker.look.address.endswith("/waits") and walker.here.role in LIVE and (rows := walker.browser.script(cases.ROWS)):
         found = [cases.fault_of_lists(rows, text, LIVE[walker.here.role]) for text in town.worklists[-2:]]
         yield from told(walker, AGE, None if None in found else found[-1])
@@ -48,10 +51,10 @@ def told(walker: "Walker", rule: str, fault: str | None) -> Iterator[tuple[str, 
         walker.report.holds(rule)
 
 
-def said_as_done(walker: "Walker") -> Iterator[tuple[str, str, float]]:
+def said_as_done(walker: "Walker", done: list[list[str]]) -> Iterator[tuple[str, str, float]]:
     """What is said to be done was accepted since the page was loaded."""
     key, rider = walker.town.keys[walker.here.holder], walker.look.subject
-    for kind, text in walker.browser.script(cases.DONE):
+    for kind, text in done:
         entry = cases.ENTRIES.get(kind, kind)
         taken = [it for it in walker.town.recorder.of_key(key, walker.look.loaded / 1000)
                  if it.is_done and it.path == f"/riders/{rider}/entries" and it.fields.get("entry") == entry]
@@ -107,7 +110,7 @@ def hold_entry(walker: "Walker", loaded: float) -> None:
 def fault_of_entry(walker: "Walker", permit: Permit, at: int) -> str | None:
     """What is wrong of an entry that was confirmed, or None."""
     tries = [it for it in walker.town.recorder.since(at) if it.key == permit.key and it.path == f"/riders/{permit.rider}/entries" and it.fields.get("entry") == permit.entry]
-    says, denials = [kind for kind, _ in walker.browser.script(cases.DONE)], walker.browser.script(shown.FAULTS)
+    says, denials = [kind for kind, _ in walker.browser.script(cases.CASE)["done"]], walker.browser.script(shown.FAULTS)
     if not tries:
         return f"{permit} ({permit.path}) was confirmed, and nothing was asked"
     if any(it.is_done for it in tries):

@@ -12,19 +12,16 @@ HEAD = """
 const plain = (text) => (text ?? "").replace(/\\s+/g, " ").trim();
 const seen = (it) => it.checkVisibility({ visibilityProperty: true });
 """
-STANDINGS = HEAD + """
-return [...document.querySelectorAll("#standing-answer")].filter(seen).map((it) => ({ verdict: plain(it.querySelector(".verdict")?.textContent),
+CASE = HEAD + """
+const standings = [...document.querySelectorAll("#standing-answer")].filter(seen).map((it) => ({ verdict: plain(it.querySelector(".verdict")?.textContent),
     text: plain(it.querySelector(".standing")?.innerText), age: plain(it.closest(".card").querySelector(":scope > .age")?.textContent) })).filter((it) => it.verdict);
-"""
-LETTERS = HEAD + """
-return [...document.querySelectorAll(".card")].filter((it) => seen(it) && it.querySelector(":scope > ol.letters, :scope > [role=status]") && !it.querySelector(":scope > table, #standing-answer"))
+const letters = [...document.querySelectorAll(".card")].filter((it) => seen(it) && it.querySelector(":scope > ol.letters, :scope > [role=status]") && !it.querySelector(":scope > table, #standing-answer"))
     .map((card) => ({ age: plain(card.querySelector(":scope > .age")?.textContent), says: plain(card.querySelector(":scope > [role=status]")?.textContent),
         letters: [...card.querySelectorAll(":scope > ol.letters > li")].map((it) => ({ heading: plain(it.querySelector("h3")?.textContent), text: it.querySelector("pre")?.textContent ?? "",
             whole: plain(it.innerText), offers: Boolean(it.querySelector(":scope > .row button.danger")), parts: [...it.querySelectorAll(":scope > p")].map((one) => plain(one.textContent)) })) }));
-"""
-DONE = HEAD + """
-return [...[...document.querySelectorAll("details.entry[data-entry] p.good")].map((it) => [it.closest("details").dataset.entry, it]),
+const done = [...[...document.querySelectorAll("details.entry[data-entry] p.good")].map((it) => [it.closest("details").dataset.entry, it]),
     ...[...document.querySelectorAll("[id^=answer-letter-] p.good")].map((it) => ["appeal", it])].filter(([, it]) => seen(it)).map(([kind, it]) => [kind, plain(it.textContent)]);
+return { standings, letters, done };
 """
 ROWS = HEAD + """
 return [...document.querySelectorAll("main section[lang=en]")].filter((it) => it.closest("main") && it.querySelector("h2")).map((it) => ({ title: plain(it.querySelector("h2").textContent),

@@ -26,8 +26,8 @@ from walk_parts.words import Words
 
 # Seconds after which a comparison counts, after which a list has to know what another device wrote, and a new day.
 PATIENCE, OUTSIDE, NEW_DAY = 10.0, 42.0, 55.0
-# The hour from which on the next thing that the clock does is to pass midnight.
-LATE = 20
+# The hour from which on the next thing that the clock does is to pass midnight; and so many windows.
+LATE, MOST_WINDOWS = 20, 3
 # Steps after which a walk that ends at its first breach holds what was counted against the log.
 OFTEN = 40
 BREAKS = [LOST, UNHEARD, HALF, NO_MEMORY, NO_STORE, NONSENSE, CROWDED]
@@ -160,8 +160,10 @@ class Walker:
             return self.answer_dialog(0.75)
         if not self.look.signed_in:
             return Act("signs in", self.sign_in)
-        if self.number % 13 == 0 and (event := self.world()):
+        if self.number % 13 == 0 and (event := self.next_role() or self.world()):
             return event
+        if self.number % 13 == 6 and len(self.windows) > 1 and self.choice.random() < 0.6:
+            return self.another_window()
         if self.choice.random() < 0.06:
             for act in acts.anything(self):
                 return act
@@ -274,6 +276,18 @@ class Walker:
 
     # What happens around the windows.
 
+    def next_role(self) -> Act | None:
+        """The roles come one after another, each with a window of its own; somebody who is there by then goes on."""
+        if len(self.windows) >= min(MOST_WINDOWS, len(self.roles)):
+            return None
+        role = self.roles[len(self.windows)]
+        return Act(f"opens a window as {role}", lambda: self.open_window(role))
+
+    def another_window(self) -> Act:
+        """Somebody at another window goes on."""
+        other = self.choice.choice([it for it in self.windows if it is not self.here])
+        return Act(f"goes to the window of {other.holder}", lambda: self.go_to(other))
+
     def world(self) -> Act | None:
         """Something that nobody at this window does."""
         way = self.choice.choice(["reload", "back", "offline", "breaks", "breaks", "clock", "outside", "outside", "window", "window", "new window", "midnight"])
@@ -291,9 +305,8 @@ class Walker:
         if way == "outside":
             return Act("another device writes", self.outside)
         if way == "window" and len(self.windows) > 1:
-            other = self.choice.choice([it for it in self.windows if it is not self.here])
-            return Act(f"goes to the window of {other.holder}", lambda: self.go_to(other))
-        if way == "new window" and len(self.windows) < 3:
+            return self.another_window()
+        if way == "new window" and len(self.windows) < MOST_WINDOWS:
             role = self.choice.choice(self.roles)
             return Act(f"opens a window as {role}", lambda: self.open_window(role))
         return None
