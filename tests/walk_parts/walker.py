@@ -235,7 +235,11 @@ class Walker:
     def confirm(self, permit: Permit) -> None:
         """A form of a trip is sent: what comes of it is held against the replies from here on."""
         self.ledger.give(permit)
-        self.confirmed = (permit, self.town.recorder.count(), self.here.handle)
+        self.confirmed = (permit, self.town.recorder.count(), self.place())
+
+    def place(self) -> str:
+        """The window and the part of the screen. Who leaves it before a form is sent has withdrawn it."""
+        return f"{self.here.handle} {self.look.address}"
 
     def number_in(self, text: str, key: str) -> int | None:
         """The trip's number in the text of a key."""
@@ -439,8 +443,8 @@ class Walker:
         """What came of a form that was sent, once it has come to its end."""
         if not self.confirmed or self.look.dialog:
             return
-        permit, at, handle = self.confirmed
-        if handle != self.here.handle or self.look.loaded != loaded or self.offline or not permit.rider or self.look.subject != permit.rider:
+        permit, at, place = self.confirmed
+        if place != self.place() or self.look.loaded != loaded or self.offline or not permit.rider or self.look.subject != permit.rider:
             self.confirmed = None
             return
         end = time.monotonic() + PATIENCE
