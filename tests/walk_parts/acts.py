@@ -17,11 +17,12 @@ if TYPE_CHECKING:
 
 @dataclass(frozen=True)
 class Act:
-    """One act. by_key says that it was done by keys, so that the focus has to be somewhere afterwards."""
+    """One act. by_key says that it was done by keys, so that the focus has to be somewhere afterwards; offers is a name that has to be offered then."""
 
     words: str
     do: Callable[[], None]
     by_key: bool = False
+    offers: str = ""
 
 
 Task = Iterator[Act]
@@ -114,7 +115,8 @@ def fill_place(walker: "Walker", key: str, place: int) -> Task:
     name = walker.place_name(place)
     way = walker.choice.randrange(6)
     typed = [name, name.split(" ")[0].lower(), str(place), name[:3], name.split(" ")[-1], name][way]
-    yield type_into(walker, control, typed)
+    typing = type_into(walker, control, typed)
+    yield Act(typing.words, typing.do, True, name if typed == name else "")
     options = walker.look.of("option")
     fitting = [it for it in options if it.name.startswith(name)] or options
     act = walker.choice.random()
@@ -174,6 +176,11 @@ def book(walker: "Walker") -> Task:
     yield from fill_place(walker, "booking.to", end)
     yield from fill_when(walker, several=True)
     if sends := button(walker, "booking.book", submits=True):
+        yield press(walker, sends[-1])
+        yield from after_booking(walker)
+    sends = button(walker, "booking.book", submits=True)
+    if sends and walker.choice.random() < 0.2:
+        # (somebody who is not sure that it was sent)
         yield press(walker, sends[-1])
         yield from after_booking(walker)
 

@@ -11,7 +11,7 @@ MAKES = re.compile(r"/trips|/trips/\d+/change|/trips/\d+/cancel|/trips/\d+/outco
 
 @dataclass
 class Permit:
-    """A yes of somebody: to book some legs, to do one thing with a trip, to enter something in a case, or to send a form."""
+    """A yes of somebody: to book some legs, to do one thing with a trip, to enter something in a case, or to send a form. same says that a trip which is there already was asked about."""
 
     what: str
     key: str
@@ -23,6 +23,7 @@ class Permit:
     left: int = 1
     armed: bool = False
     entry: str = ""
+    same: bool = False
 
     def __str__(self) -> str:
         return f"{self.what} of step {self.step}"

@@ -65,6 +65,10 @@ FAULTS = [
     Planted("an entry is sent twice", "parts/entered.js", "    const reply = await desk.enter(rider, fields);", "    await desk.enter(rider, fields);\n    const reply = await desk.enter(rider, fields);", role="examiner"),
     Planted("a filed appeal is offered again", "screens/letters.js", "const filed = appealedHere(letter, letters, entered);", "const filed = /** @type {any} */ (null) && appealedHere(letter, letters, entered);", role="rider"),
     Planted("a list of what waits loses its last row", "screens/worklist.js", "rows: [...it.querySelectorAll(\"tbody tr\")].map(", "rows: [...it.querySelectorAll(\"tbody tr\")].slice(0, -1).map(", role="officer"),
+    Planted("the same trip twice is not asked about", "screens/booking.js", "const nowhere = legs.some(({ wish }) => wish.from === wish.to), same = booked.filter(isSame),",
+            "const nowhere = legs.some(({ wish }) => wish.from === wish.to), same = booked.filter((it) => isSame(it) && it.trip < 0),"),
+    Planted("the home of two people is one's alone", "parts/agency.js", "return rider === undefined || [whose].flat().map(Number).includes(rider);",
+            "return rider === undefined || [whose].flat().slice(0, 1).map(Number).includes(rider);"),
     Planted("two sends of one form", "parts/fields.js", "        busy = true;\n        drawInto(box, []);", "        drawInto(box, []);"),
 ]
 

@@ -213,7 +213,8 @@ class Walker:
             if found := self.number_in(name, "booking.cancel-yes"):
                 self.ledger.give(Permit("cancel", key, step, trip=found))
             elif words.is_text(name, "booking.same-yes") or words.is_text(name, "booking.all-the-same") or words.is_text(name, "booking.change-yes"):
-                pass
+                for permit in [it for it in self.ledger.permits if it.armed and it.key == key][-1:]:
+                    permit.same = True
             else:
                 self.ledger.give(Permit("form", key, step, path=r"/riders|/trips/\d+/outcome|/vehicles|/callers|/trips/\d+/(change|cancel)"))
             return
@@ -467,6 +468,8 @@ class Walker:
         checks = [*asked.tickets(found, trips, halves), *asked.denials(found, exchanges, self.words)]
         if permit.armed and permit in self.ledger.permits:
             checks += [it for it in [asked.never_asked(permit, exchanges, told)] if it]
+        if permit.what == "book" and not permit.same:
+            checks += asked.same_trips(found, trips)
         if permit.what == "change":
             checks += asked.not_changed(found, permit, self.words)
         for leg in found:
@@ -537,6 +540,8 @@ class Walker:
             held("focus", [] if look.focus else [f"the focus is nowhere after {act.words}"])
         if not self.offline and look.signed_in:
             found.extend(self.faults_of_lists())
+            if act.offers and not look.dialog:
+                held("a place is found by its name", [] if any(it.name.startswith(act.offers) for it in look.of("option")) else [f"{act.offers!r} was typed, and {[it.name for it in look.of('option')]} are offered"])
         return found
 
     def denied(self, since: float) -> set[str]:
