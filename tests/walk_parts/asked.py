@@ -102,12 +102,12 @@ def is_meant(said: Said, reply: dict[str, Any]) -> bool:
     return bool(abs(start - said.minute) <= NEGOTIATED)
 
 
-def denied_wrongly(leg: dict[str, Any], said: Said, fields: dict[str, Any], ask: Ask) -> Fault | None:
-    """Whether the desk itself takes what the screen says it denied. ask(fields) books beside the pages and gives it up."""
+def denied_wrongly(leg: dict[str, Any], said: Said, fields: dict[str, Any], ask: Ask, sent: dict[str, Any]) -> Fault | None:
+    """Whether the desk itself takes what the screen says it denied. ask(fields) books beside the pages and gives it up; sent is what the page asked last."""
     for wish, by in probes(said):
         reply = ask({**fields, "wish": wish, "by": by})
         if "trip" in reply and is_meant(said, reply):
-            return PLAN, f"{leg['text'][:200]!r} is told, but the desk takes wish {wish} by {by}: {reply}"
+            return PLAN, f"{leg['text'][:200]!r} is told, but the desk takes wish {wish} by {by}: {reply}; the page asked {sent} last"
     return None
 
 

@@ -32,7 +32,7 @@ FAULTS = [
             "[placeName(from), part(\"small\", { class: \"to\" }, t(\"trips.to-place\", { place: placeName(from) }))]"),
     Planted("bookings are not counted", "screens/booking-plan.js", "    count(\"bookings\",", "    if (ticket.trip < 0) count(\"bookings\","),
     Planted("cancellations are not counted", "parts/tally.js", "    if (reply.denied === undefined) await keep({ ...event, from: 0 });", "    if (reply.denied === undefined) await drop(event.id);"),
-    Planted("Spanish is English", "words/es/booking.js", "\"booking.day-wants\":", "\"booking.back-hint\": \"For a round trip. Otherwise leave it empty.\", \"booking.day-wants\":"),
+    Planted("Spanish is English", "screens/booking-fields.js", "hint: t(\"booking.back-hint\")", "hint: \"For a round trip. Otherwise leave it empty.\"", seed=36),
     Planted("another trip is cancelled", "screens/trips.js", "reply = await cancelTrip(trip.trip, \"rider\");", "reply = await cancelTrip(trip.trip - 1, \"rider\");"),
     Planted("a scrolling list is a stop of Tab", "parts/combo.js", "\"aria-label\": label, hidden: true, tabindex: -1,", "\"aria-label\": label, hidden: true,"),
     Planted("a suspension ends with the grant", "screens/rider-card.js", "if (suspended) return days ?",

@@ -472,15 +472,16 @@ class Walker:
             checks += asked.same_trips(found, trips)
         if permit.what == "change":
             checks += asked.not_changed(found, permit, self.words)
+        sent = next((it.fields for it in reversed(exchanges) if it.is_write and "companions" in it.fields), {})
         for leg in found:
-            checks += [it for it in self.leg(leg, permit, trips) if it]
+            checks += [it for it in self.leg(leg, permit, trips, sent) if it]
         for rule, text in checks:
             self.report.breaks(rule, text, self.here.role)
         if not checks:
             self.report.holds(asked.DONE, len(found) or 1)
 
-    def leg(self, leg: dict[str, Any], permit: Permit, trips: dict[int, dict[str, Any]]) -> list[asked.Fault | None]:
-        """One leg: as it was said, or denied as the desk itself denies it; and what has to be counted of it."""
+    def leg(self, leg: dict[str, Any], permit: Permit, trips: dict[int, dict[str, Any]], sent: dict[str, Any]) -> list[asked.Fault | None]:
+        """One leg: as it was said, or denied as the desk itself denies it; and what has to be counted of it. sent is what was asked last: who comes along."""
         said = asked.said_in(leg["text"], self.words, self.look.language)
         number = re.search(r"\d+", leg["heading"])
         if leg["ticket"] and number:
@@ -498,8 +499,8 @@ class Walker:
         self.expect(f"/tally/denials day={day} minute={said.minute} rule={rule}")
         if names[0] not in ("no vehicle", "37.131(e)") or permit.what != "book" or not permit.rider:
             return []
-        fields = {"rider": permit.rider, "day": day, "from": start, "to": end, "attendant": False, "companions": 0}
-        return [asked.denied_wrongly(leg, said, fields, self.probe)]
+        fields = {"rider": permit.rider, "day": day, "from": start, "to": end, "attendant": sent.get("attendant", False), "companions": sent.get("companions", 0)}
+        return [asked.denied_wrongly(leg, said, fields, self.probe, sent)]
 
     def leg_meant(self, leg: dict[str, Any], permit: Permit) -> tuple[str, int, int] | None:
         """The day and the ends of a leg that was not booked; None where they are not sure."""
