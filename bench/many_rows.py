@@ -1,6 +1,7 @@
 """Agencies of many rows, put straight into the tables that `desk init` makes: for bench/ and tests/full_size.
 
-`OnePlace` is the plainest day book that the desk takes. `Years` is that of an agency of 50 vans after years.
+`OnePlace` is the plainest day book that the desk takes, `FullRoutes` a day on which no van takes one trip more, and `Years` that of an agency of 50
+vans after years.
 """
 import collections
 import contextlib
@@ -88,6 +89,52 @@ class OnePlace:
             plan, turn = divmod(at, cls.A_PLAN)
             for kind in (PICKUP, DROP):
                 yield plan % VEHICLES + 1, cls.FIRST_DAY + plan // VEHICLES, 2 * turn + kind, at + 1, kind
+
+
+class FullRoutes:
+    """A day of vehicles whose routes have no minute to spare: each stop takes one, and each trip gets off where it got on."""
+
+    OPENS, SERVICE, RIDE, PROMISED = 480, 1, 30, 15
+    WISH = OPENS + 60
+
+    def __init__(self, name, in_a_route, seats, companions):
+        """So many trips in each route, seats in a vehicle, and companions of the trip that is asked for."""
+        self.name, self.in_a_route, self.seats, self.companions = name, in_a_route, seats, companions
+
+    def closes(self):
+        return self.OPENS + 2 * self.in_a_route * self.SERVICE
+
+    def trips(self, day, vehicles):
+        """Each at its turn in its vehicle's route."""
+        for vehicle in range(1, vehicles + 1):
+            for turn in range(self.in_a_route):
+                number, pickup = (vehicle - 1) * self.in_a_route + turn + 1, self.OPENS + 2 * turn * self.SERVICE
+                yield (number, number, day, pickup + 60, 1, 1, -1, 0, 0, 0, self.SERVICE, self.RIDE, vehicle, pickup,
+                       pickup + self.PROMISED, BOOKED)
+
+    def stops(self, day, vehicles):
+        for number, *_, vehicle, _, _, _ in self.trips(day, vehicles):
+            turn = (number - 1) % self.in_a_route
+            for kind in (PICKUP, DROP):
+                yield vehicle, day, 2 * turn + kind, number, kind
+
+    def fill(self, file, day, vehicles):
+        """Puts the day into a new desk's tables, with one rider more than it has trips; a dispatcher may ask."""
+        count = self.in_a_route * vehicles
+        fill(file, [
+            ("callers", [(2, DISPATCHER, 0, digest_of(DISPATCHERS_KEY))]),
+            ("places", [(1, 0, 0, 0)]),
+            ("fixed", [(1, 3_960, struct.pack(">4i", 0, 0, 9, 0), 1, EACH_DAY, 0, 1_439)]),
+            ("vehicles", ((it, day - 1, EACH_DAY, 1, self.seats, self.OPENS, self.closes(), 1_439) for it in range(1, vehicles + 1))),
+            ("riders", ((it, VISITOR, 0) for it in range(1, count + 2))),
+            ("trips", self.trips(day, vehicles)),
+            ("stops", self.stops(day, vehicles)),
+        ], service=self.SERVICE, extra_ride=self.RIDE, last_trip=count)
+
+    def question(self, vehicles, date):
+        """The words of one trip more on that day, by a visitor who has none."""
+        rider = self.in_a_route * vehicles + 1
+        return [DISPATCHERS_KEY, str(rider), str(date), str(self.WISH), "1", "1", "none", "0", str(self.companions)]
 
 
 # An agency after years.

@@ -48,7 +48,10 @@ export function headOf(state, acts) {
 /** A link that calls dispatch, where the agency has a telephone number. */
 export function callLink() {
     const { telephone } = agency();
-    return telephone && part("a", { class: "driver-link", href: `tel:${telephone.replace(/[^\d+*#,;]/g, "")}` }, t("driver.call", { telephone }));
+    if (!telephone) return null;
+    const said = t("driver.call", { telephone }), at = said.indexOf(telephone);
+    return part("a", { class: "driver-link", href: `tel:${telephone.replace(/[^\d+*#,;]/g, "")}` },
+        part("span", {}, said.slice(0, at), part("span", { class: "telephone" }, telephone), said.slice(at + telephone.length)));
 }
 
 /** Notes on the van itself.

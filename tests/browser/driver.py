@@ -908,16 +908,16 @@ def it_is_used_with_one_hand_on_a_small_phone(at):
     for width in [390, 320]:
         with at.browser.screen(width, 700, mobile=True):
             same(f"targets below 64 pixels at {width}", [], at.browser.script(SMALL))
-            same(f"sideways at {width}", 0, at.browser.sideways()[0])
+            same(f"sideways at {width}", [0, []], at.browser.sideways())
             # (without motion no color is on its way from light to dark)
             with at.browser.media(prefers_color_scheme="dark", prefers_reduced_motion="reduce"):
                 same(f"axe at {width}, dark", [], at.browser.axe()["violations"])
     at.browser.space_text()
     with at.browser.screen(320, 640):
-        same("sideways with spaced text", 0, at.browser.sideways()[0])
+        same("sideways with spaced text", [0, []], at.browser.sideways())
     at.browser.script("document.documentElement.style.fontSize = '200%'")
     with at.browser.screen(390, 844, mobile=True):
-        same("sideways with large text", 0, at.browser.sideways()[0])
+        same("sideways with large text", [0, []], at.browser.sideways())
     with at.browser.media(forced_colors="active", prefers_reduced_motion="reduce"):
         same("axe with forced colors", [], at.browser.axe()["violations"])
 
