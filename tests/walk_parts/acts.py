@@ -109,6 +109,11 @@ def show_rider(walker: "Walker") -> Task:
 
 def fill_place(walker: "Walker", key: str, place: int) -> Task:
     """Chooses a place in one of the ways in which people do."""
+    if (control := field(walker, key, ("combo",))) and not control.value and walker.choice.random() < 0.25:
+        # (the whole list is opened, which is longer than it is high, and left again)
+        yield press(walker, control, by_key=False)
+        yield keys(walker, walker.choice.choice([Keys.ARROW_DOWN, Keys.TAB]))
+        yield keys(walker, Keys.TAB)
     control = field(walker, key, ("combo",))
     if not control:
         return

@@ -28,6 +28,8 @@ from walk_parts.words import Words
 PATIENCE, OUTSIDE, NEW_DAY = 10.0, 42.0, 55.0
 # The hour from which on the next thing that the clock does is to pass midnight; and so many windows.
 LATE, MOST_WINDOWS = 20, 3
+# How much more often the one thing is done that is mostly done.
+MOSTLY = 10
 # Steps after which a walk that ends at its first breach holds what was counted against the log.
 OFTEN = 40
 BREAKS = [LOST, UNHEARD, HALF, NO_MEMORY, NO_STORE, NONSENSE, CROWDED]
@@ -49,9 +51,9 @@ class Window:
 class Walker:
     """The walk of one seed."""
 
-    def __init__(self, town: WalkTown, browser: Browser, words: Words, report: Report, roles: list[str]) -> None:
+    def __init__(self, town: WalkTown, browser: Browser, words: Words, report: Report, roles: list[str], does: str = "") -> None:
         self.town, self.browser, self.words, self.report, self.roles = town, browser, words, report, roles
-        self.page, self.ledger, self.number = Page(browser), Ledger(), 0
+        self.page, self.ledger, self.number, self.does = Page(browser), Ledger(), 0, does
         self.choice = random.Random(report.seed)
         self.recorded, self.offline, self.grace = 0, 0, 0.0
         self.stale: dict[int, float] = {}
@@ -152,7 +154,7 @@ class Walker:
     def tasks(self) -> list[tuple[float, Callable[["Walker"], Task]]]:
         """What somebody of this role does, with weights."""
         from walk_parts import roles
-        return roles.TASKS[self.here.role]
+        return [(weight * (MOSTLY if made.__name__ == self.does else 1), made) for weight, made in roles.TASKS[self.here.role]]
 
     def next_act(self) -> Act:
         """One act: an answer where something is asked, else what somebody has in mind, or something unexpected."""
@@ -541,7 +543,8 @@ class Walker:
             held("focus", [] if look.focus else [f"the focus is nowhere after {act.words}"])
         if not self.offline and look.signed_in:
             found.extend(self.faults_of_lists())
-            if act.offers and not look.dialog:
+            focused = look.controls[look.at] if 0 <= look.at < len(look.controls) else None
+            if act.offers and not look.dialog and focused and focused.kind == "combo" and focused.value == act.offers:
                 held("a place is found by its name", [] if any(it.name.startswith(act.offers) for it in look.of("option")) else [f"{act.offers!r} was typed, and {[it.name for it in look.of('option')]} are offered"])
         return found
 
