@@ -11,7 +11,8 @@ MAKES = re.compile(r"/trips|/trips/\d+/change|/trips/\d+/cancel|/trips/\d+/outco
 
 @dataclass
 class Permit:
-    """A yes of somebody: to book some legs, to do one thing with a trip, to enter something in a case, or to send a form. same says that a trip which is there already was asked about."""
+    """A yes of somebody: to book some legs, to do one thing with a trip, to enter something in a case, or to send a form. same says that a trip which is there already
+    was asked about, both that the form has a minute to be there by beside that of the pickup."""
 
     what: str
     key: str
@@ -24,6 +25,7 @@ class Permit:
     armed: bool = False
     entry: str = ""
     same: bool = False
+    both: bool = False
 
     def __str__(self) -> str:
         return f"{self.what} of step {self.step}"

@@ -267,7 +267,8 @@ class Walker:
                     legs[(it, one, other)] = None
                     if back and back.value.strip():
                         legs[(it, other, one)] = None
-        return Permit("book", key, self.number, rider=self.look.subject, legs=legs, armed=True)
+        until = acts.field(self, "booking.by", ("text",))
+        return Permit("book", key, self.number, rider=self.look.subject, legs=legs, armed=True, both=bool(until and until.value.strip()))
 
     def bookable(self) -> list[str]:
         """The days for which trips are taken today."""
@@ -499,7 +500,7 @@ class Walker:
             return []
         day, start, end = ends
         self.expect(f"/tally/denials day={day} minute={said.minute} rule={rule}")
-        if names[0] not in ("no vehicle", "37.131(e)") or permit.what != "book" or not permit.rider:
+        if names[0] not in ("no vehicle", "37.131(e)") or permit.what != "book" or not permit.rider or (permit.both and said.mode != "by"):
             return []
         fields = {"rider": permit.rider, "day": day, "from": start, "to": end, "attendant": sent.get("attendant", False), "companions": sent.get("companions", 0)}
         return [asked.denied_wrongly(leg, said, fields, self.probe, sent)]
