@@ -8,7 +8,7 @@ import tempfile
 from dataclasses import dataclass
 
 WALK = os.path.join(os.path.dirname(os.path.dirname(os.path.realpath(__file__))), "walk")
-SECONDS = 300
+SECONDS = 600
 
 
 @dataclass(frozen=True)
