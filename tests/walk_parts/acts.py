@@ -17,11 +17,12 @@ if TYPE_CHECKING:
 
 @dataclass(frozen=True)
 class Act:
-    """One act. by_key says that it was done by keys, so that the focus has to be somewhere afterwards."""
+    """One act. by_key says that it was done by keys, so that the focus has to be somewhere afterwards; offers is a name that has to be offered then."""
 
     words: str
     do: Callable[[], None]
     by_key: bool = False
+    offers: str = ""
 
 
 Task = Iterator[Act]
@@ -108,13 +109,19 @@ def show_rider(walker: "Walker") -> Task:
 
 def fill_place(walker: "Walker", key: str, place: int) -> Task:
     """Chooses a place in one of the ways in which people do."""
+    if (control := field(walker, key, ("combo",))) and not control.value and walker.choice.random() < 0.25:
+        # (the whole list is opened, which is longer than it is high, and left again)
+        yield press(walker, control, by_key=False)
+        yield keys(walker, walker.choice.choice([Keys.ARROW_DOWN, Keys.TAB]))
+        yield keys(walker, Keys.TAB)
     control = field(walker, key, ("combo",))
     if not control:
         return
     name = walker.place_name(place)
     way = walker.choice.randrange(6)
     typed = [name, name.split(" ")[0].lower(), str(place), name[:3], name.split(" ")[-1], name][way]
-    yield type_into(walker, control, typed)
+    typing = type_into(walker, control, typed)
+    yield Act(typing.words, typing.do, True, name if typed == name else "")
     options = walker.look.of("option")
     fitting = [it for it in options if it.name.startswith(name)] or options
     act = walker.choice.random()
@@ -174,6 +181,11 @@ def book(walker: "Walker") -> Task:
     yield from fill_place(walker, "booking.to", end)
     yield from fill_when(walker, several=True)
     if sends := button(walker, "booking.book", submits=True):
+        yield press(walker, sends[-1])
+        yield from after_booking(walker)
+    sends = button(walker, "booking.book", submits=True)
+    if sends and walker.choice.random() < 0.2:
+        # (somebody who is not sure that it was sent)
         yield press(walker, sends[-1])
         yield from after_booking(walker)
 
@@ -260,6 +272,8 @@ def other_part(walker: "Walker") -> Task:
 
 def appeal(walker: "Walker") -> Task:
     """Appeals a decision, by its letter."""
+    if not button(walker, "cases.appeal-own", "cases.appeal-for"):
+        yield from to_part(walker, "rider.letters", "clerk.file")
     if appeals := button(walker, "cases.appeal-own", "cases.appeal-for"):
         yield press(walker, appeals[0])
         if walker.look.dialog:
@@ -324,29 +338,6 @@ def at_the_stop(walker: "Walker") -> Task:
         yield press(walker, walker.choice.choice(found))
         if walker.look.dialog:
             yield walker.answer_dialog(0.8)
-
-
-LETTER = "The rider can reach each bus stop near the home, and each bus of these lines has a ramp."
-
-
-def decide(walker: "Walker") -> Task:
-    """Fills one of the forms of a case, and sends it."""
-    sends = [it for it in walker.look.controls if it.kind == "button" and it.submits and not it.off and it.form]
-    if not sends:
-        return
-    chosen = walker.choice.choice(sends)
-    for control in [it for it in walker.look.controls if it.form == chosen.form and it.name][:8]:
-        if control.type == "date":
-            yield choose(walker, control, walker.bookable()[walker.choice.randrange(14)])
-        elif control.kind == "text":
-            yield type_into(walker, control, LETTER if "eason" in control.name else str(walker.choice.randint(1, 5000)))
-        elif control.kind in ("checkbox", "radio") and walker.choice.random() < 0.4:
-            yield press(walker, control)
-    again = [it for it in walker.look.controls if it.kind == "button" and it.submits and it.name == chosen.name and not it.off]
-    if again and walker.choice.random() < 0.8:
-        yield press(walker, again[0])
-        if walker.look.dialog:
-            yield walker.answer_dialog(0.7)
 
 
 HARMLESS = ("button", "summary", "link", "checkbox", "radio", "list", "combo")

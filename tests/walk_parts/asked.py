@@ -71,6 +71,15 @@ def denials(legs: list[dict[str, Any]], exchanges: list[Exchange], words: Words)
             yield REPLY, f"{leg['text'][:240]!r} is told, and the replies since the press were {sorted(told) or 'none'}"
 
 
+def same_trips(legs: list[dict[str, Any]], trips: dict[int, dict[str, Any]]) -> Iterator[Fault]:
+    """What was booked without a question was not booked before: the same way on the same day."""
+    booked = {int(number[0]) for it in legs if it["ticket"] and (number := re.search(r"\d+", it["heading"]))}
+    for one in sorted(booked & set(trips)):
+        same = [it["trip"] for it in trips.values() if it["trip"] < min(booked) and it["status"] == "booked" and all(it[name] == trips[one][name] for name in ("day", "from", "to"))]
+        if same:
+            yield DONE, f"trip {one} was booked without a question, and trip {same[0]} goes the same way on {trips[one]['day']}"
+
+
 Ask = Callable[[dict[str, Any]], dict[str, Any]]
 
 
@@ -93,12 +102,12 @@ def is_meant(said: Said, reply: dict[str, Any]) -> bool:
     return bool(abs(start - said.minute) <= NEGOTIATED)
 
 
-def denied_wrongly(leg: dict[str, Any], said: Said, fields: dict[str, Any], ask: Ask) -> Fault | None:
-    """Whether the desk itself takes what the screen says it denied. ask(fields) books beside the pages and gives it up."""
+def denied_wrongly(leg: dict[str, Any], said: Said, fields: dict[str, Any], ask: Ask, sent: dict[str, Any]) -> Fault | None:
+    """Whether the desk itself takes what the screen says it denied. ask(fields) books beside the pages and gives it up; sent is what the page asked last."""
     for wish, by in probes(said):
         reply = ask({**fields, "wish": wish, "by": by})
         if "trip" in reply and is_meant(said, reply):
-            return PLAN, f"{leg['text'][:200]!r} is told, but the desk takes wish {wish} by {by}: {reply}"
+            return PLAN, f"{leg['text'][:200]!r} is told, but the desk takes wish {wish} by {by}: {reply}; the page asked {sent} last"
     return None
 
 

@@ -11,7 +11,8 @@ MAKES = re.compile(r"/trips|/trips/\d+/change|/trips/\d+/cancel|/trips/\d+/outco
 
 @dataclass
 class Permit:
-    """A yes of somebody: to book some legs, or to do one thing with a trip, or to send a form."""
+    """A yes of somebody: to book some legs, to do one thing with a trip, to enter something in a case, or to send a form. same says that a trip which is there already
+    was asked about, both that the form has a minute to be there by beside that of the pickup."""
 
     what: str
     key: str
@@ -22,7 +23,9 @@ class Permit:
     path: str = ""
     left: int = 1
     armed: bool = False
-    asked: int = 0
+    entry: str = ""
+    same: bool = False
+    both: bool = False
 
     def __str__(self) -> str:
         return f"{self.what} of step {self.step}"
@@ -69,6 +72,8 @@ def uses(permit: Permit, write: Write) -> bool:
     """Whether a permit allows a write; it is used up by it."""
     if permit.what == "form":
         return bool(re.fullmatch(permit.path, write.path))
+    if permit.what == "entry":
+        return uses_entry(permit, write)
     if permit.what == "book":
         return uses_leg(permit, write)
     found = TRIP.fullmatch(write.path)
@@ -78,6 +83,14 @@ def uses(permit: Permit, write: Write) -> bool:
         if permit.left <= 0:
             return False
         permit.left -= 1
+    return True
+
+
+def uses_entry(permit: Permit, write: Write) -> bool:
+    """An entry in a case is what was asked about, and is made once."""
+    if permit.left <= 0 or write.path != f"/riders/{permit.rider}/entries" or write.fields.get("entry") != permit.entry:
+        return False
+    permit.left -= 1
     return True
 
 

@@ -40,7 +40,7 @@ for (let node = walker.nextNode(); node; node = walker.nextNode()) {
     texts.push([text, own && own !== document.documentElement ? own.getAttribute("lang") : document.documentElement.lang]);
 }
 const denials = [...document.querySelectorAll(".denial")].filter(shown).map((it) => [plain(it.querySelector("strong")?.textContent), plain(it.innerText),
-    Boolean(it.closest(".legs"))]);
+    Boolean(it.closest("[data-sent-list], #notes") || location.hash.startsWith("#driver"))]);
 return { controls, texts, denials, address: location.hash, language: document.documentElement.lang, dialog: dialog ? plain(dialog.innerText) : "",
     at: elements.indexOf(focus), focus: !focus || focus === document.body ? "" : `${focus.tagName.toLowerCase()} ${nameOf(focus).slice(0, 80)}`, hidden: document.hidden,
     sign: plain(document.querySelector("#line")?.textContent), notes: plain(document.querySelector("#notes")?.innerText),
@@ -78,7 +78,7 @@ class Control:
 
 @dataclass
 class Look:
-    """What is on the page at a moment."""
+    """What is on the page at a moment. Of a denial: what it says, the whole of it, and whether the page keeps it beyond a reload."""
 
     controls: list[Control]
     texts: list[tuple[str, str]]

@@ -82,8 +82,8 @@ class Recorder(Middle):
         return whole
 
     def asked(self, request: bytes) -> bytes:
-        """The desk's own reply."""
-        whole: bytes = super().asked(request)
+        """The desk's own reply, which is kept."""
+        whole = self.passed_on(request)
         head, _, body = request.partition(b"\r\n\r\n")
         reply_head, _, reply_body = whole.partition(b"\r\n\r\n")
         words = head.split(b" ", 2)
@@ -94,15 +94,25 @@ class Recorder(Middle):
             kept = Exchange(
                 words[0].decode(), path, header_of(head, "Desk-Key"), int(number) if number.isdigit() else 0,
                 object_in(body), int(status[1]) if len(status) > 1 else 0,
-                object_in(reply_body) if b"application/json" in reply_head else {}, "", time.monotonic())
+                object_in(reply_body) if b"application/json" in reply_head else {}, "", time.time())
             with self.lock:
                 self.exchanges.append(kept)
+        return whole
+
+    def passed_on(self, request: bytes) -> bytes:
+        """The desk's own reply."""
+        whole: bytes = super().asked(request)
         return whole
 
     def since(self, at: int) -> list[Exchange]:
         """What passed from this place of the list on."""
         with self.lock:
             return self.exchanges[at:]
+
+    def of_key(self, key: str, since: float) -> list[Exchange]:
+        """What a key was answered from a moment on, in seconds since 1970. The record is no page's, so no reload forgets any of it."""
+        with self.lock:
+            return [it for it in self.exchanges if it.key == key and it.at >= since]
 
     def count(self) -> int:
         """How many have passed."""

@@ -49,7 +49,7 @@ return { rows: [...list.querySelectorAll("li")].map((it) => [plain(it.querySelec
 LEGS = """
 const plain = (text) => (text ?? "").replace(/\\s+/g, " ").trim();
 const seen = (it) => it.checkVisibility({ visibilityProperty: true });
-return [...document.querySelectorAll(".legs > li")].filter(seen).map((it) => ({ ticket: Boolean(it.querySelector(".ticket")), text: plain(it.textContent),
+return [...document.querySelectorAll(".legs > li")].filter((it) => seen(it) && !it.closest("[data-sent-list], #notes")).map((it) => ({ ticket: Boolean(it.querySelector(".ticket")), text: plain(it.textContent),
     heading: plain(it.querySelector("h3")?.textContent), denial: plain(it.querySelector(".denial strong")?.textContent),
     window: plain(it.querySelector(".ticket .window")?.textContent), offer: Boolean(it.querySelector(".offer")), waiting: it.classList.contains("waiting") && it.textContent.includes("…"),
     refused: Boolean(it.querySelector(".refused")), inner: Boolean(it.closest(".inner")) }));

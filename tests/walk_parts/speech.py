@@ -3,6 +3,7 @@
 import datetime
 
 DASH = "–"
+MONTHS_ES = ["enero", "febrero", "marzo", "abril", "mayo", "junio", "julio", "agosto", "septiembre", "octubre", "noviembre", "diciembre"]
 
 
 def clock(minute: int, halves: tuple[str, str] = ("AM", "PM")) -> str:
@@ -27,6 +28,12 @@ def day_long(day: str) -> str:
     """Monday, March 10, 2025."""
     it = datetime.date.fromisoformat(day)
     return f"{it:%A}, {it:%B} {it.day}, {it.year}"
+
+
+def day_of(day: str, language: str) -> str:
+    """A day in full; in Spanish without the day of the week: 10 de marzo de 2025."""
+    it = datetime.date.fromisoformat(day)
+    return day_long(day) if language == "en" else f"{it.day} de {MONTHS_ES[it.month - 1]} de {it.year}"
 
 
 def minute_typed(minute: int, way: int) -> str:

@@ -6,6 +6,8 @@ import hashlib
 import io
 import os
 import random
+import subprocess
+import time
 from typing import Any
 
 import people
@@ -13,6 +15,7 @@ import town as base
 from database import Trouble
 from serving import free_port
 
+from walk_parts.cases import WITHOUT_LETTER
 from walk_parts.recorder import Recorder
 
 EARLIEST, START = datetime.date.fromisoformat(people.TODAY), datetime.date(2025, 5, 19)
@@ -62,6 +65,9 @@ class WalkTown(base.Town):
         self.numbers: dict[str, int] = {}
         self.last_minute = choice.choice([1439, 1439, 1380, 1425])
         self.tally_log = f"{folder}/tally.log"
+        self.ahead = 0
+        self.worklists: list[str] = []
+        self.known_letters: dict[int, list[tuple[int, str]]] = {}
 
     # The agency's files.
 
@@ -173,6 +179,45 @@ class WalkTown(base.Town):
         """A rider's trips, as the desk has them now."""
         found: list[dict[str, Any]] = self.ask("third clerk", f"/riders/{rider}/trips").get("trips", [])
         return found
+
+    def letters(self, rider: int) -> list[tuple[int, str]]:
+        """A rider's letters with their places in the case file. None changes, so those that are known are not read again."""
+        known = self.known_letters.setdefault(rider, [])
+        entry, without = (known[-1][0] + 1 if known else 0), 0
+        while without <= WITHOUT_LETTER:
+            text = self.ask("third clerk", f"/riders/{rider}/letters/{entry}")
+            without = 0 if isinstance(text, str) else without + 1
+            if isinstance(text, str):
+                known.append((entry, text))
+            entry += 1
+        return known
+
+    def write_worklist(self) -> None:
+        """What waits, of a copy of the desk's file, as each night's unit makes it."""
+        path = f"{self.folder}/site/staff/worklist.html"
+        words = [f"{base.ROOT}/bin/worklist", self.copied(), "--html", path, "--today", self.today,
+                 "--agency", f"{self.folder}/source-agency.json", "--roster", f"{self.folder}/source-roster.csv"]
+        made = subprocess.run(words, capture_output=True, text=True, check=False)
+        if made.returncode:
+            raise Trouble(f"bin/worklist: {made.stderr}")
+        with open(path, encoding="utf-8") as file:
+            self.worklists.append(file.read())
+
+    def now(self) -> datetime.datetime:
+        """What the town's clock shows."""
+        return datetime.datetime.fromtimestamp(time.time() + self.ahead, people.ZONE)
+
+    def goes_to(self, moment: datetime.datetime) -> None:
+        """The town's clock goes on from this moment. It runs, as clocks do: a page asks again after so many seconds of it. The night makes the list of what waits."""
+        self.ahead = round(moment.timestamp() - time.time())
+        with open(f"{self.desk.clock}.new", "w", encoding="ascii") as text:
+            text.write(f"{self.ahead:+d}\n")
+        # (a program that reads an empty file would believe the machine's clock)
+        os.replace(f"{self.desk.clock}.new", self.desk.clock)
+        if (day := self.now().date().isoformat()) != self.today or not self.worklists:
+            self.today = day
+            self.write_worklist()
+            self.write_drivers_files()
 
     def tally_lines(self) -> list[str]:
         """The lines of the site's log of what it was told."""

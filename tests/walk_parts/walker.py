@@ -1,12 +1,13 @@
 """Walks: windows with somebody at each, one act after another, and what has to hold after each of them."""
 
 import contextlib
+import datetime
 import os
 import random
 import re
 import time
 from collections.abc import Callable
-from dataclasses import dataclass, field
+from dataclasses import dataclass
 from typing import Any
 
 import people
@@ -15,7 +16,7 @@ from database import Trouble
 from middle import CROWDED, HALF, LOST, NO_MEMORY, NO_STORE, NONSENSE, UNHEARD
 from selenium.common.exceptions import WebDriverException
 
-from walk_parts import acts, asked, invariants, shown, speech
+from walk_parts import acts, asked, case_holding, invariants, shown, speech
 from walk_parts.acts import Act, Task
 from walk_parts.ledger import Ledger, Permit, Write
 from walk_parts.page import Control, Look, Page
@@ -25,6 +26,12 @@ from walk_parts.words import Words
 
 # Seconds after which a comparison counts, after which a list has to know what another device wrote, and a new day.
 PATIENCE, OUTSIDE, NEW_DAY = 10.0, 42.0, 55.0
+# The hour from which on the next thing that the clock does is to pass midnight; and so many windows.
+LATE, MOST_WINDOWS = 20, 3
+# How much more often the one thing is done that is mostly done.
+MOSTLY = 10
+# Steps after which a walk that ends at its first breach holds what was counted against the log.
+OFTEN = 40
 BREAKS = [LOST, UNHEARD, HALF, NO_MEMORY, NO_STORE, NONSENSE, CROWDED]
 RARE = ("suspended", "suspension appealed", "conditional", "presumed", "temporary")
 NO_ANSWERS = ("common.no-go-back", "common.no")
@@ -39,16 +46,14 @@ class Window:
     holder: str
     role: str
     task: Task | None = None
-    denied: set[str] = field(default_factory=set)
-    loaded: float = 0.0
 
 
 class Walker:
     """The walk of one seed."""
 
-    def __init__(self, town: WalkTown, browser: Browser, words: Words, report: Report, roles: list[str]) -> None:
+    def __init__(self, town: WalkTown, browser: Browser, words: Words, report: Report, roles: list[str], does: str = "") -> None:
         self.town, self.browser, self.words, self.report, self.roles = town, browser, words, report, roles
-        self.page, self.ledger, self.number = Page(browser), Ledger(), 0
+        self.page, self.ledger, self.number, self.does = Page(browser), Ledger(), 0, does
         self.choice = random.Random(report.seed)
         self.recorded, self.offline, self.grace = 0, 0, 0.0
         self.stale: dict[int, float] = {}
@@ -62,6 +67,9 @@ class Walker:
         self.parts: set[str] = set()
         self.expected: dict[str, tuple[str, float]] = {}
         self.confirmed: tuple[Permit, int, str] | None = None
+        self.entry: tuple[str, int] | None = None
+        self.entered: tuple[Permit, int, str] | None = None
+        self.in_part: set[int] = set()
 
     # Who and where.
 
@@ -116,7 +124,7 @@ class Walker:
         if self.here.role == "rider" and self.choice.random() < 0.9:
             self.browser.script("sessionStorage.setItem('desk.subject.rider', arguments[0])", self.here.holder.split()[1])
             self.browser.reload()
-        self.here.task, self.here.denied = None, set()
+        self.here.task = None
         self.page.still()
         self.look = self.page.look()
         self.note_parts()
@@ -146,7 +154,7 @@ class Walker:
     def tasks(self) -> list[tuple[float, Callable[["Walker"], Task]]]:
         """What somebody of this role does, with weights."""
         from walk_parts import roles
-        return roles.TASKS[self.here.role]
+        return [(weight * (MOSTLY if made.__name__ == self.does else 1), made) for weight, made in roles.TASKS[self.here.role]]
 
     def next_act(self) -> Act:
         """One act: an answer where something is asked, else what somebody has in mind, or something unexpected."""
@@ -154,8 +162,10 @@ class Walker:
             return self.answer_dialog(0.75)
         if not self.look.signed_in:
             return Act("signs in", self.sign_in)
-        if self.number % 13 == 0 and (event := self.world()):
+        if self.number % 13 == 0 and (event := self.next_role() or self.world()):
             return event
+        if self.number % 13 == 6 and len(self.windows) > 1 and self.choice.random() < 0.6:
+            return self.another_window()
         if self.choice.random() < 0.06:
             for act in acts.anything(self):
                 return act
@@ -197,14 +207,20 @@ class Walker:
         if self.look.dialog:
             if any(words.is_text(name, it) for it in NO_ANSWERS):
                 self.ledger.revoke_armed(key)
+                self.entry = None
+                return
+            if case_holding.is_yes(self, name):
+                case_holding.confirm(self)
                 return
             if found := self.number_in(name, "booking.cancel-yes"):
                 self.ledger.give(Permit("cancel", key, step, trip=found))
             elif words.is_text(name, "booking.same-yes") or words.is_text(name, "booking.all-the-same") or words.is_text(name, "booking.change-yes"):
-                pass
+                for permit in [it for it in self.ledger.permits if it.armed and it.key == key][-1:]:
+                    permit.same = True
             else:
-                self.ledger.give(Permit("form", key, step, path=r"/riders/\d+/entries|/riders|/trips/\d+/outcome|/vehicles|/callers|/trips/\d+/(change|cancel)"))
+                self.ledger.give(Permit("form", key, step, path=r"/riders|/trips/\d+/outcome|/vehicles|/callers|/trips/\d+/(change|cancel)"))
             return
+        case_holding.before_entry(self, name)
         if control.submits and words.is_text(name, "booking.book"):
             self.confirm(self.booking(key))
         elif control.submits and (found := self.number_in(name, "booking.change-of")):
@@ -217,12 +233,16 @@ class Walker:
             for permit in [it for it in self.ledger.permits if it.key == key and it.what in ("book", "change")][-3:]:
                 permit.armed = False
         elif control.submits or self.here.role == "driver":
-            self.ledger.give(Permit("form", key, step, path=r"/riders/\d+/entries|/riders|/trips/\d+/outcome|/vehicles|/callers|/policy|/places|/routes"))
+            self.ledger.give(Permit("form", key, step, path=r"/riders|/trips/\d+/outcome|/vehicles|/callers|/policy|/places|/routes"))
 
     def confirm(self, permit: Permit) -> None:
         """A form of a trip is sent: what comes of it is held against the replies from here on."""
         self.ledger.give(permit)
-        self.confirmed = (permit, self.town.recorder.count(), self.here.handle)
+        self.confirmed = (permit, self.town.recorder.count(), self.place())
+
+    def place(self) -> str:
+        """The window and the part of the screen. Who leaves it before a form is sent has withdrawn it."""
+        return f"{self.here.handle} {self.look.address}"
 
     def number_in(self, text: str, key: str) -> int | None:
         """The trip's number in the text of a key."""
@@ -247,11 +267,11 @@ class Walker:
                     legs[(it, one, other)] = None
                     if back and back.value.strip():
                         legs[(it, other, one)] = None
-        return Permit("book", key, self.number, rider=self.look.subject, legs=legs, armed=True)
+        until = acts.field(self, "booking.by", ("text",))
+        return Permit("book", key, self.number, rider=self.look.subject, legs=legs, armed=True, both=bool(until and until.value.strip()))
 
     def bookable(self) -> list[str]:
         """The days for which trips are taken today."""
-        import datetime
         today = datetime.date.fromisoformat(self.town.today)
         return [(today + datetime.timedelta(days=it)).isoformat() for it in range(1, 15)]
 
@@ -263,6 +283,18 @@ class Walker:
         return same or part or ([int(text)] if text.isdigit() else list(self.places))
 
     # What happens around the windows.
+
+    def next_role(self) -> Act | None:
+        """The roles come one after another, each with a window of its own; somebody who is there by then goes on."""
+        if len(self.windows) >= min(MOST_WINDOWS, len(self.roles)):
+            return None
+        role = self.roles[len(self.windows)]
+        return Act(f"opens a window as {role}", lambda: self.open_window(role))
+
+    def another_window(self) -> Act:
+        """Somebody at another window goes on."""
+        other = self.choice.choice([it for it in self.windows if it is not self.here])
+        return Act(f"goes to the window of {other.holder}", lambda: self.go_to(other))
 
     def world(self) -> Act | None:
         """Something that nobody at this window does."""
@@ -281,9 +313,8 @@ class Walker:
         if way == "outside":
             return Act("another device writes", self.outside)
         if way == "window" and len(self.windows) > 1:
-            other = self.choice.choice([it for it in self.windows if it is not self.here])
-            return Act(f"goes to the window of {other.holder}", lambda: self.go_to(other))
-        if way == "new window" and len(self.windows) < 3:
+            return self.another_window()
+        if way == "new window" and len(self.windows) < MOST_WINDOWS:
             role = self.choice.choice(self.roles)
             return Act(f"opens a window as {role}", lambda: self.open_window(role))
         return None
@@ -306,16 +337,12 @@ class Walker:
 
     def time_passes(self, midnight: bool) -> None:
         """The town's clock goes on: by some hours, or beyond midnight."""
-        import datetime
-        self.minute = getattr(self, "minute", 720)
+        now, more = self.town.now(), self.choice.choice([10, 60, 200])
         self.grace = time.monotonic() + NEW_DAY
-        if midnight or self.minute > 1200:
-            day = (datetime.date.fromisoformat(self.town.today) + datetime.timedelta(days=1)).isoformat()
-            self.minute = 5
-            self.town.set_clock(day, "00:05")
+        if midnight or now.hour >= LATE:
+            self.town.goes_to((now + datetime.timedelta(days=1)).replace(hour=0, minute=5))
         else:
-            self.minute += self.choice.choice([10, 60, 200])
-            self.town.set_clock(self.town.today, f"{self.minute // 60:02}:{self.minute % 60:02}")
+            self.town.goes_to(now + datetime.timedelta(minutes=more))
 
     def outside(self) -> None:
         """Another device cancels or books a trip of the rider who is shown, beside the site."""
@@ -330,12 +357,14 @@ class Walker:
     # The loop.
 
     def walk(self, steps: int, until: float, first: bool = False) -> None:
-        """So many steps, or as many as there is time for."""
+        """So many steps, or as many as there is time for. Where the first breach ends it, counts are held against the log every now and then."""
         self.open_window(self.roles[0])
         while self.number < steps and time.monotonic() < until and not (first and self.report.breaches):
             self.number += 1
             self.choice = random.Random(f"{self.report.seed} {self.number}")
             self.one_step()
+            if first and self.number % OFTEN == 0 and not self.report.breaches:
+                self.at_the_end()
         self.at_the_end()
 
     def one_step(self) -> None:
@@ -393,7 +422,6 @@ class Walker:
         """Takes in what was written, and holds the page against the desk until it agrees or the patience is over."""
         self.take_writes()
         if self.look.loaded != loaded:
-            self.here.denied = set()
             self.note_parts()
         began = time.monotonic()
         while True:
@@ -412,14 +440,15 @@ class Walker:
             self.take_writes()
             self.look = self.page.look()
         self.legs(loaded)
+        case_holding.hold_entry(self, loaded)
         self.errors()
 
     def legs(self, loaded: float) -> None:
         """What came of a form that was sent, once it has come to its end."""
         if not self.confirmed or self.look.dialog:
             return
-        permit, at, handle = self.confirmed
-        if handle != self.here.handle or self.look.loaded != loaded or self.offline or not permit.rider or self.look.subject != permit.rider:
+        permit, at, place = self.confirmed
+        if place != self.place() or self.look.loaded != loaded or self.offline or not permit.rider or self.look.subject != permit.rider:
             self.confirmed = None
             return
         end = time.monotonic() + PATIENCE
@@ -442,17 +471,20 @@ class Walker:
         checks = [*asked.tickets(found, trips, halves), *asked.denials(found, exchanges, self.words)]
         if permit.armed and permit in self.ledger.permits:
             checks += [it for it in [asked.never_asked(permit, exchanges, told)] if it]
+        if permit.what == "book" and not permit.same:
+            checks += asked.same_trips(found, trips)
         if permit.what == "change":
             checks += asked.not_changed(found, permit, self.words)
+        sent = next((it.fields for it in reversed(exchanges) if it.is_write and "companions" in it.fields), {})
         for leg in found:
-            checks += [it for it in self.leg(leg, permit, trips) if it]
+            checks += [it for it in self.leg(leg, permit, trips, sent) if it]
         for rule, text in checks:
             self.report.breaks(rule, text, self.here.role)
         if not checks:
             self.report.holds(asked.DONE, len(found) or 1)
 
-    def leg(self, leg: dict[str, Any], permit: Permit, trips: dict[int, dict[str, Any]]) -> list[asked.Fault | None]:
-        """One leg: as it was said, or denied as the desk itself denies it; and what has to be counted of it."""
+    def leg(self, leg: dict[str, Any], permit: Permit, trips: dict[int, dict[str, Any]], sent: dict[str, Any]) -> list[asked.Fault | None]:
+        """One leg: as it was said, or denied as the desk itself denies it; and what has to be counted of it. sent is what was asked last: who comes along."""
         said = asked.said_in(leg["text"], self.words, self.look.language)
         number = re.search(r"\d+", leg["heading"])
         if leg["ticket"] and number:
@@ -468,10 +500,10 @@ class Walker:
             return []
         day, start, end = ends
         self.expect(f"/tally/denials day={day} minute={said.minute} rule={rule}")
-        if names[0] not in ("no vehicle", "37.131(e)") or permit.what != "book" or not permit.rider:
+        if names[0] not in ("no vehicle", "37.131(e)") or permit.what != "book" or not permit.rider or (permit.both and said.mode != "by"):
             return []
-        fields = {"rider": permit.rider, "day": day, "from": start, "to": end, "attendant": False, "companions": 0}
-        return [asked.denied_wrongly(leg, said, fields, self.probe)]
+        fields = {"rider": permit.rider, "day": day, "from": start, "to": end, "attendant": sent.get("attendant", False), "companions": sent.get("companions", 0)}
+        return [asked.denied_wrongly(leg, said, fields, self.probe, sent)]
 
     def leg_meant(self, leg: dict[str, Any], permit: Permit) -> tuple[str, int, int] | None:
         """The day and the ends of a leg that was not booked; None where they are not sure."""
@@ -507,12 +539,19 @@ class Walker:
                 self.report.holds(rule)
         held("words", list(invariants.broken_words(look, self.words)))
         held("language", list(invariants.other_language(look, self.foreign)))
-        held("a sentence about the desk comes from a reply", list(invariants.denials_without_reply(look, self.here.denied, self.words)))
+        held("a sentence about the desk comes from a reply", list(invariants.denials_without_reply(look, self.denied(look.loaded / 1000), self.denied(0.0), self.words)))
         if act.by_key and look.loaded == loaded and look.signed_in and self.keeps_focus(act):
             held("focus", [] if look.focus else [f"the focus is nowhere after {act.words}"])
         if not self.offline and look.signed_in:
             found.extend(self.faults_of_lists())
+            focused = look.controls[look.at] if 0 <= look.at < len(look.controls) else None
+            if act.offers and not look.dialog and focused and focused.kind == "combo" and focused.value == act.offers:
+                held("a place is found by its name", [] if any(it.name.startswith(act.offers) for it in look.of("option")) else [f"{act.offers!r} was typed, and {[it.name for it in look.of('option')]} are offered"])
         return found
+
+    def denied(self, since: float) -> set[str]:
+        """The denials that this window's key got from a moment on."""
+        return {it.denied for it in self.town.recorder.of_key(self.town.keys[self.here.holder], since) if it.denied}
 
     def keeps_focus(self, act: Act) -> bool:
         """Whether the focus was somewhere, and the keys do not lead beyond the ends of the page."""
@@ -535,6 +574,7 @@ class Walker:
             else:
                 self.report.holds("what is shown has an age")
         found.extend(self.faults_of_days(halves))
+        found.extend(case_holding.faults(self))
         card = self.browser.script(shown.CARD) if self.here.role == "clerk" and self.look.address.startswith("#clerk") else None
         if card and self.look.subject:
             standing = self.town.ask("third clerk", f"/riders/{self.look.subject}/standing/{self.town.today}")
@@ -569,9 +609,6 @@ class Walker:
         """Each write that the desk did was confirmed, and each denial is remembered with its key."""
         for it in self.town.recorder.since(self.recorded):
             self.recorded += 1
-            for window in self.windows:
-                if self.town.keys[window.holder] == it.key and it.denied:
-                    window.denied.add(it.denied)
             if it.is_write and it.denied and f"denials.{it.denied}" not in self.words.texts["en"]:
                 self.report.breaks("no denial without words", f"{it.path} is denied {it.denied}", self.here.role)
             if not it.is_done:
@@ -593,8 +630,13 @@ class Walker:
         with contextlib.suppress(WebDriverException):
             for line in self.browser.driver.get_log("browser"):
                 if line["level"] == "SEVERE" and line["source"] not in ("network", "recommendation") \
-                        and not any(re.search(it, line["message"]) for it in IGNORED):
+                        and not any(re.search(it, line["message"]) for it in IGNORED) and not self.is_said(line["message"]):
                     self.report.breaks("no error in the console", line["message"][:400], self.here.role)
+
+    def is_said(self, message: str) -> bool:
+        """Whether an error is that of a file which did not come over a broken line, and the page says so."""
+        said = self.words.texts[self.look.language]["common.not-loaded"]
+        return bool(self.offline) and "Failed to fetch dynamically imported module" in message and self.look.shows(said)
 
     def at_the_end(self) -> None:
         """What was counted is in the site's log, and nothing waits."""
@@ -603,16 +645,17 @@ class Walker:
         self.town.recorder.planned.clear()
         for window in self.windows:
             self.leaves_form(window)
-        end = time.monotonic() + 4 * PATIENCE
+        expected, end = self.expected, time.monotonic() + 4 * PATIENCE
         while True:
             lines = self.town.tally_lines()
             missing = [what for what in self.expected if not any(all(part in line for part in what.split(" ")) for line in lines)]
             if not missing or time.monotonic() > end:
                 break
             time.sleep(0.5)
+        found, self.expected = len(self.expected) - len(missing), {}
         for what in missing:
-            self.report.breaks("what is counted is counted", f"{what} ({self.expected[what][0]}) is not in the site's log", "any")
-        self.report.holds("what is counted is counted", len(self.expected) - len(missing))
+            self.report.breaks("what is counted is counted", f"{what} ({expected[what][0]}) is not in the site's log", "any")
+        self.report.holds("what is counted is counted", found)
         self.nothing_waits()
 
     def leaves_form(self, window: Window) -> None:

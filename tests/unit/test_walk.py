@@ -1,0 +1,146 @@
+"""The rules of tests/walk without a browser: what a page may say, what an entry allows, and that no reload forgets a reply."""
+
+import sys
+from pathlib import Path
+from typing import Any
+
+import pytest
+
+TOP = Path(__file__).resolve().parents[2]
+sys.path[:0] = [str(TOP / "tests"), str(TOP / "tests/browser")]
+
+from walk_parts import cases  # pylint: disable=wrong-import-position
+from walk_parts.ledger import Ledger, Permit, Write
+from walk_parts.recorder import Recorder
+from walk_parts.words import Words, read_words
+
+KEY, OTHER = "a" * 26, "b" * 26
+REFUSED = "RIDER 7\nDATE 2025-05-01\nDECISION refused\nREASONS It is near.\n"
+GRANTED = "RIDER 7\nDATE 2025-05-02\nDECISION granted\nUNTIL 2025-09-30\nCONDITIONS always\n"
+
+
+@pytest.fixture(scope="module", name="words")
+def words_fixture() -> Words:
+    """The pages' own words."""
+    return read_words(str(TOP / "pages"))
+
+
+def request(method: str, path: str, key: str, body: str = "") -> bytes:
+    """A request as the site passes it on."""
+    head = f"{method} {path} HTTP/1.1\r\nDesk-Key: {key}\r\nDesk-Number: 5\r\n"
+    return f"{head}Content-Length: {len(body)}\r\n\r\n{body}".encode()
+
+
+class Said(Recorder):
+    """A recorder before a desk that says what the test says."""
+
+    says = '{"denied":"37.125"}'
+
+    def passed_on(self, _request: bytes) -> bytes:
+        head = "HTTP/1.1 200 OK\r\nContent-Type: application/json\r\n\r\n"
+        return (head + self.says).encode()
+
+
+@pytest.fixture(name="recorder")
+def recorder_fixture() -> Any:
+    """A recorder on a port of its own."""
+    made = Said(0, 0)
+    yield made
+    made.close()
+
+
+def test_a_reply_stays_on_record_until_who_got_it_is_asked_about(recorder: Said) -> None:
+    recorder.asked(request("GET", "/riders/7/standing/2025-05-01", KEY))
+    first = recorder.exchanges[-1].at
+    recorder.asked(request("GET", "/riders/8/standing/2025-05-01", KEY))
+    assert [it.path for it in recorder.of_key(KEY, first)] == [
+        "/riders/7/standing/2025-05-01",
+        "/riders/8/standing/2025-05-01",
+    ]
+    assert recorder.of_key(OTHER, 0.0) == []
+    assert recorder.of_key(KEY, recorder.exchanges[-1].at + 1) == []
+    assert {it.denied for it in recorder.of_key(KEY, 0.0)} == {"37.125"}
+
+
+def entry(name: str, number: int, rider: int = 7) -> Write:
+    """An entry that the desk took."""
+    return Write(f"/riders/{rider}/entries", KEY, number, {"entry": name}, {"entered": 1})
+
+
+def test_a_yes_to_an_entry_allows_that_entry_once() -> None:
+    ledger = Ledger()
+    ledger.give(Permit("entry", KEY, 1, rider=7, entry="grant"))
+    assert ledger.take(entry("refuse", 1)) is not None
+    assert ledger.take(entry("grant", 2, rider=8)) is not None
+    assert ledger.take(entry("grant", 3)) is None
+    assert ledger.take(entry("grant", 3)) is None
+    assert ledger.take(entry("grant", 4)) is not None
+
+
+def shown(text: str, heading: str, *parts: str, offers: bool = False) -> dict[str, Any]:
+    """The letters of a card with one letter."""
+    letter = {"heading": heading, "text": text, "parts": list(parts), "offers": offers}
+    letter["whole"] = " ".join([heading, *parts])
+    return {"age": "", "says": "", "letters": [letter]}
+
+
+BY = "An appeal against this decision is taken until Monday, June 30, 2025."
+DAY = "Thursday, May 1, 2025: We refused your application"
+
+
+def test_a_letter_is_the_desks_with_its_days(words: Words) -> None:
+    def fault(
+        card: dict[str, Any], appealed: set[int] | None = None, today: str = "2025-05-20"
+    ) -> str | None:
+        own = [(1, card["letters"][0]["text"])]
+        return cases.fault_of_letters(card, own, appealed or set(), today, words, "en")
+
+    assert fault(shown(REFUSED, DAY, BY, offers=True)) is None
+    assert "may be appealed" in str(fault(shown(REFUSED, DAY)))
+    assert "June 29" in str(fault(shown(REFUSED, DAY, BY.replace("30", "29"))))
+    assert "not be appealed any more" in str(fault(shown(REFUSED, DAY, BY), today="2025-07-01"))
+    assert "entered again" in str(fault(shown(REFUSED, DAY, BY, offers=True), {1}))
+    assert "its day" in str(fault(shown(REFUSED, DAY.replace("May 1", "May 2"), BY)))
+    granted = shown(GRANTED, "Friday, May 2, 2025: Granted", "You may ride through May 1.")
+    assert "UNTIL is 2025-09-30" in str(fault(granted))
+    gone = cases.fault_of_letters(
+        shown(REFUSED, DAY, BY), [(1, REFUSED), (3, GRANTED)], set(), "2025-05-20", words, "en"
+    )
+    assert gone is not None and "1 letters are shown" in gone
+
+
+def test_a_standing_is_that_of_its_day(words: Words) -> None:
+    desk = {"standing": "granted", "suspended": False, "until": "2025-09-30"}
+    both = {**desk, "conditions": ["months:1,2", "farther:2640"]}
+    text = (
+        "✓ You may ride on Monday, May 19, 2025. Reason: granted until Tuesday, September 30, 2025."
+    )
+    far = " For trips in January and February, or trips farther than 2,640 feet."
+
+    def fault(said: str, standing: dict[str, Any]) -> str | None:
+        card = {"age": "", "verdict": said[:40], "text": said}
+        return cases.fault_of_standing(card, standing, words, "en")
+
+    assert cases.first_day(text, "en") == "2025-05-19"
+    assert cases.first_day("el lunes 19 de mayo de 2025", "es") == "2025-05-19"
+    assert fault(text, desk) is None
+    assert fault(text + far, both) is None
+    assert "choice of conditions" in str(fault(text + far.replace(", or", " and"), both))
+    assert "verdict" in str(fault(text.replace("✓", "✗"), desk))
+    assert "last day" in str(fault(text.replace("30", "29"), desk))
+    assert "suspension" in str(fault(text, {**desk, "suspended": True}))
+    assert "denies" in str(fault(text, {"denied": "desk.unknown"}))
+
+
+PAGE = """<main><section id=first><h2>First</h2><table><thead><tr><th>Rider</th></tr></thead><tbody>
+<tr><th>7</th><td>by <b>Monday</b></td></tr><tr><td>8</td><td>now</td></tr></tbody></table></section>
+<section id=offers><h2>Offers</h2><table><tbody><tr><td>9</td></tr></tbody></table></section></main>"""
+
+
+def test_what_waits_is_the_nights_list() -> None:
+    def fault(*rows: list[str]) -> str | None:
+        return cases.fault_of_lists([{"title": "First", "rows": list(rows)}], PAGE, {"offers"})
+
+    assert fault(["7", "by Monday"], ["8", "now"]) is None
+    assert "lacks" in str(fault(["7", "by Monday"]))
+    assert "of its own" in str(fault(["7", "by Monday"], ["8", "now"], ["9", ""]))
