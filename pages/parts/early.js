@@ -1,18 +1,10 @@
 // What is asked for before anything else is here, since on a phone's line each answer takes its time: the agency's file, and what the screen takes
 // that will be shown.
 
+import { keptText } from "./kept.js";
 import { SCREENS } from "./screens.js";
 
 const LONGEST_WAIT = 5_000, WORDS = ["common", "signing"], MORE_WORDS = ["denials", "fields"];
-
-/** @param {string} name */
-function kept(name) {
-    try {
-        return localStorage.getItem(name);
-    } catch {
-        return null;
-    }
-}
 
 /** @param {string} rel @param {string} href */
 function link(rel, href) {
@@ -37,7 +29,7 @@ export function agencyFile() {
 }
 
 // (another language than the one that is kept is known once the agency's file is there)
-const language = kept("desk.language") === "es" ? "es" : "en";
+const language = keptText("local", "desk.language") === "es" ? "es" : "en";
 
 /** Asks for the files of a screen that the page names (index.html): those that a phone shows.
  * @param {string} id
@@ -53,4 +45,5 @@ export function askAhead(id) {
 const askWords = (/** @type {string[]} */ names) => names.forEach((name) => link("modulepreload", `words/${language}/${name}.js`));
 
 askWords(WORDS);
-askAhead(sessionStorage.getItem("desk.key") === null && kept("desk.stay") === null ? "signing" : location.hash.slice(1).split("/")[0] || kept("desk.screen") || "");
+askAhead(keptText("session", "desk.key") === null && keptText("local", "desk.stay") === null ? "signing"
+    : location.hash.slice(1).split("/")[0] || keptText("local", "desk.screen") || "");

@@ -7,6 +7,7 @@
 import { agency, placeOf } from "./agency.js";
 import * as desk from "./desk.js";
 import { keepObject, keptObject } from "./kept.js";
+import { alone, held } from "./locks.js";
 import { toldRead } from "./told.js";
 import { guessedDrive, isMadeUp } from "./wishes.js";
 
@@ -32,8 +33,6 @@ let served = { text: null, bookings: {}, offers: {} };
  * @type {Map<string, { whose: string | null, release: () => void }>}
  */
 const running = new Map();
-
-// The browser's store. Without one nothing is remembered, and nothing fails.
 
 /** @param {string} name @param {string | null} [whose] @returns {any} */
 const stored = (name, whose = desk.digest()) => keptObject(`${name}.${whose}`);
@@ -135,8 +134,8 @@ const lockOf = (id) => `desk asking ${id}`;
 /** @param {Omit<import("./taken-up.js").Booking, "id" | "since"> | Omit<import("./taken-up.js").Canceling, "id" | "since">} asking */
 function begin(asking) {
     const id = desk.newKey(), whose = desk.digest();
-    const held = new Promise((release) => running.set(id, { whose, release: () => release(null) }));
-    navigator.locks?.request(lockOf(id), () => held);
+    const ends = new Promise((release) => running.set(id, { whose, release: () => release(null) }));
+    alone(lockOf(id), () => ends);
     put(ASKING, id, { id, since: Date.now(), ...asking });
     return id;
 }
@@ -174,7 +173,7 @@ export function endAsking(id) {
 export async function leftOpen(rider = null) {
     const all = /** @type {Asking[]} */ (Object.values(stored(ASKING))).filter((it) => rider === null || it?.rider === rider);
     if (!all.length) return [];
-    const names = new Set((await navigator.locks?.query())?.held?.map(({ name }) => name));
+    const names = await held();
     const open = all.filter(({ id }) => !running.has(id) && !names.has(lockOf(id)));
     return rider !== null && open.length < all.length ? null : open;
 }
