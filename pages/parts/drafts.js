@@ -59,7 +59,7 @@ function fill(form, values) {
 }
 
 /** Keeps what is typed into a form under a name, such as that of its kind and its rider; first it writes what was kept. drop() is for what was
- * sent, keep() for what the page itself has written into the form.
+ * sent, clear() also takes it out of the form, and keep() is for what the page itself has written into it.
  * @param {HTMLElement} form @param {string} name
  */
 export function draftIn(form, name) {
@@ -74,7 +74,11 @@ export function draftIn(form, name) {
     }
     form.addEventListener("input", keepIt);
     form.addEventListener("change", keepIt);
-    return { drop: () => keep(name, null), keep: keepIt };
+    const clear = () => {
+        fill(form, JSON.parse(empty));
+        keep(name, null);
+    };
+    return { drop: () => keep(name, null), clear, keep: keepIt };
 }
 
 // Whoever signs out by hand leaves nothing.

@@ -266,8 +266,12 @@ async function showScreen(screen, mine) {
     return undefined;
 }
 
+/** A question that nobody has answered is answered no once another screen is shown, and tells whom it was about no more. */
+const answerNo = () => document.querySelectorAll("dialog").forEach((it) => it.close(""));
+
 /** @param {{ again?: boolean }} options */
 async function show({ again = false } = {}) {
+    if (!again) answerNo();
     desk.leave();
     takePaperAway();
     const mine = shows += 1;
@@ -327,8 +331,7 @@ async function signOut(words, byHand = false) {
     const digest = desk.digest();
     forgetAll({ byHand });
     desk.signOut();
-    // (a question that nobody has answered is answered no, and tells whom it was about no more)
-    for (const it of document.querySelectorAll("dialog")) it.close("");
+    answerNo();
     if (digest) await forgetHere(digest);
     forgetPlaces();
     forgetRoster();

@@ -5,6 +5,7 @@
 // rider. All of it is bound to the digest of the key, and is of trips and minutes alone but for what is being asked.
 
 import { agency, placeOf } from "./agency.js";
+import { today } from "./clock.js";
 import * as desk from "./desk.js";
 import { keepObject, keptObject } from "./kept.js";
 import { alone, held } from "./locks.js";
@@ -114,7 +115,7 @@ export const isKeptElsewhere = (offer, old) => holds(servedNow().bookings[offer.
  * @param {Trip} trip @returns {Offer | null}
  */
 export function openOffer(trip) {
-    if (trip.status !== "booked") return null;
+    if (trip.status !== "booked" || trip.day < today()) return null;
     const told = servedNow().offers[trip.trip], own = offerOf(trip.trip);
     if (own && isKeptElsewhere(trip, own.old)) return null;
     if (own || !holds(told, trip) || holds(stored(SAID)[trip.trip], trip) || holds(servedNow().bookings[trip.trip], trip)) return own;
