@@ -36,7 +36,7 @@ const SECTIONS = /** @type {Record<string, string>} */ ({ presumed: "49 CFR 37.1
 function suspendedWords(day, letters) {
     const days = suspensionOn(letters, day), letter = suspendingOn(letters, day);
     return [part("p", {}, days ? t("cases.suspended-days", { first: dayInWords(days.from), last: dayInWords(days.to) }) : t("cases.suspended"), " (49 CFR 37.125(h))"),
-        letter && mayAppeal(letter, letters) && part("p", {}, t(isOwn() ? "cases.suspended-appeal-own" : "cases.suspended-appeal", { day: dayInWords(lastDay(letter)) }), " (49 CFR 37.125(h)(3))")];
+        letter && mayAppeal(letter, letters) && part("p", {}, t(isOwn() ? "cases.suspended-appeal-own" : "cases.suspended-appeal", { day: dayInWords(lastDay(letter)), page: isOwn() && t("rider.letters") }), " (49 CFR 37.125(h)(3))")];
 }
 
 /** @param {number} rider @param {string} day @param {Standing} told @param {import("../parts/letter-text.js").Letter[]} letters */

@@ -812,7 +812,7 @@ def a_suspension_has_days_of_its_own_on_the_card(at):
         at.browser.fill("Your rider number", "1007")
         at.browser.press("Show my pages")
         at.browser.sees("You may not ride on Friday, March 14, 2025.", "Suspended from Thursday, March 13, 2025 through Thursday, March 20, 2025.",
-                        "You may appeal until Sunday, May 11, 2025, on the page “Letters”. While your appeal waits, you may ride.")
+                        "You may appeal until Sunday, May 11, 2025, on the page “Letters and appeal”. While your appeal waits, you may ride.")
         same("it is entered", True, "entered" in at.town.post("rider 1007", "/riders/1007/entries", {"entry": "appeal", "against": 4}))
         at.browser.reload()
         at.browser.sees("You may ride on Friday, March 14, 2025.")

@@ -214,6 +214,6 @@ export const words = {
     "cases.appeals-unknown": ({ date }) => `No appeal is known here. The desk does not list appeals: one that came since last night may be on another computer. Enter a hearing or a decision only if you hold the appeal against the decision of ${date}.`,
     "cases.suspended-days": ({ first, last }) => `Suspended from ${first} through ${last}.`,
     "cases.suspended-appeal": ({ day }) => `The rider may appeal until ${day}. While an appeal waits, the rider may ride.`,
-    "cases.suspended-appeal-own": ({ day }) => `You may appeal until ${day}, on the page “Letters”. While your appeal waits, you may ride.`,
+    "cases.suspended-appeal-own": ({ day, page }) => `You may appeal until ${day}, on the page “${page}”. While your appeal waits, you may ride.`,
     "cases.appeal-heard-here": ({ day }) => `The appeal was heard on ${day}, as entered here. A decision is due within 30 days of the hearing.`,
 };

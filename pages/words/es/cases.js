@@ -214,6 +214,6 @@ export const words = {
     "cases.appeals-unknown": ({ date }) => `Aquí no consta ninguna apelación. El sistema no las enumera: una que llegó desde anoche puede estar en otra computadora. Anote una audiencia o una decisión solo si tiene la apelación contra la decisión del ${date}.`,
     "cases.suspended-days": ({ first, last }) => `Suspensión del ${first} al ${last}.`,
     "cases.suspended-appeal": ({ day }) => `La persona puede apelar hasta el ${day}. Mientras la apelación esté pendiente, puede viajar.`,
-    "cases.suspended-appeal-own": ({ day }) => `Puede apelar hasta el ${day}, en la página «Cartas». Mientras su apelación esté pendiente, puede viajar.`,
+    "cases.suspended-appeal-own": ({ day, page }) => `Puede apelar hasta el ${day}, en la página «${page}». Mientras su apelación esté pendiente, puede viajar.`,
     "cases.appeal-heard-here": ({ day }) => `La audiencia de la apelación fue el ${day}, según se anotó aquí. La decisión debe llegar dentro de los 30 días siguientes a la audiencia.`,
 };
