@@ -440,15 +440,15 @@ def what_was_booked_is_read_out_without_scrolling(at):
 @check
 def a_question_does_not_outlive_its_screen(at):
     trip = at.town.book(1005, THURSDAY, 700, 7, 8)
-    begin(at, "1002")
-    at.browser.go_part("clerk", "waits")
-    at.browser.shown("clerk/waits")
-    at.browser.go_part("clerk", "trips")
     begin(at, "1005")
+    for part in ["waits", "trips"]:
+        at.browser.go_part("clerk", part)
+        at.browser.shown(f"clerk/{part}")
     at.browser.press(f"Cancel trip {trip} of Samuel Grant (1005)")
     at.browser.find("button", f"Yes, cancel trip {trip}")
     at.browser.driver.back()
-    until("the question is still there", lambda: not at.browser.script("return document.querySelector('dialog[open]')"))
+    at.browser.shown("clerk/waits")
+    until("the question is still there", lambda: not at.browser.script("return document.querySelector('dialog[open]')"), 10)
     same("the trip", ["booked"], [it["status"] for it in at.town.trips_of(1005) if it["trip"] == trip])
     at.town.post("third clerk", f"/trips/{trip}/cancel", {})
 
