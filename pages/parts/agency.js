@@ -4,6 +4,7 @@
 import { hearServersTime, isDay, isZone, keepClocksOf, keepServiceHours } from "./clock.js";
 import * as desk from "./desk.js";
 import { agencyFile } from "./early.js";
+import { keepObject, keptObject } from "./kept.js";
 import { APPEAL_DAYS, HIGHEST_ID, LAST_MINUTE } from "./limits.js";
 import { LANGUAGES, t } from "./words.js";
 
@@ -178,15 +179,6 @@ function keepHours() {
     keepServiceHours(all.length ? [Math.min(...all.map(({ first }) => Number(first))), Math.max(...all.map(({ last }) => Number(last)))] : null);
 }
 
-function keptHere() {
-    try {
-        const it = JSON.parse(localStorage.getItem(ADDED) ?? "{}");
-        return isObject(it) ? it : {};
-    } catch {
-        return {};
-    }
-}
-
 let answered = false;
 
 /** Whether the site has said whether there is a file of the agency. */
@@ -194,7 +186,7 @@ export const hasAgency = () => answered;
 
 /** The file that anybody may read. Without it everything goes by numbers. */
 export async function loadAgency() {
-    added = keptHere();
+    added = keptObject(ADDED);
     /** @type {Trouble[]} */
     const faults = [];
     const file = "agency.json", text = await textOfAgency(), it = objectOf(file, text, faults) ?? {};
@@ -265,21 +257,21 @@ export function forgetPlaces() {
 export function add(kind, record) {
     const all = recordsIn(kind, [...recordsIn(kind, added[kind], []).values(), record], []);
     added = { ...added, [kind]: [...all.values()] };
-    localStorage.setItem(ADDED, JSON.stringify(added));
+    keepObject(ADDED, added);
     keepHours();
 }
 
 /** @param {Record<string, any>} values */
 export function addSettings(values) {
     added = { ...added, settings: { ...(added.settings ?? {}), ...values } };
-    localStorage.setItem(ADDED, JSON.stringify(added));
+    keepObject(ADDED, added);
     keepClocksOf(agency());
 }
 
 /** Goes back to what the server's file says. */
 export function forgetAdded() {
     added = {};
-    localStorage.removeItem(ADDED);
+    keepObject(ADDED, null);
     keepClocksOf(agency());
 }
 

@@ -11,13 +11,35 @@ const ANSWERS = { complete: { letters: ["granted", "refused"], entries: ["grant"
 const LISTS = { complete: { list: "applications", day: /^complete on$/i }, appeal: { list: "appeals", day: /^filed on$/i } };
 const HEARD = /^heard on$/i, DAY = /^\d{4}-\d{2}-\d{2}$/;
 
+/** The letter of the suspension that holds on a day, or null.
+ * @template {Letter} Kind @param {Kind[]} letters @param {string} day @returns {Kind | null}
+ */
+export function suspendingOn(letters, day) {
+    const last = letters.filter(({ decision, lines }) => decision === "suspended" && (lines.get("FROM") ?? "") <= day && day <= (lines.get("TO") ?? "")).at(-1);
+    return last && !letters.some(({ entry, decision }) => entry > last.entry && decision === "suspension overturned") ? last : null;
+}
+
 /** The days of the suspension that holds on a day, or null.
  * @param {Letter[]} letters @param {string} day @returns {{ from: string, to: string } | null}
  */
 export function suspensionOn(letters, day) {
-    const last = letters.filter(({ decision, lines }) => decision === "suspended" && (lines.get("FROM") ?? "") <= day && day <= (lines.get("TO") ?? "")).at(-1);
-    const falls = last && letters.some(({ entry, decision }) => entry > last.entry && decision === "suspension overturned");
-    return last && !falls ? { from: last.lines.get("FROM") ?? "", to: last.lines.get("TO") ?? "" } : null;
+    const letter = suspendingOn(letters, day);
+    return letter && { from: letter.lines.get("FROM") ?? "", to: letter.lines.get("TO") ?? "" };
+}
+
+/** The refusals and suspensions that no decision of an appeal has answered.
+ * @template {Letter} Kind @param {Kind[]} letters @returns {Kind[]}
+ */
+export const appealable = (letters) => letters.filter(({ entry, decision }) => (decision === "refused" || decision === "suspended")
+    && !letters.some((it) => it.entry > entry && ANSWERS.appeal.letters.includes(it.decision)));
+
+/** What an officer may enter of an appeal, by the decisions that it can be against.
+ * @param {Letter[]} open those that may be appealed @param {number | null} against the one that it is against, where that is known @param {boolean} isHeard @returns {string[]}
+ */
+export function entriesOfAppeals(open, against, isHeard) {
+    const those = open.filter(({ entry }) => against === null || entry === against), has = (/** @type {string} */ decision) => those.some((it) => it.decision === decision);
+    if (!those.length) return [];
+    return [...(isHeard ? [] : ["heard"]), ...(has("refused") ? ["appeal-granted"] : []), ...(has("suspended") ? ["overturn"] : []), "appeal-denied"];
 }
 
 /** @param {"complete" | "appeal"} kind @param {Letter[]} letters @param {Entered[]} entered @returns {Waits | null} */

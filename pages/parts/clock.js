@@ -1,6 +1,6 @@
 // Days and minutes, as the agency's clocks show them. A day is a text YYYY-MM-DD and a minute a number from midnight, as in the API.
 
-import { keepText } from "./kept.js";
+import { keepText, keptText } from "./kept.js";
 import { DAYS_AHEAD, FIRST_DAY, LAST_DAY } from "./limits.js";
 import { language, t } from "./words.js";
 
@@ -18,12 +18,8 @@ let zone;
 let service = null;
 
 function keptAhead() {
-    try {
-        const kept = Number(localStorage.getItem(AHEAD) ?? 0);
-        return Number.isFinite(kept) ? kept : 0;
-    } catch {
-        return 0;
-    }
+    const kept = Number(keptText("local", AHEAD) ?? 0);
+    return Number.isFinite(kept) ? kept : 0;
 }
 
 /** @param {string} text */

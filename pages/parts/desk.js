@@ -2,11 +2,12 @@
 // A desk that does not answer is asked again until it does.
 
 import { hearServersTime } from "./clock.js";
-import { dropText, forgetTexts, keepObject, keepText, keptObject, keptText } from "./kept.js";
+import { dropNames, dropText, keepObject, keepText, keptObject, keptText } from "./kept.js";
 import { digestOf, newKey, normalKey } from "./key.js";
 import { HIGHEST_NUMBER } from "./limits.js";
 import * as line from "./line.js";
 import { earlyReply } from "./read-ahead.js";
+import { alone } from "./locks.js";
 
 /**
  * @template Value
@@ -87,7 +88,8 @@ export async function stayAs(rider) {
     const by = key, [own, staff] = await Promise.all([fetchFile(`/own/${rider}/places.json`), fetchFile("/staff/roster.csv")]);
     if (![200, 404].includes(own.status) || staff.status !== 403 || key === null || key !== by) return;
     dropText("session", WANTED);
-    keepObject(STAY, { key, rider });
+    // (a key that lives as long as its page does not stay)
+    if (!keepObject(STAY, { key, rider })) keepObject(STAY, null);
 }
 
 /** A key that is nobody's any more is kept no longer.
@@ -104,8 +106,7 @@ function judged(told, by) {
 export function signOut() {
     if (stays() !== null) keepObject(STAY, null);
     key = mine = null;
-    forgetTexts();
-    sessionStorage.clear();
+    dropNames("session", () => true);
     leave();
 }
 
@@ -228,10 +229,10 @@ export function takeNumber(above = 0) {
 }
 
 /** Does something while no other window writes with this key.
- * @template Made @param {() => Promise<Made>} act @param {LockOptions} [options]
+ * @template Made @param {(has: boolean) => Promise<Made>} act @param {import("./locks.js").Options} [options]
  * @returns {Promise<Made>}
  */
-export const inTurn = (act, options = {}) => navigator.locks.request(`desk ${mine}`, options, act);
+export const inTurn = (act, options) => alone(`desk ${mine}`, act, options);
 
 /** One try of a write.
  * @param {string} path @param {Record<string, any>} fields @param {number} number @returns {Promise<Told>}

@@ -3,6 +3,7 @@
 
 import { controlName } from "./control-name.js";
 import * as desk from "./desk.js";
+import { dropNames, keepObject, keptText } from "./kept.js";
 import { whenSignedOut } from "./leaving.js";
 
 /** @typedef {Record<string, string | boolean>} Typed what stands in the controls, by their names */
@@ -20,7 +21,7 @@ const nameOf = (name) => `${KEPT}${desk.digest()} ${name}`;
 /** @param {string} name @returns {Typed | null} */
 function draftOf(name) {
     try {
-        return typed.get(nameOf(name)) ?? JSON.parse(sessionStorage.getItem(nameOf(name)) ?? "null");
+        return typed.get(nameOf(name)) ?? JSON.parse(keptText("session", nameOf(name)) ?? "null");
     } catch {
         return null;
     }
@@ -29,17 +30,9 @@ function draftOf(name) {
 /** @param {string} name @param {Typed | null} values */
 function keep(name, values) {
     if (!desk.digest()) return;
-    try {
-        if (values) {
-            typed.set(nameOf(name), values);
-            sessionStorage.setItem(nameOf(name), JSON.stringify(values));
-        } else {
-            typed.delete(nameOf(name));
-            sessionStorage.removeItem(nameOf(name));
-        }
-    } catch {
-        // (a window without room keeps it as long as its page lives)
-    }
+    if (values) typed.set(nameOf(name), values);
+    else typed.delete(nameOf(name));
+    keepObject(nameOf(name), values, "session");
 }
 
 const isTicked = (/** @type {HTMLInputElement} */ { type }) => type === "checkbox" || type === "radio";
@@ -66,7 +59,7 @@ function fill(form, values) {
 }
 
 /** Keeps what is typed into a form under a name, such as that of its kind and its rider; first it writes what was kept. drop() is for what was
- * sent, keep() for what the page itself has written into the form.
+ * sent, clear() also takes it out of the form, and keep() is for what the page itself has written into it.
  * @param {HTMLElement} form @param {string} name
  */
 export function draftIn(form, name) {
@@ -81,12 +74,16 @@ export function draftIn(form, name) {
     }
     form.addEventListener("input", keepIt);
     form.addEventListener("change", keepIt);
-    return { drop: () => keep(name, null), keep: keepIt };
+    const clear = () => {
+        fill(form, JSON.parse(empty));
+        keep(name, null);
+    };
+    return { drop: () => keep(name, null), clear, keep: keepIt };
 }
 
 // Whoever signs out by hand leaves nothing.
 whenSignedOut(({ byHand }) => {
     if (!byHand) return;
     typed.clear();
-    for (const name of Object.keys(sessionStorage)) if (name.startsWith(KEPT)) sessionStorage.removeItem(name);
+    dropNames("session", (name) => name.startsWith(KEPT));
 });

@@ -1,19 +1,11 @@
 // What is asked for before anything else is here, since on a phone's line each answer takes its time: the agency's file, what the screen takes that
 // will be shown, and what a driver's phone will read.
 
+import { keptText } from "./kept.js";
 import { dropAhead, readAhead } from "./read-ahead.js";
 import { SCREENS } from "./screens.js";
 
 const LONGEST_WAIT = 5_000, WORDS = ["common", "signing"], MORE_WORDS = ["denials", "fields"];
-
-/** @param {string} name */
-function kept(name) {
-    try {
-        return localStorage.getItem(name);
-    } catch {
-        return null;
-    }
-}
 
 /** @param {string} rel @param {string} href */
 function link(rel, href) {
@@ -38,7 +30,7 @@ export function agencyFile() {
 }
 
 // (another language than the one that is kept is known once the agency's file is there)
-const language = kept("desk.language") === "es" ? "es" : "en";
+const language = keptText("local", "desk.language") === "es" ? "es" : "en";
 
 /** Asks for the files of a screen that the page names (index.html): those that a phone shows.
  * @param {string} id
@@ -69,8 +61,8 @@ async function readManifest(key, van) {
     setTimeout(dropAhead, LONGEST_WAIT);
 }
 
-const key = sessionStorage.getItem("desk.key"), van = sessionStorage.getItem("desk.subject.vehicle") ?? "";
-const screen = key === null && kept("desk.stay") === null ? "signing" : location.hash.slice(1).split("/")[0] || kept("desk.screen") || "";
+const key = keptText("session", "desk.key"), van = keptText("session", "desk.subject.vehicle") ?? "";
+const screen = key === null && keptText("local", "desk.stay") === null ? "signing" : location.hash.slice(1).split("/")[0] || keptText("local", "desk.screen") || "";
 askWords(WORDS);
 askAhead(screen);
 if (key !== null && screen === "driver" && /^[1-9]\d*$/.test(van)) readManifest(key, van).catch(() => {});

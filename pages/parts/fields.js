@@ -277,10 +277,10 @@ function sendByEnter(event) {
  * it is sent a second click does nothing.
  * @param {{ name?: string, fields: Field[], action: string, purpose?: string, send: (values: any) => Promise<any>, done: (value: any, values: any) => any,
  *   begun?: () => void, check?: (values: any) => { field: string, fault: string } | null, ask?: (values: any) => Question | null | undefined | Promise<Question | null | undefined>, denied?: (reply: any, values: any) => Given | void,
- *   danger?: boolean, extra?: Given, class?: string }} given
+ *   danger?: boolean, toAnswer?: boolean, extra?: Given, class?: string }} given toAnswer puts the focus on a denial
  */
-export function form({ name, fields, action, purpose, send, done, begun = () => {}, check = () => null, ask = () => null, denied, danger = false, extra, class: kind }) {
-    const box = make("div", { role: "alert" }), submit = make("button", { type: "submit", class: danger ? "danger" : "main" }, action);
+export function form({ name, fields, action, purpose, send, done, begun = () => {}, check = () => null, ask = () => null, denied, danger = false, toAnswer = false, extra, class: kind }) {
+    const box = make("div", { role: "alert", tabindex: toAnswer ? -1 : null }), submit = make("button", { type: "submit", class: danger ? "danger" : "main" }, action);
     let busy = false;
     const told = (/** @type {any} */ reply, /** @type {any} */ values) => {
         const at = fields.find((it) => it.name === reply.field);
@@ -288,6 +288,7 @@ export function form({ name, fields, action, purpose, send, done, begun = () => 
             at.tell(at.wants);
             at.control.focus();
         } else drawInto(box, denied?.(reply, values) || denialOf(reply, purpose));
+        if (!at && toAnswer) box.focus();
     };
     const run = async () => {
         const values = await valuesOf(fields, check);

@@ -3,12 +3,13 @@
 import { agency, forgetPlaces, hasAgency, loadAgency, loadPlaces, troubles } from "./agency.js";
 import { asked } from "./ask.js";
 import { plus, today } from "./clock.js";
+import { hasDatabase } from "./database.js";
 import * as desk from "./desk.js";
 import { denialOf } from "./denials.js";
 import { button, drawInto, found, make, part, say } from "./element.js";
 import { askAhead } from "./early.js";
 import { forgetAll } from "./leaving.js";
-import { keepText } from "./kept.js";
+import { dropNames, keepText, keptText, namesKept, whenNotKept } from "./kept.js";
 import * as line from "./line.js";
 import { clearNotes, dropNote, keepNotes, note, sayNotesAgain } from "./notes.js";
 import { takePaperAway } from "./paper.js";
@@ -105,7 +106,7 @@ let countedFor = "";
 
 /** Says what came of what windows that are gone left open, to who signs in. */
 async function takeUpLeft() {
-    if (!Object.keys(localStorage).some((name) => name.startsWith("desk.asking."))) return;
+    if (!namesKept("local").some((name) => name.startsWith("desk.asking."))) return;
     try {
         const [{ takeUpAll }] = await Promise.all([import("../screens/take-up.js"), useWords("sent", "booking")]);
         await takeUpAll();
@@ -214,7 +215,7 @@ async function showSignIn(mine) {
     /** @type {{ signIn?: typeof import("./signing.js").signIn }} */
     const { signIn } = await Promise.all([import("./signing.js"), moreWords()]).then(([it]) => it).catch(notLoaded);
     if (mine !== shows || !signIn) return;
-    const first = wanted().screen?.id ?? kept(SCREEN) ?? "rider";
+    const first = wanted().screen?.id ?? keptText("local", SCREEN) ?? "rider";
     // (while the key is typed)
     setTimeout(() => askAhead(first));
     drawInto(found("main"), signIn({ screen: first, signed: (screen) => {
@@ -265,12 +266,16 @@ async function showScreen(screen, mine) {
     return undefined;
 }
 
+/** A question that nobody has answered is answered no once another screen is shown, and tells whom it was about no more. */
+const answerNo = () => document.querySelectorAll("dialog").forEach((it) => it.close(""));
+
 /** @param {{ again?: boolean }} options */
 async function show({ again = false } = {}) {
+    if (!again) answerNo();
     desk.leave();
     takePaperAway();
     const mine = shows += 1;
-    if (desk.signedIn() && !wanted().screen) history.replaceState(null, "", `#${screenOf(kept(SCREEN) ?? "")?.id ?? "rider"}`);
+    if (desk.signedIn() && !wanted().screen) history.replaceState(null, "", `#${screenOf(keptText("local", SCREEN) ?? "")?.id ?? "rider"}`);
     const { screen } = wanted();
     document.body.classList.toggle("signed-out", !desk.signedIn());
     if (!desk.signedIn() || !screen) await showSignIn(mine);
@@ -315,15 +320,6 @@ function slash(event) {
 
 // Signing out: nothing stays that tells who was there.
 
-/** @param {string} name */
-function kept(name) {
-    try {
-        return localStorage.getItem(name);
-    } catch {
-        return null;
-    }
-}
-
 async function leaveByHand() {
     if (!await maySignOut()) return;
     if (line.isWaiting() && !await asked({ question: t("signing.waiting"), detail: t("signing.waiting-detail"), yes: t("signing.out-anyway"), danger: true })) return;
@@ -335,13 +331,12 @@ async function signOut(words, byHand = false) {
     const digest = desk.digest();
     forgetAll({ byHand });
     desk.signOut();
-    // (a question that nobody has answered is answered no, and tells whom it was about no more)
-    for (const it of document.querySelectorAll("dialog")) it.close("");
+    answerNo();
     if (digest) await forgetHere(digest);
     forgetPlaces();
     forgetRoster();
     loadedFor = "";
-    for (const name of Object.keys(localStorage)) if (name.startsWith("desk.") && !STAYS.includes(name) && !OF_KEYS.some((it) => name.startsWith(it))) localStorage.removeItem(name);
+    dropNames("local", (name) => name.startsWith("desk.") && !STAYS.includes(name) && !OF_KEYS.some((it) => name.startsWith(it)));
     clearNotes();
     history.replaceState(null, "", "#");
     await show();
@@ -411,8 +406,7 @@ async function finish() {
 
 /** A phone that a driver has used drops manifests that are two days old, whoever opens these pages on it. */
 async function forgetManifests() {
-    const stores = await globalThis.indexedDB?.databases?.().catch(() => []) ?? [];
-    if (!stores.some(({ name }) => name === "desk")) return;
+    if (!await hasDatabase("desk")) return;
     const { forgetDaysBefore } = await import("./manifest-copies.js");
     await forgetDaysBefore(plus(today(), -1));
 }
@@ -423,6 +417,7 @@ keepNotes();
 await Promise.all([loadAgency(), desk.comeBack()]);
 await chooseLanguage(languageFor(agency().languages));
 await useWords("common", "signing");
+whenNotKept(() => note("not-kept", () => t("common.not-kept")));
 window.addEventListener("hashchange", () => show());
 window.addEventListener("desk.key-gone", keyGone);
 window.addEventListener("desk.stay-gone", stayGone);

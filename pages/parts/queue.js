@@ -4,6 +4,7 @@
 
 import { asked } from "./ask.js";
 import { serverNow } from "./clock.js";
+import { databaseOf } from "./database.js";
 import * as desk from "./desk.js";
 import { countPath } from "./tally.js";
 import { t, useWords } from "./words.js";
@@ -26,7 +27,7 @@ import { t, useWords } from "./words.js";
  * @typedef {Omit<Entry, "order">} Fresh
  */
 
-const NAME = "desk", VERSION = 1, ENTRIES = "entries", COPIES = "copies", CHANNEL = "desk.queue";
+const NAME = "desk", ENTRIES = "entries", COPIES = "copies", CHANNEL = "desk.queue";
 const PAUSES = [1000, 2000, 4000, 8000, 15_000], HIGHEST_STEP = 2 ** 30;
 /** A tally waits so long, so that a tap that is taken back is not counted. */
 const HELD = 60_000;
@@ -37,41 +38,10 @@ const KEPT = 3 * 86_400_000;
 
 // The database.
 
-/** @type {Promise<IDBDatabase> | null} */
-let opened = null;
-
-function open() {
-    opened ??= new Promise((given, refused) => {
-        const request = indexedDB.open(NAME, VERSION);
-        request.onupgradeneeded = () => {
-            request.result.createObjectStore(ENTRIES, { keyPath: "order", autoIncrement: true }).createIndex("digest", "digest");
-            request.result.createObjectStore(COPIES, { keyPath: ["digest", "name"] });
-        };
-        request.onerror = () => refused(request.error);
-        request.onsuccess = () => {
-            request.result.onclose = () => { opened = null; };
-            request.result.onversionchange = () => {
-                request.result.close();
-                opened = null;
-            };
-            given(request.result);
-        };
-    });
-    opened.catch(() => { opened = null; });
-    return opened;
-}
-
-/** What act's request gives, once its whole change is on the disk; fails where there is no room or no database.
- * @param {string} store @param {IDBTransactionMode} mode @param {(store: IDBObjectStore) => IDBRequest | void} act @returns {Promise<any>} */
-async function within(store, mode, act) {
-    const database = await open();
-    return new Promise((given, refused) => {
-        const change = database.transaction(store, mode, { durability: "strict" });
-        change.onabort = () => refused(change.error ?? new Error("aborted"));
-        const request = act(change.objectStore(store));
-        change.oncomplete = () => given(request ? request.result : undefined);
-    });
-}
+const within = databaseOf(NAME, (database) => {
+    database.createObjectStore(ENTRIES, { keyPath: "order", autoIncrement: true }).createIndex("digest", "digest");
+    database.createObjectStore(COPIES, { keyPath: ["digest", "name"] });
+});
 
 /** Changes one entry where it still is; null drops it.
  * @param {number} order @param {(entry: Entry) => Entry | null} act */
@@ -131,11 +101,11 @@ async function unheld(order) {
 /** Drops an entry, unless it is being sent at this moment; whether it is gone.
  * @param {number} order @returns {Promise<boolean>} */
 export async function takeBack(order) {
-    const gone = await unheld(order) || await desk.inTurn(async (/** @type {Lock | null} */ turn) => {
+    const gone = await unheld(order) || await desk.inTurn(async (has) => {
         let left = false;
-        if (turn) await changed(order, (entry) => (left = entry.state !== "kept" && entry.state !== "waiting") ? entry : null);
-        return Boolean(turn) && !left;
-    }, { ifAvailable: true });
+        if (has) await changed(order, (entry) => (left = entry.state !== "kept" && entry.state !== "waiting") ? entry : null);
+        return has && !left;
+    }, { only: true });
     tell();
     return gone;
 }

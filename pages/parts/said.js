@@ -5,8 +5,10 @@
 // rider. All of it is bound to the digest of the key, and is of trips and minutes alone but for what is being asked.
 
 import { agency, placeOf } from "./agency.js";
+import { today } from "./clock.js";
 import * as desk from "./desk.js";
 import { keepObject, keptObject } from "./kept.js";
+import { alone, held } from "./locks.js";
 import { toldRead } from "./told.js";
 import { guessedDrive, isMadeUp } from "./wishes.js";
 
@@ -32,8 +34,6 @@ let served = { text: null, bookings: {}, offers: {} };
  * @type {Map<string, { whose: string | null, release: () => void }>}
  */
 const running = new Map();
-
-// The browser's store. Without one nothing is remembered, and nothing fails.
 
 /** @param {string} name @param {string | null} [whose] @returns {any} */
 const stored = (name, whose = desk.digest()) => keptObject(`${name}.${whose}`);
@@ -115,7 +115,7 @@ export const isKeptElsewhere = (offer, old) => holds(servedNow().bookings[offer.
  * @param {Trip} trip @returns {Offer | null}
  */
 export function openOffer(trip) {
-    if (trip.status !== "booked") return null;
+    if (trip.status !== "booked" || trip.day < today()) return null;
     const told = servedNow().offers[trip.trip], own = offerOf(trip.trip);
     if (own && isKeptElsewhere(trip, own.old)) return null;
     if (own || !holds(told, trip) || holds(stored(SAID)[trip.trip], trip) || holds(servedNow().bookings[trip.trip], trip)) return own;
@@ -135,8 +135,8 @@ const lockOf = (id) => `desk asking ${id}`;
 /** @param {Omit<import("./taken-up.js").Booking, "id" | "since"> | Omit<import("./taken-up.js").Canceling, "id" | "since">} asking */
 function begin(asking) {
     const id = desk.newKey(), whose = desk.digest();
-    const held = new Promise((release) => running.set(id, { whose, release: () => release(null) }));
-    navigator.locks?.request(lockOf(id), () => held);
+    const ends = new Promise((release) => running.set(id, { whose, release: () => release(null) }));
+    alone(lockOf(id), () => ends);
     put(ASKING, id, { id, since: Date.now(), ...asking });
     return id;
 }
@@ -174,7 +174,7 @@ export function endAsking(id) {
 export async function leftOpen(rider = null) {
     const all = /** @type {Asking[]} */ (Object.values(stored(ASKING))).filter((it) => rider === null || it?.rider === rider);
     if (!all.length) return [];
-    const names = new Set((await navigator.locks?.query())?.held?.map(({ name }) => name));
+    const names = await held();
     const open = all.filter(({ id }) => !running.has(id) && !names.has(lockOf(id)));
     return rider !== null && open.length < all.length ? null : open;
 }

@@ -6,6 +6,7 @@ import { between, clock, dayShort } from "./clock.js";
 import * as desk from "./desk.js";
 import { denialOf } from "./denials.js";
 import { button, part } from "./element.js";
+import { keepObject, keptObject } from "./kept.js";
 import { dropNote, note } from "./notes.js";
 import { riderLabel } from "./roster.js";
 import { makeScreen } from "./screen.js";
@@ -36,25 +37,15 @@ const readers = new Set();
 /** @returns {Leg[]} */
 function legs() {
     if (known?.digest === desk.digest()) return known.legs;
-    /** @type {any} */
-    let kept = null;
-    try {
-        kept = JSON.parse(sessionStorage.getItem(KEPT) ?? "null");
-    } catch {
-        // (what cannot be read is nothing)
-    }
-    known = { digest: desk.digest(), legs: kept?.digest === desk.digest() && Array.isArray(kept?.legs) ? afterLoading(kept.legs) : [] };
+    const kept = keptObject(KEPT, "session");
+    known = { digest: desk.digest(), legs: kept.digest === desk.digest() && Array.isArray(kept.legs) ? afterLoading(kept.legs) : [] };
     return known.legs;
 }
 
 /** @param {Leg[]} next */
 function keep(next) {
     known = { digest: desk.digest(), legs: next };
-    try {
-        sessionStorage.setItem(KEPT, JSON.stringify(known));
-    } catch {
-        // (a window without room keeps it as long as its page lives)
-    }
+    keepObject(KEPT, known, "session");
     readers.forEach((act) => act());
     showNote();
 }

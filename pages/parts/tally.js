@@ -8,6 +8,7 @@ import * as desk from "./desk.js";
 import { EVENTS } from "./events.js";
 import { newKey } from "./key.js";
 import { whenSignedOut } from "./leaving.js";
+import { alone } from "./locks.js";
 
 /** @typedef {import("./events.js").Kind} Kind */
 /** @typedef {import("./events.js").Fields} Fields */
@@ -22,7 +23,7 @@ import { whenSignedOut } from "./leaving.js";
 /** @typedef {{ refused: Kept[], loose: number }} Trouble refused: what the site will not have; loose: how many wait in this window alone */
 
 const GAP = 250, UNSURE = 120_000, LOOKED = 60_000, LOCK = "desk.counts";
-const within = storeOf("desk-counts", "events", { keyPath: "id" });
+const within = storeOf("desk-counts", "events", { keyPath: "id" }, { atOnce: true });
 
 /** Events for which this browser has no database or no room, while this page lives.
  * @type {Map<string, Kept>} */
@@ -134,9 +135,6 @@ export const eventPath = (kind, fields) => pathOf(kind, filled(kind, fields));
 
 // Sending. One window at a time sends.
 
-/** @param {() => Promise<void>} act */
-const inTurn = (act) => (navigator.locks ? navigator.locks.request(LOCK, act) : act());
-
 /** @param {number} milliseconds */
 const pause = (milliseconds) => new Promise((go) => { setTimeout(go, milliseconds); });
 
@@ -180,7 +178,7 @@ export async function sendCounts() {
     if (running || !desk.signedIn()) return;
     running = true;
     try {
-        await inTurn(sendThem);
+        await alone(LOCK, sendThem);
     } finally {
         running = false;
     }

@@ -1,7 +1,7 @@
 // All words of the pages, in the language of who reads them. A text is asked for by its key, and each
 // language has each key.
 
-import { keepText } from "./kept.js";
+import { keepText, keptText } from "./kept.js";
 
 export const LANGUAGES = ["en", "es"];
 /** The names of languages in themselves. */
@@ -40,16 +40,8 @@ async function load(it, name) {
  * @param {string[]} offered
  */
 export function languageFor(offered) {
-    const right = offered.filter((it) => LANGUAGES.includes(it)), kept = keptLanguage();
+    const right = offered.filter((it) => LANGUAGES.includes(it)), kept = keptText("local", CHOSEN);
     return kept && right.includes(kept) ? kept : right[0] ?? "en";
-}
-
-function keptLanguage() {
-    try {
-        return localStorage.getItem(CHOSEN);
-    } catch {
-        return null;
-    }
 }
 
 /** @param {string} it @param {{ keep?: boolean }} options */

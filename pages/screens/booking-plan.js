@@ -2,12 +2,13 @@
 // parts/wishes.js.
 
 import { agency } from "../parts/agency.js";
-import { momentNow } from "../parts/clock.js";
+import { minuteNow, momentNow, today } from "../parts/clock.js";
 import * as desk from "../parts/desk.js";
 import { beginAsking, driveOf, dropOffer, endAsking, isKeptElsewhere, keepOffer, keepSaid, leaveAsking } from "../parts/said.js";
 import { belongs } from "../parts/sent.js";
 import { cancelTrip, count, countLater } from "../parts/tally.js";
 import { countedRule, isAsSaid, nextStep, otherRequests } from "../parts/wishes.js";
+import { drivers } from "./trips-today.js";
 
 // For so long a way back may still be asked for, in milliseconds, once the way there was denied.
 const UNTIL_LOST = 600_000;
@@ -31,6 +32,7 @@ const UNTIL_LOST = 600_000;
  * @property {Denied | null} denied the denial that is told
  * @property {Ticket | null} offer a trip that stands and is not what the rider said, until that is answered
  * @property {Ticket | null} refused an offer that the rider did not want: the trip is given up
+ * @property {Trip | null} [moved] the trip of such an offer where another clerk has put it to another time
  * @property {boolean} other whether other times were tried
  * @property {string | null} waitsFor the leg that has to be booked before
  * @property {string} [marked] the moment at which a copy of the desk's file was asked for, so that a log can say why it was denied
@@ -143,6 +145,11 @@ function lossesOf(counted, onGone) {
     };
 }
 
+/** Whether the pickup window of a trip has begun.
+ * @param {{ day: string, window_from: number }} trip
+ */
+export const hasBegun = ({ day, window_from: from }) => day < today() || (day === today() && from <= minuteNow());
+
 /** What the site's log has of an offer beside the denial, so that whoever sees the rider next can ask for the answer.
  * @param {number} rider @param {Ticket} ticket @param {Trip | null} old
  */
@@ -227,17 +234,22 @@ export function askerOf(given) {
     return { rest, tryOthers, answer, mark, leave: losses.tell };
 }
 
-/** What the desk has of an offer by now: another clerk may have given it up. "left" where the screen was left meanwhile.
- * @param {number} rider @param {Ticket} offer @param {Trip | null} old gets what the desk has of a trip that is back @returns {Promise<"stands" | "gone" | "left">}
+/** @typedef {{ is: "stands" | "gone" | "moved" | "begun" | "left", now: Trip | null }} Now what the desk has of an offer: another clerk may have given it up (gone) or put the
+ *   trip to another time (moved), its pickup window may have begun, and the screen may have been left before the answer */
+
+/** What the desk has of an offer by now, and the site's log for who may read it: what another clerk kept is not given up by an answer from before.
+ * @param {number} rider @param {Ticket} offer @param {Trip | null} old gets what the desk has of a trip that is back @returns {Promise<Now>}
  */
 export async function offerNow(rider, offer, old) {
-    const reply = await desk.tripsOf(rider);
-    if (reply.denied === "left") return "left";
-    const now = reply.value?.trips.find(({ trip }) => trip === offer.trip);
-    if (!now || (now.status === "booked" && now.window_from === offer.window_from && now.window_to === offer.window_to)) return "stands";
+    const [reply] = await Promise.all([desk.tripsOf(rider), drivers()?.again()]);
+    if (reply.denied === "left") return { is: "left", now: null };
+    const now = reply.value?.trips.find(({ trip }) => trip === offer.trip) ?? null;
+    if (!now) return { is: "stands", now };
+    const isBooked = now.status === "booked", isSame = now.window_from === offer.window_from && now.window_to === offer.window_to;
+    if (isBooked && isSame) return { is: hasBegun(now) ? "begun" : "stands", now };
     dropOffer(offer.trip);
     if (old) Object.assign(old, now);
-    return "gone";
+    return { is: isBooked && !old ? "moved" : "gone", now };
 }
 
 /** What the record has of a leg once the rider has answered its offer.
@@ -246,9 +258,9 @@ export async function offerNow(rider, offer, old) {
 async function afterAnswer(leg, yes, { rider, trip: old }) {
     const { offer } = leg;
     if (!offer) return {};
-    const now = await offerNow(rider, offer, old);
-    if (now === "left") return {};
-    if (now === "gone") return { offer: null, refused: offer };
+    const { is, now } = await offerNow(rider, offer, old);
+    if (is === "left" || is === "begun") return {};
+    if (is === "gone" || is === "moved") return { offer: null, refused: offer, moved: is === "moved" ? now : null };
     // (what another clerk kept for the rider is not cancelled by an answer from before)
     if (yes || isKeptElsewhere(offer, old)) {
         if (yes) tellBooked(leg, offer);

@@ -120,8 +120,8 @@ function legShown(leg, about, acts, busy) {
     if (ticket) return part("li", { key }, ticketOf({ rider, ticket, wish, said }, { id,
         heading: t(trip ? "booking.changed-for" : "booking.booked-for", { trip: ticket.trip, rider: riderLabel(rider) }) }));
     if (offer) return part("li", { key }, offerShown({ trip: { ...wish, ...offer }, said, old: trip, denied: leg.denied, id, busy, answer: (yes) => acts.answer(leg, yes) }));
-    if (refused) return part("li", { key }, part("section", { class: "refused", tabindex: -1, id, "aria-label": refusedWords(trip) },
-        part("h3", {}, refusedWords(trip)), part("p", {}, t("booking.offer-counted"))));
+    if (refused) return part("li", { key }, part("section", { class: "refused", tabindex: -1, id, "aria-label": refusedWords(trip, leg.moved) },
+        part("h3", {}, refusedWords(trip, leg.moved)), part("p", {}, t("booking.offer-counted"))));
     if (leg.denied) return part("li", { key }, deniedShown(leg, about, acts, busy));
     return part("li", { key, class: "waiting" }, part("p", {}, `${legWords(leg)}: `, t(busy ? "booking.asking" : "booking.not-asked")));
 }
@@ -168,8 +168,10 @@ function wishScreen({ rider, trip = null, booked, heading, action }) {
             return { value: true };
         },
         done: () => {
-            const { legs } = screen.state;
-            screen.change({}, { focus: legs.length === 1 ? `leg-${legs[0].key}` : `results-${about.ids}` });
+            const { legs } = screen.state, id = legs.length === 1 ? `leg-${legs[0].key}` : `results-${about.ids}`;
+            screen.change({}, { focus: id });
+            // (the first pickup of several is what is read out next)
+            if (legs.length > 1) document.getElementById(id)?.scrollIntoView();
         } });
     // (what this form has under way comes to its end first)
     whole.addEventListener("submit", (event) => {

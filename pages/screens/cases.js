@@ -1,5 +1,6 @@
 // A rider's rights: the standing on a day, the letters in order, and what may be put into the case file.
 
+import { suspendingOn, suspensionOn } from "../parts/case-facts.js";
 import { dayInWords, monthNames, plus, today } from "../parts/clock.js";
 import * as desk from "../parts/desk.js";
 import { denialOf } from "../parts/denials.js";
@@ -12,7 +13,7 @@ import { reading } from "../parts/reads.js";
 import { riderLabel } from "../parts/roster.js";
 import { makeScreen } from "../parts/screen.js";
 import { anyOf, t } from "../parts/words.js";
-import { conditionInWords, isOwn, madeLetter, purposeOf } from "./letters.js";
+import { conditionInWords, isOwn, lastDay, lettersRead, madeLetter, mayAppeal, purposeOf } from "./letters.js";
 
 export { conditionInWords, lettersFor } from "./letters.js";
 
@@ -29,13 +30,22 @@ const WITH_LETTER = ["presumed", "appeal-overdue", "visitor"];
 const SECTIONS = /** @type {Record<string, string>} */ ({ presumed: "49 CFR 37.125(c)", "appeal-overdue": "49 CFR 37.125(g)", granted: "49 CFR 37.125(e)", none: "49 CFR 37.125",
     visitor: "49 CFR 37.127(e)", "visitor-used": "49 CFR 37.127(e)" });
 
-/** @param {number} rider @param {string} day @param {Standing} told */
-function standingWords(rider, day, { standing, suspended, until, conditions }) {
+/** The days of a suspension, and what an appeal changes, as far as its letter is known.
+ * @param {string} day @param {import("../parts/letter-text.js").Letter[]} letters
+ */
+function suspendedWords(day, letters) {
+    const days = suspensionOn(letters, day), letter = suspendingOn(letters, day);
+    return [part("p", {}, days ? t("cases.suspended-days", { first: dayInWords(days.from), last: dayInWords(days.to) }) : t("cases.suspended"), " (49 CFR 37.125(h))"),
+        letter && mayAppeal(letter, letters) && part("p", {}, t(isOwn() ? "cases.suspended-appeal-own" : "cases.suspended-appeal", { day: dayInWords(lastDay(letter)), page: isOwn() && t("rider.letters") }), " (49 CFR 37.125(h)(3))")];
+}
+
+/** @param {number} rider @param {string} day @param {Standing} told @param {import("../parts/letter-text.js").Letter[]} letters */
+function standingWords(rider, day, { standing, suspended, until, conditions }, letters) {
     const may = !suspended && MAY_RIDE.includes(standing), values = { who: riderLabel(rider), day: dayInWords(day) };
     const verdict = isOwn() ? t(may ? "cases.you-may" : "cases.you-may-not", values) : t(may ? "cases.may" : "cases.may-not", values);
     const why = t(`cases.why-${standing}`), last = until && t("cases.until", { day: dayInWords(until) });
     return part("div", { class: `standing ${may ? "yes" : "no"}` }, part("p", { class: "verdict" }, may ? "✓ " : "✗ ", verdict),
-        suspended && part("p", {}, t("cases.suspended"), " (49 CFR 37.125(h))"),
+        suspended && suspendedWords(day, letters),
         part("p", {}, t(suspended ? "cases.else" : "cases.reason", { why: [why, last].filter(Boolean).join(" ") }), ` (${SECTIONS[standing]})`),
         conditions && part("p", {}, t("cases.for", { conditions: anyOf(conditions.map((it) => conditionInWords(it))) }), " (49 CFR 37.123(b))"),
         !suspended && WITH_LETTER.includes(standing) && madeLetter(standing, rider, { day }));
@@ -43,7 +53,8 @@ function standingWords(rider, day, { standing, suspended, until, conditions }) {
 
 /** @param {number} rider */
 export function standingOf(rider) {
-    const on = (/** @type {string} */ day) => ({ day, read: reading(desk.pathOf.standing(rider, day)) });
+    const on = (/** @type {string} */ day) => ({ day, read: reading(desk.pathOf.standing(rider, day)) }), letters = lettersRead(rider);
+    let hasLetters = false;
     const screen = makeScreen({
         state: on(today()),
         class: "card",
@@ -51,12 +62,20 @@ export function standingOf(rider) {
             const reply = read.reply();
             return [part("h2", {}, isOwn() ? t("cases.standing-own") : t("cases.standing", { who: riderLabel(rider) })), read.age(),
                 part("div", { role: "status", id: "standing-answer" }, reply === null ? t("cases.reading")
-                    : reply.denied !== undefined ? denialOf(reply, purposeOf("standing")) : standingWords(rider, day, reply.value)),
+                    : reply.denied !== undefined ? denialOf(reply, purposeOf("standing")) : standingWords(rider, day, reply.value, letters.reply()?.value ?? [])),
                 kept("ask", () => form({ name: t("cases.standing-day"), fields: [dayField("day", t("cases.day"), { value: today() })], class: "inline", action: t("cases.show-standing"),
                     send: async (values) => ({ value: values.day }), done: show }))];
         },
     });
-    const watch = () => screen.state.read.watch(screen.element, () => screen.change({}));
+    const redraw = () => {
+        // (the letters cost some requests, and say something of a suspension alone)
+        if (!hasLetters && screen.state.read.reply()?.value?.suspended) {
+            hasLetters = true;
+            letters.watch(screen.element, redraw);
+        }
+        screen.change({});
+    };
+    const watch = () => screen.state.read.watch(screen.element, redraw);
     let leave = watch();
     const turn = (/** @type {string} */ day) => {
         leave();
@@ -177,11 +196,11 @@ export function entryForm(rider, kind, entered, otherwise = {}) {
         state: { done: false },
         draw: ({ done }, { kept }) => part("details", { class: "card entry", "data-entry": kind, open: isOpen }, part("summary", {}, t(`cases.heading-${kind}`, values)),
             part("p", {}, t(`cases.about-${kind}`)), kept("form", () => drafted(form({ name: t(`cases.heading-${kind}`, values), fields, action: t(`cases.do-${kind}`, values),
-                purpose: "entry", danger: AGAINST.includes(kind), check, begun: () => screen.change({ done: false }),
+                purpose: "entry", danger: AGAINST.includes(kind), toAnswer: true, check, begun: () => screen.change({ done: false }),
                 ask: (given) => ({ question: t(`cases.ask-${kind}`, values), detail: [fewWords(given), doubt?.(given), asked ? [asked(given), part("p", {}, t("cases.asked-final"))] : letterWords(entryOf(given))], yes: t("cases.yes", { action: t(`cases.do-${kind}`, values) }),
                     danger: AGAINST.includes(kind) }),
                 send: (given) => enter(rider, { entry, ...entryOf(given) }), done: async (value, given) => {
-                    draft?.drop();
+                    draft?.clear();
                     await did?.(value, given);
                     screen.change({ done: true }, { focus: id });
                     await entered();

@@ -2,6 +2,7 @@
 
 import { withSubject } from "../parts/subject.js";
 import { t } from "../parts/words.js";
+import { appealsFor } from "./appeals.js";
 import { entryForms, lettersFor, ofResident, standingOf } from "./cases.js";
 import { inPart, restOf } from "./in-part.js";
 import { suspensionFor } from "./notice.js";
@@ -16,7 +17,7 @@ const caseOf = (rider, kinds) => ofResident(rider, () => {
     const entered = () => Promise.all([standing.refresh(), letters.refresh()]);
     const mayEnd = kinds.includes("suspend"), mayGrant = kinds.includes("grant");
     return [standing.element, letters.element, ...(mayEnd ? [waitingOf(rider)] : []), ...(mayGrant ? [restOf(rider, entered)] : []),
-        ...entryForms(rider, kinds.filter((kind) => kind !== "suspend"), entered), ...(mayGrant ? [inPart(rider, entered)] : []), ...(mayEnd ? [suspensionFor(rider, entered)] : [])];
+        ...(kinds.includes("appeals") ? [appealsFor(rider, entered)] : []), ...entryForms(rider, kinds, entered), ...(mayGrant ? [inPart(rider, entered)] : []), ...(mayEnd ? [suspensionFor(rider, entered)] : [])];
 });
 
 /** @param {string[]} kinds */
@@ -26,7 +27,7 @@ export const examiner = () => [
     { id: "case", name: t("cases.applications"), draw: caseWith(["grant", "refuse"]) },
     { id: "waits", name: t("cases.waits"), draw: () => worklist("examiner") }];
 export const officer = () => [
-    { id: "appeals", name: t("cases.appeals"), draw: caseWith(["heard", "appeal-granted", "appeal-denied", "overturn"]) },
+    { id: "appeals", name: t("cases.appeals"), draw: caseWith(["appeals"]) },
     { id: "suspensions", name: t("cases.suspensions"), draw: caseWith(["notice-heard", "suspend"]) },
     { id: "waits", name: t("cases.waits"), draw: () => worklist("officer") },
     record("officer")];

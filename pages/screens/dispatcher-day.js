@@ -4,6 +4,7 @@ import { placeName, vehicleName } from "../parts/agency.js";
 import { between, clock, dayInWords, minuteNow, today } from "../parts/clock.js";
 import { denialOf } from "../parts/denials.js";
 import { button, part, say } from "../parts/element.js";
+import { dropText, keptText } from "../parts/kept.js";
 import { printDaySheet, printManifests } from "../parts/paper-day.js";
 import { folded, riderLabel, riderName, riderOf } from "../parts/roster.js";
 import { makeScreen } from "../parts/screen.js";
@@ -311,8 +312,8 @@ export function dayPicture() {
         if (moved || state.text === null) return;
         moved = true;
         moveToNow(state);
-        const trip = Number(sessionStorage.getItem(STOP)) || null, manifest = trip && knownOf(state).busy.find(({ stops }) => stops.some((stop) => stop.trip === trip));
-        sessionStorage.removeItem(STOP);
+        const trip = Number(keptText("session", STOP)) || null, manifest = trip && knownOf(state).busy.find(({ stops }) => stops.some((stop) => stop.trip === trip));
+        dropText("session", STOP);
         if (!trip || !manifest) return;
         screen.change({ chosen: manifest.vehicle, marked: trip }, { focus: "one-van" });
         openAt(stateOf(screen.state), manifest.vehicle, trip);

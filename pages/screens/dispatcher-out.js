@@ -7,6 +7,7 @@ import * as desk from "../parts/desk.js";
 import { denialOf, inWords } from "../parts/denials.js";
 import { button, part } from "../parts/element.js";
 import { dayField, form, valuesOf } from "../parts/fields.js";
+import { alone as oneAtATime } from "../parts/locks.js";
 import { byPickup, countsOf, isFar, keyOf, movedBy, saidOf, toTryAgain } from "../parts/out-of-service.js";
 import { printManifests } from "../parts/paper-day.js";
 import { makeScreen } from "../parts/screen.js";
@@ -198,8 +199,8 @@ async function keep(plan) {
  * @param {Plan} plan @param {() => Promise<void>} act
  */
 async function alone(plan, act) {
-    await navigator.locks.request(`desk-out ${keyOf(plan)}`, { ifAvailable: true }, async (lock) => {
-        if (!lock || work.running) return;
+    await oneAtATime(`desk-out ${keyOf(plan)}`, async (has) => {
+        if (!has || work.running) return;
         work.running = work.shown = keyOf(plan);
         work.tell();
         try {
@@ -208,7 +209,7 @@ async function alone(plan, act) {
             work.running = null;
             work.tell();
         }
-    });
+    }, { only: true });
 }
 
 /** Goes on by what the desk says now. What keeps it from being read is said; who left the screen hears nothing.

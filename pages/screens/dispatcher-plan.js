@@ -2,6 +2,7 @@
 // under its vehicle and day, so that any dispatcher's key goes on with it.
 
 import { plus, today, weekdayOf } from "../parts/clock.js";
+import { storeOf } from "../parts/database.js";
 import * as desk from "../parts/desk.js";
 import { EVENTS } from "../parts/events.js";
 import { DAYS_AHEAD } from "../parts/limits.js";
@@ -22,25 +23,7 @@ import { firstSaid, keepSaid, keepSettings } from "./dispatcher-settings.js";
 
 // Kept.
 
-const DATABASE = "desk-out", STORE = "plans";
-
-/** @param {IDBTransactionMode} mode @param {(store: IDBObjectStore) => IDBRequest} act @returns {Promise<any>} */
-const withStore = (mode, act) => new Promise((go, fail) => {
-    const opened = indexedDB.open(DATABASE, 1);
-    opened.onupgradeneeded = () => opened.result.createObjectStore(STORE);
-    opened.onerror = () => fail(opened.error);
-    opened.onsuccess = () => {
-        const transaction = opened.result.transaction(STORE, mode), asked = act(transaction.objectStore(STORE));
-        transaction.oncomplete = () => {
-            opened.result.close();
-            go(asked.result);
-        };
-        transaction.onerror = transaction.onabort = () => {
-            opened.result.close();
-            fail(transaction.error);
-        };
-    };
-});
+const within = storeOf("desk-out", "plans");
 
 /** A plan as it is now made, of one that an earlier page kept.
  * @param {any} plan @returns {Plan}
@@ -51,18 +34,18 @@ const asNow = (plan) => ({ back: null, settings: null, isBack: false, backDenied
 /** What was begun in this browser, whoever began it.
  * @returns {Promise<Plan[]>}
  */
-export const keptPlans = () => withStore("readonly", (store) => store.getAll())
+export const keptPlans = () => within("readonly", (store) => store.getAll())
     .then((plans) => plans.filter((/** @type {any} */ it) => it?.vehicle && Array.isArray(it.items)).map(asNow)).catch(() => []);
 
 /** Whether it is written down.
  * @param {Plan} plan
  */
-export const keepPlan = (plan) => withStore("readwrite", (store) => store.put(plan, keyOf(plan))).then(() => true).catch(() => false);
+export const keepPlan = (plan) => within("readwrite", (store) => store.put(plan, keyOf(plan))).then(() => true).catch(() => false);
 
 /** Forgets a plan, also where an earlier page kept it under another name.
  * @param {Plan} plan
  */
-export const dropPlan = (plan) => withStore("readwrite", (store) => {
+export const dropPlan = (plan) => within("readwrite", (store) => {
     store.openCursor().onsuccess = ({ target }) => {
         const cursor = /** @type {any} */ (target).result;
         if (cursor?.value && keyOf(cursor.value) === keyOf(plan)) cursor.delete();

@@ -6,6 +6,7 @@ import { clock, today } from "../parts/clock.js";
 import * as desk from "../parts/desk.js";
 import { denialOf, inWords } from "../parts/denials.js";
 import { button, part, save, table } from "../parts/element.js";
+import { keepText } from "../parts/kept.js";
 import { folded, riderLabel, riderName, riderOf } from "../parts/roster.js";
 import { makeScreen } from "../parts/screen.js";
 import { keepSubject } from "../parts/subject.js";
@@ -131,7 +132,7 @@ function closing({ day, bulk }, all, endRest) {
  */
 function toDay({ vehicle, trip }) {
     keepSubject("vehicle", vehicle);
-    sessionStorage.setItem(STOP, String(trip));
+    keepText("session", STOP, String(trip));
     location.hash = "#dispatcher/day";
 }
 

@@ -87,7 +87,7 @@ const APPEALABLE = ["refused", "suspended"], OF_APPEALS = ["appeal granted", "ap
 /** The last day of an appeal. The desk takes one up to it.
  * @param {Letter} letter
  */
-const lastDay = ({ date }) => plus(date, APPEAL_DAYS);
+export const lastDay = ({ date }) => plus(date, APPEAL_DAYS);
 
 /** To whom a letter goes, and what else stands in it.
  * @param {string} own @param {number} rider @param {Letter[]} letters @param {Partial<import("../parts/letter-text.js").About>} [otherwise]
@@ -174,7 +174,7 @@ function howPrinted(own, change) {
 }
 
 /** @param {Letter} letter @param {Letter[]} letters */
-const mayAppeal = (letter, letters) => APPEALABLE.includes(letter.decision) && today() <= lastDay(letter)
+export const mayAppeal = (letter, letters) => APPEALABLE.includes(letter.decision) && today() <= lastDay(letter)
     && !letters.some(({ entry, decision }) => entry > letter.entry && OF_APPEALS.includes(decision));
 
 /** What is offered or known of an appeal against a letter.

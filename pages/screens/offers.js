@@ -9,7 +9,7 @@ import { keepOffer, openOffer } from "../parts/said.js";
 import { makeScreen } from "../parts/screen.js";
 import { count } from "../parts/tally.js";
 import { t } from "../parts/words.js";
-import { givenUp, offerFields, offerNow, tellBooked } from "./booking-plan.js";
+import { givenUp, hasBegun, offerFields, offerNow, tellBooked } from "./booking-plan.js";
 import { saidWords, windowOf } from "./ticket.js";
 
 /** @typedef {import("../types").Trip} Trip */
@@ -31,19 +31,19 @@ import { saidWords, windowOf } from "./ticket.js";
  * @param {Shown} shown
  */
 export function offerShown({ trip, said, old, elsewhere, denied, id, busy, answer }) {
-    const far = trip.window_from - said.minute, time = clock(said.minute), disabled = busy ? "true" : null;
+    const far = trip.window_from - said.minute, time = clock(said.minute), disabled = busy ? "true" : null, isLate = hasBegun(trip);
     const heading = t(far > 0 ? "booking.offer-after" : "booking.offer-before", { offer: clock(trip.window_from), minutes: Math.abs(far), time });
     return part("section", { class: "offer", tabindex: -1, id, "data-offer": trip.trip, "aria-label": heading }, part("h3", {}, heading),
         part("p", {}, t("booking.offer-trip", { trip: trip.trip, day: dayInWords(trip.day), window: windowOf(trip), from: placeName(trip.from), to: placeName(trip.to),
-            said: saidWords(said) })), part("p", {}, t(elsewhere === "change" ? "booking.offer-changed-elsewhere" : old ? "booking.offer-of-change" : "booking.offer-asks")), denied && denialOf(denied, "cancel"),
-        part("div", { class: "row" }, button(t("booking.offer-yes", { trip: trip.trip }), () => answer(true), { class: "main", "aria-disabled": disabled }),
+            said: saidWords(said) })), part("p", {}, t(isLate ? "booking.offer-begun" : elsewhere === "change" ? "booking.offer-changed-elsewhere" : old ? "booking.offer-of-change" : "booking.offer-asks")), denied && denialOf(denied, "cancel"),
+        !isLate && part("div", { class: "row" }, button(t("booking.offer-yes", { trip: trip.trip }), () => answer(true), { class: "main", "aria-disabled": disabled }),
             elsewhere !== "change" && button(t(old ? "booking.offer-back" : "booking.offer-no", { trip: trip.trip, window: old ? windowOf(old) : "" }), () => answer(false), { "aria-disabled": disabled })));
 }
 
-/** What an offer that was not taken leaves: of a change the trip as it stands again.
- * @param {Trip | null} old
+/** What an offer that was not taken leaves: of a change the trip as it stands again, and else how another clerk has put it.
+ * @param {Trip | null} old @param {Trip | null} [moved]
  */
-export const refusedWords = (old) => (old ? t("booking.offer-is-back", { trip: old.trip, day: dayShort(old.day), window: windowOf(old) }) : t("booking.offer-given-up"));
+export const refusedWords = (old, moved = null) => (moved ? t("booking.offer-moved", { trip: moved.trip, day: dayShort(moved.day), window: windowOf(moved) }) : old ? t("booking.offer-is-back", { trip: old.trip, day: dayShort(old.day), window: windowOf(old) }) : t("booking.offer-given-up"));
 
 /** The offers of a rider that nobody has answered. show(trips) takes the rider's trips as they are now.
  * @param {number} rider @param {() => void} changed what is done once one was answered
@@ -63,16 +63,16 @@ export function offersOf(rider, changed) {
         const offer = openOffer(trip);
         if (!offer || screen.state.busy) return;
         screen.change({ busy: true });
-        const now = await offerNow(rider, trip, offer.old);
-        if (now === "left") {
+        const { is, now } = await offerNow(rider, trip, offer.old);
+        if (is === "left" || is === "begun") {
             screen.change({ busy: false });
             return;
         }
         // (another clerk may have answered it meanwhile)
-        const kept = now === "stands" && (yes || openOffer(trip) === null), denied = kept || now === "gone" ? null : await givenUp(trip.trip, offer.old);
+        const kept = is === "stands" && (yes || openOffer(trip) === null), denied = kept || is !== "stands" ? null : await givenUp(trip.trip, offer.old);
         if (kept && yes) tellBooked({ wish: trip, said: offer.said }, trip);
         screen.change(denied ? { busy: false, denied: { [trip.trip]: denied } } : { busy: false, trips: left(trip.trip),
-            told: kept ? t("booking.offer-kept", { trip: trip.trip }) : refusedWords(offer.old) }, { focus: denied ? `offer-${trip.trip}` : `offers-${rider}` });
+            told: kept ? t("booking.offer-kept", { trip: trip.trip }) : refusedWords(offer.old, is === "moved" ? now : null) }, { focus: denied ? `offer-${trip.trip}` : `offers-${rider}` });
         changed();
     };
     const show = (/** @type {Trip[]} */ all) => {

@@ -11,6 +11,7 @@ import { reading } from "../parts/reads.js";
 import { riderLabel, riderOf } from "../parts/roster.js";
 import { makeScreen } from "../parts/screen.js";
 import { anyOf, LANGUAGE_NAMES, listed, t } from "../parts/words.js";
+import { appealWords } from "./appeals.js";
 import { conditionInWords } from "./cases.js";
 import { lettersRead } from "./letters.js";
 import { listsIn, worklistRead } from "./worklist.js";
@@ -47,7 +48,7 @@ function standingWords(told, days, waiting) {
 function waitingWords(known) {
     const application = waits("complete", known), appeal = waits("appeal", known);
     return [application && t("clerk.application-waits", { day: dayShort(application.since) }),
-        appeal && t(appeal.heard ? "clerk.appeal-heard" : "clerk.appeal-waits", { day: dayShort(appeal.since), heard: dayShort(appeal.heard ?? appeal.since) })].filter(Boolean);
+        appeal && appealWords(appeal)].filter(Boolean);
 }
 
 /** Whether the rider travels with an attendant, by the letter of the grant where it was read, or by the roster; null where neither says it.

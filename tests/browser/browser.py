@@ -41,7 +41,7 @@ def started(options, tries=3):
 
 
 class Browser:
-    def __init__(self, origin, folder, size=(1280, 900)):
+    def __init__(self, origin, folder, size=(1280, 900), preferences=None):
         self.origin, self.folder, self.ignored = origin, folder, []
         options = Options()
         options.binary_location = "/usr/bin/chromium"
@@ -53,6 +53,7 @@ class Browser:
                          f"--window-size={size[0]},{size[1]}", f"--user-data-dir={home}"]:
             options.add_argument(argument)
         options.add_experimental_option("excludeSwitches", ["hide-scrollbars"])
+        options.add_experimental_option("prefs", preferences or {})
         options.set_capability("goog:loggingPrefs", {"browser": "ALL", "performance": "ALL"})
         RemoteConnection.set_timeout(LONGEST)
         self.driver = started(options)

@@ -108,14 +108,82 @@ def an_officer_denies_an_appeal_and_is_asked(at):
     at.browser.sees("The case of")
     holds("an officer is offered to appeal", not at.browser.is_there("button", re.compile("appeal against")))
     for at_kind, do in [("heard", "Rider 1009's appeal was heard"), ("appeal-denied", "Deny rider 1009's appeal")]:
-        at.browser.script("document.querySelector(`[data-entry=${arguments[0]}]`).open = true", at_kind)
+        opened_entry(at, at_kind)
         if at_kind == "appeal-denied":
             field = at.browser.find("field", "Reasons, as they stand in the letter")
             field.send_keys("lives by the stop")
         at.browser.press(do)
         at.browser.press(f"Yes: {do[0].lower()}{do[1:]}")
         at.browser.sees("on record" if at_kind == "heard" else "is denied. The letter is above.")
-    at.browser.sees("has denied the appeal. It was decided by a person who had no part")
+        until(f"the focus is on {focused_id(at)!r}", lambda: focused_id(at) == "appeals-1009")
+    at.browser.sees("has denied the appeal. It was decided by a person who had no part", "No decision of this rider can be appealed")
+    holds("what was decided can be decided again", not at.browser.is_there("button", re.compile("appeal$|appeal was heard")))
+
+
+APPEALS = """<main><section id=appeals><h2>Appeals to decide</h2><table><thead><tr><th>Rider<th>Name<th>Against<th>Filed on<th>Heard on<tbody>
+<tr><td>1041<td>?<td>refuse (entry 1)<td>2025-03-10<td>{heard}</table></section>"""
+
+
+def entries_of_appeals(at):
+    return at.browser.script("return [...document.querySelectorAll('[data-entry]')].map((it) => [it.dataset.entry, it.open])")
+
+
+@check
+def of_an_appeal_an_officer_is_offered_what_fits_and_reads_since_when_it_waits(at):
+    show(at, "officer", "officer", 1001, "appeals")
+    at.browser.sees("No decision of this rider can be appealed: there is no refusal and no suspension that no appeal has answered.")
+    same("forms for a rider whom nobody refused", [], entries_of_appeals(at))
+    enter = newcomer(at, 1041)
+    enter("clerk", "complete")
+    enter("examiner", "refuse", reasons="rides the bus to work alone each day, and says so")
+    show(at, "officer", "officer", 1041, "appeals")
+    at.browser.sees("No appeal is known here.", "the decision of Monday, March 10, 2025")
+    same("folded forms, and none that lifts a suspension", [["heard", False], ["appeal-granted", False], ["appeal-denied", False]], entries_of_appeals(at))
+    try:
+        for heard, state, forms in [("not heard", "An appeal has waited since Mon, Mar 10. It has not been heard.", [["heard", True], ["appeal-granted", False], ["appeal-denied", False]]),
+                                    ("2025-03-10", "An appeal has waited since Mon, Mar 10. It was heard on Mon, Mar 10.", [["appeal-granted", False], ["appeal-denied", False]])]:
+            at.town.write_file(WORKLIST, APPEALS.format(heard=heard))
+            show(at, "officer", "officer", 1041, "appeals")
+            at.browser.sees(state)
+            same(f"forms where it was {heard}", forms, entries_of_appeals(at))
+    finally:
+        at.town.write_file(WORKLIST, "<!doctype html><p>Nothing waits.</p>")
+
+
+@check
+def reasons_that_say_nothing_are_asked_about_and_go_once_they_are_sent(at):
+    newcomer(at, 1042)("clerk", "complete")
+    show(at, "examiner", "examiner", 1042)
+    at.browser.sees("The case of")
+    opened_entry(at, "refuse")
+    at.browser.fill(REASONS, "no")
+    at.browser.press("Refuse rider 1042's application")
+    at.browser.sees("These reasons are very short. The letter has to say specifically why. (49 CFR 37.125(d))")
+    at.browser.press("No, go back")
+    at.browser.fill(REASONS, "takes the bus to work alone five days a week, and climbs its steps")
+    at.browser.press("Refuse rider 1042's application")
+    holds("enough is asked about", "These reasons are very short" not in at.browser.text())
+    at.browser.press("Yes: refuse rider 1042's application")
+    at.browser.sees("is refused. The letter is above.")
+    same("what was typed for it", "", at.browser.value(REASONS))
+
+
+@check
+def the_second_of_two_examiners_reads_the_first_ones_letter(at):
+    enter = newcomer(at, 1043)
+    enter("clerk", "complete")
+    show(at, "examiner", "examiner", 1043)
+    at.browser.sees("There is no letter yet.")
+    opened_entry(at, "refuse")
+    at.browser.fill(REASONS, "takes the bus to work alone five days a week")
+    enter("examiner", "grant", until="2026-02-28", conditions=["always"])
+    at.browser.press("Refuse rider 1043's application")
+    at.browser.press("Yes: refuse rider 1043's application")
+    at.browser.sees("Read the letters of this case.")
+    at.browser.sees_no("There is no letter yet.")
+    at.browser.sees("Letter 1 as it is on record")
+    holds(f"the focus is on the answer: {at.browser.focused()!r}", "Read the letters of this case." in at.browser.focused())
+    same("what was typed stays", "takes the bus to work alone five days a week", at.browser.value(REASONS))
 
 
 @check
@@ -209,7 +277,9 @@ def first_letter_text(at, rider, entry):
 
 
 def opened_entry(at, kind):
-    at.browser.script("document.querySelector(`[data-entry=${arguments[0]}]`).open = true", kind)
+    until(f"there is no form of {kind}", lambda: at.browser.script("""const it = document.querySelector(`[data-entry=${arguments[0]}]`);
+        if (it) it.open = true;
+        return Boolean(it)""", kind))
 
 
 SEEN = {"vehicle": 1, "day": TOMORROW, "from": 540, "to": 570, "wait": 8, "minute": 580}

@@ -94,6 +94,19 @@ def what_is_known_of_a_rider_is_told(at):
 
 
 @check
+def an_attendant_and_a_wheelchair_are_on_the_card(at):
+    head = "rider,name,telephone,language,home,usual,aid,note,attendant"
+    at.town.write_file("staff/roster.csv", f"{head}\n1003,Henry Park,555-0103,en,13,,white cane,,yes\n1004,Lucille Baker,555-0104,en,14,,power wheelchair,,no\n")
+    try:
+        for rider, words in [("1003", ["white cane", "Travels with an attendant"]), ("1004", ["power wheelchair", "Attendant\nNone"])]:
+            begin(at, rider)
+            card = until("there is no card", lambda: at.browser.script("return document.querySelector('.rider-card .facts')?.innerText"))
+            holds(f"{words} are on the card: {card}", all(it in card for it in words))
+    finally:
+        at.town.write_files()
+
+
+@check
 def a_roster_from_disk_is_read_in_this_window_alone(at):
     at.town.write_file("staff/roster.csv", None)
     path = os.path.join(at.folder, "own roster.csv")
@@ -407,6 +420,37 @@ def when_is_my_van_is_answered_without_scrolling(at):
             const [window, van] = [...row.querySelectorAll('td')].map((it) => it.getBoundingClientRect()).filter((_, at) => at === 1 || at === 4);
             return [window, van].map((it) => it.top >= 0 && it.bottom <= innerHeight && it.left >= 0 && it.right <= innerWidth).concat(scrollY)""")
     same("the pickup and the van of the next trip are in view, and nothing was scrolled", [True, True, 0], seen)
+
+
+@check
+def what_was_booked_is_read_out_without_scrolling(at):
+    with at.browser.screen(1366, 625):
+        for back in ["", "3p"]:
+            keys = begin(at, "1002")
+            keys.press(Keys.TAB, "school", Keys.TAB, "senior", Keys.TAB, "f", Keys.TAB, Keys.TAB, "9a", Keys.TAB, *([back] if back else []), Keys.ENTER)
+            until("nothing is booked", lambda back=back: at.browser.script("return document.querySelectorAll('.legs .ticket').length") == (2 if back else 1))
+            at.browser.settled()
+            seen = at.browser.script("""return [...document.querySelectorAll('.legs .ticket .window')].map((it) => it.getBoundingClientRect())
+                .map((it) => it.top >= 0 && it.bottom <= innerHeight)""")
+            holds(f"the pickup is in view: {seen}", seen[0])
+            for trip in [it["trip"] for it in at.town.trips_of(1002) if it["day"] == "2025-03-14" and it["status"] == "booked"]:
+                at.town.post("third clerk", f"/trips/{trip}/cancel", {})
+
+
+@check
+def a_question_does_not_outlive_its_screen(at):
+    trip = at.town.book(1005, THURSDAY, 700, 7, 8)
+    begin(at, "1005")
+    for part in ["waits", "trips"]:
+        at.browser.go_part("clerk", part)
+        at.browser.shown(f"clerk/{part}")
+    at.browser.press(f"Cancel trip {trip} of Samuel Grant (1005)")
+    at.browser.find("button", f"Yes, cancel trip {trip}")
+    at.browser.driver.back()
+    at.browser.shown("clerk/waits")
+    until("the question is still there", lambda: not at.browser.script("return document.querySelector('dialog[open]')"), 10)
+    same("the trip", ["booked"], [it["status"] for it in at.town.trips_of(1005) if it["trip"] == trip])
+    at.town.post("third clerk", f"/trips/{trip}/cancel", {})
 
 
 @check
@@ -764,5 +808,13 @@ def a_suspension_has_days_of_its_own_on_the_card(at):
                         "Eligibility on file through Saturday, February 28, 2026.")
         card = at.browser.script("return document.querySelector('.rider-card .verdict').innerText")
         holds(f"the grant's day is in the verdict: {card}", "2026" not in card)
+        at.browser.sign_in(at.keys["rider 1007"], "rider", "standing")
+        at.browser.fill("Your rider number", "1007")
+        at.browser.press("Show my pages")
+        at.browser.sees("You may not ride on Friday, March 14, 2025.", "Suspended from Thursday, March 13, 2025 through Thursday, March 20, 2025.",
+                        "You may appeal until Sunday, May 11, 2025, on the page “Letters and appeal”. While your appeal waits, you may ride.")
+        same("it is entered", True, "entered" in at.town.post("rider 1007", "/riders/1007/entries", {"entry": "appeal", "against": 4}))
+        at.browser.reload()
+        at.browser.sees("You may ride on Friday, March 14, 2025.")
     finally:
         at.town.set_clock(TODAY)

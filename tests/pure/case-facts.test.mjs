@@ -1,7 +1,7 @@
 // What a rider's letters, this browser and the list of what waits tell of a case.
 import assert from "node:assert/strict";
 import test from "node:test";
-import { appealedHere, suspensionOn, waits } from "../../pages/parts/case-facts.js";
+import { appealable, appealedHere, entriesOfAppeals, suspensionOn, waits } from "../../pages/parts/case-facts.js";
 
 const letter = (entry, decision, date, lines = {}) => ({ entry, decision, date, lines: new Map(Object.entries(lines)) });
 const SUSPENDED = letter(5, "suspended", "2025-03-12", { FROM: "2025-03-13", TO: "2025-03-20" });
@@ -46,4 +46,16 @@ test("an appeal is known at the letter it is against, and at no other", () => {
     const entered = [{ entry: "appeal", position: 3, day: "2025-03-10", against: 2 }], letters = [letter(2, "refused", "2025-03-01"), letter(5, "suspended", "2025-03-02")];
     assert.equal(appealedHere(letters[0], letters, entered)?.since, "2025-03-10");
     assert.equal(appealedHere(letters[1], letters, entered), null);
+});
+
+test("an officer is offered what fits the decisions that no appeal has answered", () => {
+    const refused = letter(1, "refused", "2025-03-01"), granted = letter(3, "granted", "2025-03-02");
+    assert.deepEqual(appealable([granted]), []);
+    assert.deepEqual(entriesOfAppeals([], null, false), []);
+    assert.deepEqual(appealable([refused, granted]), [refused]);
+    assert.deepEqual(entriesOfAppeals([refused], null, false), ["heard", "appeal-granted", "appeal-denied"]);
+    assert.deepEqual(entriesOfAppeals([SUSPENDED], null, true), ["overturn", "appeal-denied"]);
+    assert.deepEqual(entriesOfAppeals([refused, SUSPENDED], null, true), ["appeal-granted", "overturn", "appeal-denied"]);
+    assert.deepEqual(entriesOfAppeals([refused, SUSPENDED], 5, false), ["heard", "overturn", "appeal-denied"]);
+    for (const decision of ["appeal granted", "appeal denied", "suspension overturned"]) assert.deepEqual(appealable([refused, letter(4, decision, "2025-03-09")]), []);
 });

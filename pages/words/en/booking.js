@@ -112,6 +112,8 @@ export const words = {
     "booking.offer-kept": ({ trip }) => `Trip ${trip} is kept.`,
     "booking.offer-given-up": "The offer was not taken, and is given up.",
     "booking.offer-is-back": ({ trip, day, window }) => `Trip ${trip} is back: ${day}, pickup ${window}.`,
+    "booking.offer-moved": ({ trip, day, window }) => `Trip ${trip} was put to another time meanwhile: ${day}, pickup ${window}.`,
+    "booking.offer-begun": "Its pickup window has begun, so it cannot be answered any more. Call the rider and dispatch. A no-show of this trip is not the rider's, who never said yes.",
     "booking.offer-counted": "It is counted as a denial of the time that the rider asked for, and not as a cancellation by the rider.",
     "booking.change-of": ({ trip, rider }) => `Change trip ${trip} of ${rider}`,
     "booking.leave": "Close",

@@ -207,4 +207,13 @@ export const words = {
     "cases.appeal-filed": ({ day }) => `An appeal against this decision was entered on ${day}, and waits.`,
     "cases.appeal-once-own": "If you have appealed already, you need not appeal again.",
     "cases.appeal-once": "If the rider has appealed already, it need not be entered again.",
+    "cases.appeal-waits": ({ day }) => `An appeal has waited since ${day}. It has not been heard.`,
+    "cases.appeal-heard": ({ day, heard }) => `An appeal has waited since ${day}. It was heard on ${heard}.`,
+    "cases.appeals-state": ({ who }) => `Appeals of ${who}`,
+    "cases.appeals-none": "No decision of this rider can be appealed: there is no refusal and no suspension that no appeal has answered.",
+    "cases.appeals-unknown": ({ date }) => `No appeal is known here. The desk does not list appeals: one that came since last night may be on another computer. Enter a hearing or a decision only if you hold the appeal against the decision of ${date}.`,
+    "cases.suspended-days": ({ first, last }) => `Suspended from ${first} through ${last}.`,
+    "cases.suspended-appeal": ({ day }) => `The rider may appeal until ${day}. While an appeal waits, the rider may ride.`,
+    "cases.suspended-appeal-own": ({ day, page }) => `You may appeal until ${day}, on the page “${page}”. While your appeal waits, you may ride.`,
+    "cases.appeal-heard-here": ({ day }) => `The appeal was heard on ${day}, as entered here. A decision is due within 30 days of the hearing.`,
 };

@@ -57,6 +57,4 @@ export const words = {
     "clerk.suspended-days": ({ from, to }) => `May not ride today: suspended from ${from} through ${to}`,
     "clerk.on-file": ({ day }) => `Eligibility on file through ${day}.`,
     "clerk.application-waits": ({ day }) => `An application has waited since ${day}. It counts from its 21st day until somebody decides.`,
-    "clerk.appeal-waits": ({ day }) => `An appeal has waited since ${day}. It has not been heard.`,
-    "clerk.appeal-heard": ({ day, heard }) => `An appeal has waited since ${day}. It was heard on ${heard}.`,
 };

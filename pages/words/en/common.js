@@ -47,6 +47,8 @@ export const words = {
         .map((/** @type {any} */ { kind, why }) => `${COUNTS[kind]} (${why})`).join(", ")}. Tell the people who run the desk.`,
     "common.counts-loose": ({ count }) => `This browser has no room for counts, and the site does not answer. Leave this window open: ${count} ${
         count === 1 ? "count waits" : "counts wait"} in it.`,
+    "common.not-kept": "This browser stores nothing for these pages: it is full, or it is set to block site data. What the desk has confirmed stands. What you type is gone once this page is "
+        + "closed or loaded again, and you sign in again then.",
     "common.unproved": "This is a trial program. Nothing of it was proved. Do not use it for real trips.",
     "common.skip": "Skip to the main part",
     "common.screen": "Screen",

@@ -112,6 +112,8 @@ export const words = {
     "booking.offer-kept": ({ trip }) => `El viaje ${trip} se conserva.`,
     "booking.offer-given-up": "La oferta no se aceptó y quedó anulada.",
     "booking.offer-is-back": ({ trip, day, window }) => `El viaje ${trip} volvió: ${day}, recogida ${window}.`,
+    "booking.offer-moved": ({ trip, day, window }) => `El viaje ${trip} pasó entretanto a otra hora: ${day}, recogida ${window}.`,
+    "booking.offer-begun": "Su horario de recogida ya empezó, así que ya no se puede responder. Llame a la persona y a despacho. Si no se presenta, no cuenta en su contra: nunca aceptó este viaje.",
     "booking.offer-counted": "Cuenta como denegación de la hora que pidió el pasajero, y no como cancelación del pasajero.",
     "booking.change-of": ({ trip, rider }) => `Cambiar el viaje ${trip} de ${rider}`,
     "booking.leave": "Cerrar",

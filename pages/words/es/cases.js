@@ -207,4 +207,13 @@ export const words = {
     "cases.appeal-filed": ({ day }) => `La apelación contra esta decisión se registró el ${day} y está pendiente.`,
     "cases.appeal-once-own": "Si ya apeló, no necesita apelar otra vez.",
     "cases.appeal-once": "Si el pasajero ya apeló, no hace falta registrarlo otra vez.",
+    "cases.appeal-waits": ({ day }) => `Hay una apelación pendiente desde el ${day}. Todavía no hubo audiencia.`,
+    "cases.appeal-heard": ({ day, heard }) => `Hay una apelación pendiente desde el ${day}. La audiencia fue el ${heard}.`,
+    "cases.appeals-state": ({ who }) => `Apelaciones de ${who}`,
+    "cases.appeals-none": "Ninguna decisión sobre esta persona se puede apelar: no hay denegación ni suspensión que una apelación no haya resuelto.",
+    "cases.appeals-unknown": ({ date }) => `Aquí no consta ninguna apelación. El sistema no las enumera: una que llegó desde anoche puede estar en otra computadora. Anote una audiencia o una decisión solo si tiene la apelación contra la decisión del ${date}.`,
+    "cases.suspended-days": ({ first, last }) => `Suspensión del ${first} al ${last}.`,
+    "cases.suspended-appeal": ({ day }) => `La persona puede apelar hasta el ${day}. Mientras la apelación esté pendiente, puede viajar.`,
+    "cases.suspended-appeal-own": ({ day, page }) => `Puede apelar hasta el ${day}, en la página «${page}». Mientras su apelación esté pendiente, puede viajar.`,
+    "cases.appeal-heard-here": ({ day }) => `La audiencia de la apelación fue el ${day}, según se anotó aquí. La decisión debe llegar dentro de los 30 días siguientes a la audiencia.`,
 };

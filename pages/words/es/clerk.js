@@ -57,6 +57,4 @@ export const words = {
     "clerk.suspended-days": ({ from, to }) => `No puede viajar hoy: está suspendido desde el ${from} hasta el ${to} inclusive`,
     "clerk.on-file": ({ day }) => `La elegibilidad registrada dura hasta el ${day}.`,
     "clerk.application-waits": ({ day }) => `Hay una solicitud pendiente desde el ${day}. Vale a partir del día 21, hasta que alguien decida.`,
-    "clerk.appeal-waits": ({ day }) => `Hay una apelación pendiente desde el ${day}. Todavía no hubo audiencia.`,
-    "clerk.appeal-heard": ({ day, heard }) => `Hay una apelación pendiente desde el ${day}. La audiencia fue el ${heard}.`,
 };

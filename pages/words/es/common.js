@@ -56,6 +56,8 @@ export const words = {
         .map((/** @type {any} */ { kind, why }) => `${COUNTS[kind]} (${why})`).join(", ")}. Avise a quienes manejan el sistema.`,
     "common.counts-loose": ({ count }) => `Este navegador no tiene espacio para los registros y el sitio no responde. Deje abierta esta ventana: ${
         count === 1 ? "hay 1 registro que espera" : `hay ${count} registros que esperan`} en ella.`,
+    "common.not-kept": "Este navegador no guarda nada de estas páginas: está lleno o tiene bloqueados los datos de sitios. Lo que la oficina confirmó sigue en pie. Lo que escriba se pierde al "
+        + "cerrar o recargar esta página, y entonces tendrá que entrar de nuevo.",
     "common.unproved": "Este es un programa de prueba. Nada de él está demostrado. No lo use para viajes reales.",
     "common.skip": "Saltar a la parte principal",
     "common.screen": "Pantalla",

@@ -1,0 +1,167 @@
+"""Offers that nobody has answered yet: another rider, another screen, another clerk, midnight and an idle sign-out never lead to a wrong answer."""
+import json
+import re
+
+from booking import BOOK, LATE_VAN, LATER, begin, clock, counted_in, last_trip, wish
+from checks import check, holds, same
+from counted import lines
+from database import until
+from left_open import write_file_of_the_day
+from people import EVERY_DAY, TODAY
+
+VANS = 1
+WAITS = "An offer waits for an answer of Ana María Núñez (1006)"
+BEFORE_IT = "2025-03-21"
+
+
+def offered(at):
+    """A trip that the desk offers two hours from what was said, and its buttons."""
+    at.town.post("dispatcher", "/vehicles", {"id": 1, "from_day": LATER, "days": EVERY_DAY, "depot": 5, "capacity": 6, "opens": LATE_VAN,
+                                             "closes": 1320, "duration": 960, "chairs": 1})
+    begin(at, "1006")
+    wish(at, start="library", goal="senior", day=LATER, wish="9 am", matters="not-before")
+    at.browser.requests()
+    at.browser.press(BOOK)
+    at.browser.sees("The desk offers 10:", "minutes after 9:00 AM")
+    trip = last_trip(at, 1006)
+    counted_in(at, "denials", "rule=no", f"trip={trip['trip']}")
+    return trip
+
+
+def status_of(at, trip):
+    return next(it["status"] for it in at.town.trips_of(1006) if it["trip"] == trip["trip"])
+
+
+def answers(at, trip):
+    """How many answers to this offer the page has."""
+    return [len(at.browser.all("button", f"{words} trip {trip['trip']}")) for words in ("Yes, keep", "No, cancel")]
+
+
+def told_of(at, trip, kind):
+    return [it for it in lines(at, f"trip={trip['trip']}&") if f"/tally/{kind}" in it]
+
+
+def shown(at, number):
+    at.browser.fill("Rider number", number)
+    at.browser.press("Show")
+    at.browser.find("heading", re.compile(rf"^Book a trip for .*\({number}\)"))
+
+
+@check
+def an_offer_outlives_another_rider_and_another_screen_and_is_asked_once(at):
+    trip = offered(at)
+    shown(at, "1002")
+    at.browser.sees_no("The desk offers")
+    same("answers at another rider's", [0, 0], answers(at, trip))
+    shown(at, "1006")
+    at.browser.sees(f"The desk offers {clock(trip['window_from'])}")
+    until(f"it is asked once: {answers(at, trip)}", lambda: answers(at, trip) == [1, 1])
+    write_file_of_the_day(at)
+    try:
+        at.browser.go_part("clerk", "waits")
+        at.browser.sees("Offers that wait for an answer", str(trip["trip"]))
+        at.browser.go_part("clerk", "trips")
+        until(f"it is asked once: {answers(at, trip)}", lambda: answers(at, trip) == [1, 1])
+        same("nobody has answered", ("booked", [], []), (status_of(at, trip), told_of(at, trip, "bookings"), told_of(at, trip, "cancellations")))
+        at.browser.press(f"No, cancel trip {trip['trip']}")
+        at.browser.sees("The offer was not taken, and is given up.")
+        same("its own rider's trip alone is given up", ["cancelled"], [status_of(at, trip)])
+    finally:
+        at.town.write_file("staff/today.json", None)
+
+
+@check
+def a_no_to_what_was_cancelled_meanwhile_cancels_nothing(at):
+    trip = offered(at)
+    at.town.post("third clerk", f"/trips/{trip['trip']}/cancel", {})
+    at.browser.requests()
+    at.browser.press(f"No, cancel trip {trip['trip']}")
+    at.browser.sees("The offer was not taken, and is given up.")
+    asked = at.browser.requests()
+    holds(f"it is cancelled again: {asked}", not any("/cancel" in it for it in asked))
+
+
+@check
+def a_no_to_what_another_clerk_has_kept_just_now_cancels_nothing(at):
+    trip = offered(at)
+    try:
+        at.town.write_file("staff/today.json", json.dumps({"bookings": {trip["trip"]: {
+            "mode": "not-before", "minute": 540, "from": trip["window_from"], "to": trip["window_to"]}}, "offers": {}}))
+        # (the page read that file before)
+        at.browser.press(f"No, cancel trip {trip['trip']}")
+        at.browser.sees(f"Trip {trip['trip']} is booked for Ana María Núñez (1006)")
+        same("the trip", "booked", status_of(at, trip))
+        same("cancellations of it", [], told_of(at, trip, "cancellations"))
+    finally:
+        at.town.write_file("staff/today.json", None)
+    at.town.post("third clerk", f"/trips/{trip['trip']}/cancel", {})
+
+
+@check
+def an_answer_to_what_was_put_to_another_time_says_so(at):
+    for answer in ["Yes, keep", "No, cancel"]:
+        trip = offered(at)
+        moved = at.town.post("third clerk", f"/trips/{trip['trip']}/change", {"day": LATER, "wish": 900, "from": trip["from"], "to": trip["to"],
+                                                                             "by": None, "attendant": False, "companions": 0})
+        holds(f"it was moved: {moved}", moved["window_from"] > trip["window_from"])
+        at.browser.press(f"{answer} trip {trip['trip']}")
+        at.browser.sees(f"Trip {trip['trip']} was put to another time meanwhile: Sat, Mar 22, pickup {clock(moved['window_from'])[:-3]}")
+        same("the trip", "booked", status_of(at, trip))
+        same("what is told of it", ([], []), (told_of(at, trip, "bookings"), told_of(at, trip, "cancellations")))
+        at.town.post("third clerk", f"/trips/{trip['trip']}/cancel", {})
+
+
+@check
+def once_its_pickup_window_has_begun_an_offer_takes_no_answer(at):
+    at.town.set_clock(BEFORE_IT)
+    try:
+        trip = offered(at)
+        # (midnight alone changes nothing: the van has not come yet)
+        at.town.set_clock(LATER, "07:00")
+        begin(at, "1006")
+        at.browser.sees(WAITS)
+        same("answers in the morning", [1, 1], answers(at, trip))
+        at.town.set_clock(LATER, clock24(trip["window_from"] + 1))
+        at.browser.requests()
+        # (a page that has read by itself meanwhile has no button any more)
+        for button in at.browser.all("button", f"No, cancel trip {trip['trip']}"):
+            button.click()
+        at.browser.sees("Its pickup window has begun, so it cannot be answered any more. Call the rider and dispatch.")
+        same("answers", [0, 0], answers(at, trip))
+        holds("something is cancelled", not any("/cancel" in it for it in at.browser.requests()))
+        same("the trip", "booked", status_of(at, trip))
+        at.town.set_clock("2025-03-23")
+        begin(at, "1006")
+        at.browser.sees("Trips of Ana María Núñez")
+        at.browser.settled()
+        holds("yesterday's is asked", WAITS not in at.browser.text())
+    finally:
+        at.town.set_clock(TODAY)
+    at.town.post("third clerk", f"/trips/{trip['trip']}/cancel", {})
+
+
+def clock24(minute):
+    return f"{minute // 60:02}:{minute % 60:02}"
+
+
+@check
+def an_offer_outlives_an_idle_sign_out(at):
+    at.town.write_files(idle_minutes=2)
+    try:
+        at.town.set_clock(TODAY)
+        trip = offered(at)
+        with at.browser.clock(hurry=20):
+            begin(at, "1006")
+            at.browser.sees(WAITS)
+            at.browser.script("const real = Date.now; Date.now = () => real() + 130000")
+            at.browser.sees("Nobody did anything for 2 minutes, so this window was signed out.")
+        same("nobody has answered", ("booked", []), (status_of(at, trip), told_of(at, trip, "cancellations")))
+        begin(at, "1006")
+        at.browser.sees(WAITS)
+        at.browser.press(f"Yes, keep trip {trip['trip']}")
+        at.browser.sees(f"Trip {trip['trip']} is kept.")
+        until("it is told as booked", lambda: told_of(at, trip, "bookings"))
+        same("the trip", "booked", status_of(at, trip))
+    finally:
+        at.town.write_files()
+    at.town.post("third clerk", f"/trips/{trip['trip']}/cancel", {})
