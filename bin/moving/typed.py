@@ -6,3 +6,4 @@ sys.path.append(os.path.join(os.path.dirname(os.path.realpath(__file__)), "..", 
 from desk_tools import ending, event_log, events, holidays, offers, outbox, review, telling, today
 from desk_tools.letters import on_record
 from desk_tools.review import fixed_route, month, page, tables
+from desk_tools.town import addresses, corridor, people as cutting, joining, places, sheets, site_addresses

@@ -13,7 +13,9 @@ import { t } from "../parts/words.js";
 /**
  * @typedef {{ name?: string, note?: string, latitude?: number, longitude?: number }} PlaceNames
  * @typedef {{ name: string, note: string }} RiderNames
- * @typedef {{ places: Record<string, PlaceNames>, riders: Record<string, RiderNames>, fares: Record<string, number> }} Names
+ * @typedef {{ street: string, note?: string, latitude?: number, longitude?: number }} Address
+ * @typedef {{ places: Record<string, PlaceNames>, riders: Record<string, RiderNames>, fares: Record<string, number>,
+ *   addresses?: Record<string, { from?: Address, to?: Address }> }} Names
  * @typedef {{ text: string, stops: import("./driver-day.js").Stop[], readAt: string, names: Names }} Read
  * @typedef {Record<string, string>} Records how trips ended, as the desk has it
  */
@@ -94,6 +96,16 @@ async function recordsOf(vehicle) {
     }
 }
 
+/** Which address each end of a trip means, as the site's file for the driver has it.
+ * @param {number} vehicle @returns {Promise<Record<string, { from?: Address, to?: Address }>>} */
+async function addressesOf(vehicle) {
+    try {
+        return JSON.parse(await driversFile(vehicle, "addresses.json")).addresses ?? {};
+    } catch {
+        return {};
+    }
+}
+
 /** Reads a day once, and keeps a copy of it: what was read, or why not.
  * @param {number} vehicle @param {string} day @param {Names} before names that are known already
  * @param {boolean} isDisputed whether somebody has to know how a trip ended
@@ -101,13 +113,14 @@ async function recordsOf(vehicle) {
 export async function readDay(vehicle, day, before, isDisputed) {
     // (all at once: on a phone's line each answer takes its time)
     const reading = desk.readOnce(`/vehicles/${vehicle}/manifest/${day}`);
-    const files = Promise.all([allPlaces(vehicle), ridersOf(vehicle), exportOf(day), isDisputed ? recordsOf(vehicle) : {}]);
+    const files = Promise.all([allPlaces(vehicle), ridersOf(vehicle), exportOf(day), isDisputed ? recordsOf(vehicle) : {}, addressesOf(vehicle)]);
     files.catch(() => {});
     const reply = await reading;
     if (reply.silent) return { silent: reply.silent };
     if (reply.denied) return { denied: reply.denied };
-    const stops = stopsIn(reply.value), [places, riders, { fares, records }, ended] = await files;
-    const names = { places: { ...before.places, ...placesOf(stops, places) }, riders: { ...before.riders, ...riders }, fares: { ...before.fares, ...fares } };
+    const stops = stopsIn(reply.value), [places, riders, { fares, records }, ended, addresses] = await files;
+    const names = { places: { ...before.places, ...placesOf(stops, places) }, riders: { ...before.riders, ...riders }, fares: { ...before.fares, ...fares },
+        addresses: { ...before.addresses, ...addresses } };
     const read = { text: reply.value, readAt: momentNow(), names };
     // (a phone without room for a copy shows what it read all the same)
     await keepCopy(copyName(vehicle, day), read).catch(() => {});
@@ -118,6 +131,9 @@ export async function readDay(vehicle, day, before, isDisputed) {
 export const placeAt = (id, names) => /** @type {PlaceNames} */ ({ ...placeOf(id), ...names.places[id] });
 /** @param {number} id @param {Names} names */
 export const placeNameAt = (id, names) => placeAt(id, names).name || `${placeWord()} ${id}`;
+/** The address that a stop means, or null where the place alone is known.
+ * @param {{ what: string, trip?: number }} stop @param {Names} names @returns {Address | null} */
+export const addressAt = ({ what, trip }, names) => names.addresses?.[trip ?? 0]?.[what === "PICK" ? "from" : "to"] ?? null;
 /** @param {number} rider @param {Names} names @returns {RiderNames} */
 export const riderAt = (rider, names) => names.riders[rider] ?? riderOf(rider) ?? { name: "", note: "" };
 /** "Ana Lopez, rider 1005", or "rider 1005".
