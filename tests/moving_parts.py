@@ -411,7 +411,7 @@ def faults_of_room(folder):
     for words, sentence in [
         (["places", "places.csv", "--plan"], "with these there are 101 places, and the desk has room for 100"),
         (["places", "places.csv"], "this takes either --plan or --url, the address of the desk"),
-        (["places", "none.csv", "--plan"], "none.csv can't be read: [Errno 2] No such file or directory: 'none.csv'"),
+        (["places", "none.csv", "--plan"], "none.csv can't be read: No such file or directory"),
         (["riders", "places.csv", "--plan"], "places.csv has no column kind; its first line has to name the columns "
                                              "number, kind, attendant, wheelchair, until, conditions, "
                                              "home"),

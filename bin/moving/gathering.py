@@ -9,6 +9,7 @@ from moving.typed import addresses, corridor, cutting, joining, places, sheets
 
 # Debian's Python has Debian's numpy; another one may come first on the path.
 PYTHON = "/usr/bin/python3"
+PACKAGES = {"osmium": "pyosmium"}
 MAP, PLACES, ADDRESSES, REFUSED = "gathered.svg", "gathered-places.csv", "gathered-addresses.csv", "refused-gather.csv"
 
 
@@ -44,7 +45,8 @@ def needs(package):
         __import__(package)
     except ImportError:
         if os.path.realpath(sys.executable) == os.path.realpath(PYTHON) or not os.path.exists(PYTHON):
-            raise Wrong(f"this takes the package python3-{package}: apt install python3-{package}") from None
+            name = PACKAGES.get(package, package)
+            raise Wrong(f"this takes the package python3-{name}: apt install python3-{name}") from None
         os.execv(PYTHON, [PYTHON, *sys.argv])
 
 
