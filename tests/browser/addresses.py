@@ -38,6 +38,6 @@ def another_riders_home_is_not_offered(at):
     at.browser.press(BOOK)
     at.browser.sees("Choose")
     begin(at, "1001")
-    wish(at, start="somebody")
+    wish(at, start="somebody", goal="library")
     same("the own home", "99 Somebody's Home (address 703)",
          at.browser.script("return document.querySelector('input[name=from]').value"))

@@ -144,3 +144,19 @@ def test_any_bytes_are_one_sentence(tmp_path: Path, content: bytes) -> None:
         with pytest.raises(streets.NoMap) as said:
             streets.read(it)
         assert "\n" not in str(said.value)
+
+
+@pytest.mark.parametrize(
+    ("tags", "ways"),
+    [
+        ({"highway": "residential"}, (True, True)),
+        ({"highway": "residential", "oneway": "yes"}, (True, False)),
+        ({"highway": "residential", "oneway": "-1"}, (False, True)),
+        ({"highway": "primary", "junction": "roundabout"}, (True, False)),
+        ({"highway": "motorway"}, (True, False)),
+        ({"highway": "motorway", "oneway": "no"}, (True, True)),
+    ],
+)
+def test_directions(tags: dict[str, str], ways: tuple[bool, bool]) -> None:
+    """A motorway and a roundabout are one-way unless a tag says otherwise."""
+    assert streets.directions(tags) == ways

@@ -201,7 +201,7 @@ def told(town: Town, found: Gathered) -> list[str]:
     lines = [
         f"{len(found.addresses):,} addresses at {len(used)} places: "
         f"{len(town.places)} stand, {len(new)} are new, {town.most} is the most",
-        f"from an address to its place: {minutes.mean():.1f} minutes in the middle, "
+        f"from an address to its place: {minutes.mean():.1f} minutes on average, "
         f"{np.quantile(minutes, 0.95):.1f} for 19 of 20, {minutes.max():.1f} for the farthest "
         f"({feet.max():,.0f} feet), by straight lines at {town.speed:g} miles an hour and ways "
         f"{town.detour:g} times as long",
