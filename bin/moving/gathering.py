@@ -22,7 +22,7 @@ def gather(words):
         read, sheet = addresses.read(pathlib.Path(words.csv), plane)
         known = town.Town(places_of(agency), corridor.lines_of(agency["routes"]), plane, words.speed, words.detour,
                           words.serve_outside, words.most)
-        progress = carry.Progress("places tried", 0, after=2)
+        progress = carry.Progress("places tried", 1, after=2)
         found = town.gathered(known, read, lambda done, total: shown(progress, done, total))
         progress.end()
     except sheets.Unreadable as error:
