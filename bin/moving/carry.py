@@ -22,6 +22,8 @@ REASONS = {
     "37.125(c)": "an application waits already, and an examiner has to decide it",
     "37.125(e)": "it ends before today",
 }
+# Texts of agency.json that are one line.
+ONE_LINE = ("name", "telephone", "place_word")
 
 
 class CannotBe(Exception):
@@ -68,10 +70,8 @@ def plain(value):
 def keep_agency(folder, agency):
     """Writes agency.json whole, or leaves it as it was. A form that the next command would refuse is not written."""
     agency = plain(agency)
-    for name in agency_file.LISTS:
-        for it in agency[name].values():
-            if isinstance(it.get("name"), str):
-                it["name"] = " ".join(it["name"].split())
+    for record in (agency, *(it for name in agency_file.LISTS for it in agency[name].values())):
+        record.update({it: " ".join(record[it].split()) for it in ONE_LINE if isinstance(record.get(it), str)})
     lists = {name: [{"id": int(number), **it} for number, it in sorted(agency[name].items(), key=lambda it: int(it[0]))]
              for name in agency_file.LISTS}
     whole = {**agency, **lists}

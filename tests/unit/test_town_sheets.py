@@ -8,7 +8,7 @@ import sys
 from pathlib import Path
 
 import pytest
-from hypothesis import given, settings
+from hypothesis import example, given, settings
 from hypothesis import strategies as st
 
 sys.path.append(str(Path(__file__).parents[2] / "bin"))
@@ -163,6 +163,7 @@ NAME = st.text(st.characters(), max_size=20)
 
 
 @settings(max_examples=60)
+@example("a\nb", "\x00", "\n", 1)
 @given(NAME, NAME, NAME, st.integers(1, 4294967295))
 def test_agency_json_is_always_one_that_the_next_command_takes(
     tmp_path_factory: pytest.TempPathFactory, route: str, place: str, agency: str, number: int

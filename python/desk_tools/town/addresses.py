@@ -146,7 +146,7 @@ def text_of(addresses: Iterable[Address]) -> str:
     is_core = ("", "yes")
     writer.writerow(WRITTEN)
     for it in addresses:
-        position = tuple(f"{part:.6f}" for part in it.position) if it.position else ("", "")
+        position = tuple(f"{part:.7f}" for part in it.position) if it.position else ("", "")
         riders = ";".join(map(str, it.riders))
         row = (it.number, it.street, it.place or "", *position, it.note, riders, is_core[it.core])
         writer.writerow(row)
