@@ -1,5 +1,6 @@
 """What tests/move_in tries without a desk: feeds that are refused, lines, hours, driving times, numbers of writes."""
 import csv
+import datetime
 import json
 import math
 import os
@@ -12,7 +13,7 @@ import moving_city
 import serving
 from moving import carry, desk as client, example, feed as feeds, fewer, fixed, plane as geometry
 from moving_stands import Counting, Stand
-from serving import TODAY, ZONE, difference, free_port
+from serving import TODAY, ZONE, difference, free_port, message_of
 
 ROOT = os.path.dirname(os.path.dirname(os.path.realpath(__file__)))
 MOVE_IN = f"{ROOT}/bin/move-in"
@@ -55,6 +56,35 @@ def moved_town(program, folder):
         runs += [moved(folder, *words, "--url", f"http://127.0.0.1:{desk.port}") for words in PUTTING]
     command = [f"{ROOT}/bin/site-files", "agency.json", "site"]
     return [*runs, subprocess.run(command, cwd=folder, capture_output=True, text=True, timeout=SECONDS)]
+
+
+# Whom the corridors serve, by the desk.
+
+
+def rehearsed(program, fixed_routes, points, trips):
+    """What the desk says to trips at points, each a point's place in the list, a weekday and a minute.
+
+    It is the name of a denial. Without a vehicle that is `no vehicle` where the place and the minute are served.
+    """
+    monday = TODAY - datetime.timedelta(days=TODAY.isoweekday() - 1)
+    posts = [("/callers", "abc", 1, {"id": 2, "role": "clerk", "subject": 0, "key": "hello"}),
+             ("/riders", "hello", 1, {"id": 1, "kind": "visitor", "attendant": False})]
+    posts += [("/routes", "abc", 100 + at, {**it, "id": at}) for at, it in enumerate(fixed_routes, 1)]
+    posts += [("/places", "abc", 200 + at, {"id": at, "x": x, "y": y, "core": False})
+              for at, (x, y) in enumerate(points, 1)]
+    setting = len(posts)
+    for at, weekday, wish in trips:
+        # (a Monday is the next one, since no trip is booked for today)
+        day = monday + datetime.timedelta(days=weekday - 1 if weekday > 1 else 7)
+        ends = {"from": at + 1, "to": at + 1}
+        trip = {"rider": 1, "day": day, "wish": wish, **ends, "attendant": False, "companions": 0}
+        posts.append(("/trips", "hello", 2, trip))
+    script = b"".join(f"@ {monday} 480\n".encode() + message_of("POST", *it) for it in posts)
+    run = subprocess.run([program, "rehearse", "abc"], input=script, capture_output=True, timeout=SECONDS)
+    bodies = re.findall(rb"\r\n\r\n(\{[^\r\n]*?\})(?=HTTP/1\.1 |\Z)", run.stdout)
+    told = [json.loads(it).get("denied", "done") for it in bodies]
+    is_right = len(told) == len(posts) and {*told[:setting]} == {"done"}
+    return told[setting:] if is_right else [f"no rehearsal: {run}"]
 
 
 # Lines and hours, beside plain second ways to say the same.
@@ -381,7 +411,7 @@ def faults_of_room(folder):
     for words, sentence in [
         (["places", "places.csv", "--plan"], "with these there are 101 places, and the desk has room for 100"),
         (["places", "places.csv"], "this takes either --plan or --url, the address of the desk"),
-        (["places", "none.csv", "--plan"], "none.csv can't be read: [Errno 2] No such file or directory: 'none.csv'"),
+        (["places", "none.csv", "--plan"], "none.csv can't be read: No such file or directory"),
         (["riders", "places.csv", "--plan"], "places.csv has no column kind; its first line has to name the columns "
                                              "number, kind, attendant, wheelchair, until, conditions, "
                                              "home"),

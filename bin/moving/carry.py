@@ -22,6 +22,8 @@ REASONS = {
     "37.125(c)": "an application waits already, and an examiner has to decide it",
     "37.125(e)": "it ends before today",
 }
+# Texts of agency.json that are one line.
+ONE_LINE = ("name", "telephone", "place_word")
 
 
 class CannotBe(Exception):
@@ -56,22 +58,40 @@ def without_id(record):
     return {name: it for name, it in record.items() if name != "id"}
 
 
+def plain(value):
+    """A value without what agency.json can't have: signs below a blank, and half letters."""
+    if isinstance(value, dict):
+        return {name: plain(it) for name, it in value.items()}
+    if isinstance(value, list):
+        return [plain(it) for it in value]
+    return "".join(it for it in value if (ord(it) >= 32 or it == "\n") and not 0xD800 <= ord(it) < 0xE000) if isinstance(value, str) else value
+
+
 def keep_agency(folder, agency):
-    """Writes agency.json whole, or leaves it as it was."""
+    """Writes agency.json whole, or leaves it as it was. A form that the next command would refuse is not written."""
+    agency = plain(agency)
+    for record in (agency, *(it for name in agency_file.LISTS for it in agency[name].values())):
+        record.update({it: " ".join(record[it].split()) for it in ONE_LINE if isinstance(record.get(it), str)})
     lists = {name: [{"id": int(number), **it} for number, it in sorted(agency[name].items(), key=lambda it: int(it[0]))]
              for name in agency_file.LISTS}
-    agency_file.write(f"{folder}/agency.json", {**agency, **lists})
+    whole = {**agency, **lists}
+    faults = agency_file.of_bytes(agency_file.text_of(whole).encode(), "agency.json").faults
+    if faults:
+        raise Wrong(f"{folder}/agency.json would have a fault, and stays as it was: {faults[0]}")
+    agency_file.write(f"{folder}/agency.json", whole)
 
 
-def refused_told(command, folder, refused):
-    """Writes what was refused into its file, or takes away the file of an earlier run."""
+def refused_told(command, folder, refused, rows):
+    """Writes what was refused into its file, each row of a table whole, or takes away the file of an earlier run."""
     path = f"{folder}/refused-{command}.csv"
     if not refused:
         if os.path.exists(path):
             os.remove(path)
         return ""
     with open(path, "w", encoding="utf-8", newline="") as file:
-        csv.writer(file, lineterminator="\n").writerows([("what", "reason"), *refused])
+        header, cells = rows or ((), {})
+        csv.writer(file, lineterminator="\n").writerows(
+            [("what", "reason", *header), *((what, reason, *cells.get(what, ())) for what, reason in refused)])
     return f"; {path} says why"
 
 
@@ -94,8 +114,11 @@ class Progress:
         sys.stderr.write("\n" if self.is_shown else "")
 
 
-def carried_out(command, tasks, callers, folder, refused):
-    """Does the tasks one after the other and prints the sum. The places of those that stand, and the exit status."""
+def carried_out(command, tasks, callers, folder, refused, rows=None):
+    """Does the tasks one after the other and prints the sum. The places of those that stand, and the exit status.
+
+    `rows` are those of the table (tables.Rows), so that what is refused comes back whole.
+    """
     progress, stands, put, refused = Progress(command, len(tasks)), [], 0, list(refused)
     early = len(refused)
     for at, task in enumerate(tasks):
@@ -108,7 +131,7 @@ def carried_out(command, tasks, callers, folder, refused):
         except CannotBe as cause:
             refused.append((task.what, str(cause)))
     progress.end(f", {len(refused) - early} refused")
-    where = refused_told(command, folder, refused)
+    where = refused_told(command, folder, refused, rows)
     print(f"{command}: {put} put, {len(stands) - put} there already, {len(refused)} refused{where}")
     return stands, SOME_REFUSED if refused else DONE
 

@@ -7,7 +7,7 @@ from moving import agency_file, carry, desk, feed as feeds, fewer, fixed, keys, 
 from moving.carry import Task, accepted
 from moving.desk import Caller, Journal, Line
 from moving.limits import DONE, GREATEST_WIDTH, MANY_VERSIONS, MOST_PLACES, MOST_ROUTES, MOST_VERSIONS, SOME_REFUSED, Wrong
-from moving.typed import holidays
+from moving.typed import corridor, holidays
 
 ROLES = ["admin", "clerk", "examiner", "dispatcher"]
 
@@ -166,7 +166,7 @@ def notes_of_kinds(feed, made):
 def places(words):
     """The places of a table."""
     plane, agency = geometry.kept_plane(words.folder), carry.kept_agency(words.folder)
-    records, refused, unread = tables.records_in(words.csv, "places", place_fault)
+    records, refused, notes, rows = tables.records_in(words.csv, "places", place_fault)
     if plane is None and any(it["x"] is None for it in records):
         raise Wrong(f"{words.folder} has no plane.json for latitudes and longitudes: run the command routes first")
     points = {it["number"]: point_of(it, plane) for it in records}
@@ -176,14 +176,14 @@ def places(words):
     print(f"{len(records)} places, of {MOST_PLACES} that the desk takes:")
     for it in records:
         print(f"  {it['number']}: {it['name']}: {place_told(points[it['number']], it['core'], agency['routes'])}")
-    carry.planned(refused, unread_told(unread))
+    carry.planned(refused, notes)
     if words.plan:
         return ended(refused)
     admin = caller_of(words, "admin")
     kept = {it["number"]: {**dict(zip("xy", points[it["number"]])), "core": it["core"]} for it in records}
     tasks = [Task(f"place {number}", put_place(admin, number, it, agency["places"].get(str(number), {})))
              for number, it in kept.items()]
-    stands, status = carry.carried_out("places", tasks, [admin], words.folder, refused)
+    stands, status = carry.carried_out("places", tasks, [admin], words.folder, refused, rows)
     for record in (records[at] for at in stands):
         number = str(record["number"])
         agency["places"][number] = place_named(agency["places"].get(number, {}), record, kept[record["number"]], plane)
@@ -230,21 +230,16 @@ def place_fault(record):
 
 def place_told(point, is_core, fixed_routes):
     """Whether a corridor serves the place, or how many feet are missing to the nearest one."""
-    running = [it for it in fixed_routes.values() if it.get("days") != []]
+    running = corridor.lines_of(fixed_routes)
     if not running:
         return "there are no fixed routes yet"
-    missing, name = min((geometry.feet_from_line(point, it["points"]) - it["width"], it.get("name", ""))
-                        for it in running)
+    missing, name = corridor.nearest(point, running)
     at = f"at {point[0]}, {point[1]}, "
     if missing <= 0:
         return at + "served"
     if is_core:
         return at + "served as core"
     return at + f"NO CORRIDOR SERVES IT: {missing:,} feet are missing to that of {name}"
-
-
-def unread_told(unread):
-    return [f"the column {it} is not read" for it in unread]
 
 
 # Vehicles and callers.
@@ -256,20 +251,20 @@ def vehicles(words):
     def fault_of(record):
         return vehicle_fault(record, {int(it) for it in agency["places"]})
 
-    records, refused, unread = tables.records_in(words.csv, "vehicles", fault_of, ("number", "from_day"))
+    records, refused, notes, rows = tables.records_in(words.csv, "vehicles", fault_of, ("number", "from_day"))
     print(f"{len(records)} vehicles:")
     for it in records:
         hours = f"{fixed.days_text(it['days'])} {fixed.clock(it['opens'])}-{fixed.clock(it['closes'])}"
         print(f"  {it['number']}: {it['name']}: from {it['from_day']}, {hours}, {it['capacity']} seats, "
               f"{it['chairs']} wheelchair places, depot {it['depot']}")
-    carry.planned(refused, [*unread_told(unread), *many_versions(records, desk.versions_put(words.folder))])
+    carry.planned(refused, [*notes, *many_versions(records, desk.versions_put(words.folder))])
     if words.plan:
         return ended(refused)
     dispatcher = caller_of(words, "dispatcher")
     bodies = [{"id": it["number"], **{name: it[name] for name in it if name not in ("number", "name")}}
               for it in records]
     tasks = [Task(f"vehicle {it['id']} from {it['from_day']}", put(dispatcher, "/vehicles", it)) for it in bodies]
-    stands, status = carry.carried_out("vehicles", tasks, [dispatcher], words.folder, refused)
+    stands, status = carry.carried_out("vehicles", tasks, [dispatcher], words.folder, refused, rows)
     for record in (records[at] for at in stands):
         said = {"name": record["name"]} if record["name"] else {}
         agency["vehicles"][str(record["number"])] = {**agency["vehicles"].get(str(record["number"]), {}), **said}
@@ -296,19 +291,19 @@ def vehicle_fault(record, depots):
 
 def callers(words):
     """The callers of a table, each with a key of its own in a file."""
-    records, refused, unread = tables.records_in(words.csv, "callers", caller_fault)
+    records, refused, notes, rows = tables.records_in(words.csv, "callers", caller_fault)
     folder = f"{words.folder}/keys"
     print(f"{len(records)} callers, whose keys go into {folder}; a caller that is there already is replaced:")
     for it in records:
         print(f"  {it['number']}: {it['name']}: {it['role']}" + (f" of {it['subject']}" if it["subject"] else ""))
-    carry.planned(refused, unread_told(unread))
+    carry.planned(refused, notes)
     if words.plan:
         return ended(refused)
     admin = caller_of(words, "admin")
     os.makedirs(folder, mode=0o700, exist_ok=True)
     tasks = [Task(f"caller {it['number']}", put_caller(admin, it, f"{folder}/{it['number']}-{it['role']}"))
              for it in records]
-    return carry.carried_out("callers", tasks, [admin], words.folder, refused)[1]
+    return carry.carried_out("callers", tasks, [admin], words.folder, refused, rows)[1]
 
 
 def caller_fault(record):

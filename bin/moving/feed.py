@@ -222,14 +222,15 @@ def agency_of(table):
     """What the first agency of the feed says of itself, by the names that agency.json has for it."""
     first = next(table.rows("agency_name"), {})
     names = {"name": "agency_name", "zone": "agency_timezone", "telephone": "agency_phone"}
-    return {name: first.get(column, "") for name, column in names.items()}
+    return {name: " ".join(first.get(column, "").split()) for name, column in names.items()}
 
 
 def names_of(table):
     """The key, the name and the kind of each route."""
     for row in table.rows("route_id", "route_type"):
-        name = " ".join(dict.fromkeys(it for it in (row.get("route_short_name"), row.get("route_long_name")) if it))
-        yield row["route_id"], name or row["route_id"], row["route_type"]
+        given = (" ".join((row.get(it) or "").split()) for it in ("route_short_name", "route_long_name"))
+        name = " ".join(dict.fromkeys(it for it in given if it))
+        yield row["route_id"], name or " ".join(row["route_id"].split()), row["route_type"]
 
 
 def trips_of(table, services):

@@ -11,6 +11,7 @@ import os
 import statistics
 
 from moving.limits import GREATEST_COORDINATE, Wrong
+from moving.typed import corridor
 
 FOOT, AXIS, FLATTENING = 0.3048, 6378137.0, 1 / 298.257223563
 GREATEST_ERROR, FARTHEST_DEGREES = 0.001, 5
@@ -112,27 +113,11 @@ def keep_plane(folder, plane, error):
 
 # Lines and distances on the plane. What is said of a distance is exact: the coordinates are whole numbers.
 
-
-def feet_from(point, start, end):
-    """The least whole number of feet within which the segment has a point."""
-    dx, dy, px, py = end[0] - start[0], end[1] - start[1], point[0] - start[0], point[1] - start[1]
-    along, square = px * dx + py * dy, dx * dx + dy * dy
-    if along <= 0 or square == 0:
-        area, square = px * px + py * py, 1
-    elif along >= square:
-        area, square = (px - dx) ** 2 + (py - dy) ** 2, 1
-    else:
-        area = (px * dy - py * dx) ** 2
-    feet = math.isqrt(area // square)
-    return feet if feet * feet * square >= area else feet + 1
+feet_from, feet_from_line = corridor.feet_from, corridor.feet_from_line
 
 
 def segments(line):
     return list(zip(line, line[1:]))
-
-
-def feet_from_line(point, line):
-    return min(feet_from(point, *it) for it in segments(line))
 
 
 def length_of(line):

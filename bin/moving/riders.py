@@ -15,16 +15,16 @@ def riders(words):
     today = datetime.date.today().isoformat()
     earliest = "" if words.as_of else today
     agency = carry.kept_agency(words.folder)
-    records, refused, unread = tables.records_in(words.csv, "riders", lambda it: rider_fault(it, earliest, agency))
+    records, refused, notes, rows = tables.records_in(words.csv, "riders", lambda it: rider_fault(it, earliest, agency))
     if words.as_of:
         return ending(records, refused, words.as_of, words.within)
     told_riders(records)
-    carry.planned(refused, commands.unread_told(unread))
+    carry.planned(refused, notes)
     if words.plan:
         return commands.ended(refused)
     clerk, examiner = (commands.caller_of(words, it) for it in ("clerk", "examiner"))
     tasks = [Task(f"rider {it['number']}", put_rider(it, clerk, examiner)) for it in records]
-    stands, status = carry.carried_out("riders", tasks, [clerk, examiner], words.folder, refused)
+    stands, status = carry.carried_out("riders", tasks, [clerk, examiner], words.folder, refused, rows)
     keep_homes(words.folder, agency, [records[at] for at in stands])
     return status
 

@@ -18,9 +18,9 @@ PUBLIC = ("name", "telephone", "address", "zone", "first_weekday", "place_word",
 ASSUMED = ("board_names",)
 # Whoever serves the files is in the folder's group; nobody else reads them.
 FILE_MODE, FOLDER_MODE = 0o640, 0o2750
-FIXED = ("agency.json", "places.json", "staff/places.json", "staff/roster.csv", "staff/duty.json", "drivers/places.json", "drivers/roster.csv")
-OWN_NAMES = ("places.json", "name.json")
-OWN = re.compile(r"own/[1-9][0-9]*/(?:places|name)\.json")
+FIXED = ("agency.json", "places.json", "addresses.json", "staff/addresses.json", "staff/places.json", "staff/roster.csv", "staff/duty.json", "drivers/places.json", "drivers/roster.csv")
+OWN_NAMES = ("places.json", "name.json", "addresses.json")
+OWN = re.compile(r"own/[1-9][0-9]*/(?:places|name|addresses)\.json")
 
 
 def texts_of(agency, roster=None, drivers=None, duty=None):

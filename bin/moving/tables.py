@@ -3,6 +3,7 @@ import collections
 import csv
 import datetime
 import os
+import pathlib
 import re
 import sys
 
@@ -10,6 +11,7 @@ from moving.limits import GREATEST_COORDINATE, HIGHEST_NUMBER, LAST_MINUTE, MOST
 
 sys.path.append(os.path.join(os.path.dirname(os.path.realpath(__file__)), "..", "..", "python"))
 from desk_tools.tables import ROLES
+from desk_tools.town import cells, sheets
 
 CONDITION = re.compile(r"always|nolift|farther:[1-9]\d*|months:[1-9]\d?(,[1-9]\d?)*")
 WEEKDAY_PART = re.compile(r"([1-7])(?:-([1-7]))?")
@@ -19,14 +21,18 @@ FIRST_DAY, LAST_DAY, MOST_SKIPPED = "2000-01-01", "2099-12-31", 366
 # A column: how its text is read, and what an empty text or no such column stands for; REQUIRED has to be there.
 Column = collections.namedtuple("Column", "read default")
 Refused = collections.namedtuple("Refused", "what reason")
+# The cells of a table as they stand, by what a refusal names; and how a refusal by the desk names a record.
+Rows = collections.namedtuple("Rows", "header cells")
+LABELS = {"places": "place {number}", "vehicles": "vehicle {number} from {from_day}", "callers": "caller {number}", "riders": "rider {number}"}
 REQUIRED = object()
 
 
 def whole(low, high):
     def read(text):
-        if not re.fullmatch(r"-?\d{1,10}", text) or not low <= int(text) <= high:
+        found = cells.WHOLE.fullmatch(text)
+        if not found or not low <= int(found[1] + found[2]) <= high:
             raise ValueError(f"is no whole number from {low} to {high}")
-        return int(text)
+        return int(found[1] + found[2])
     return read
 
 
@@ -53,6 +59,14 @@ def day(text):
     if found is None or not 2000 <= found.year <= 2099:
         raise ValueError("is no day YYYY-MM-DD of 2000 to 2099")
     return text
+
+
+def any_day(text):
+    """A day as a spreadsheet may have it; a plain error says YYYY-MM-DD, which is what the tools write."""
+    try:
+        return cells.day(text)[0]
+    except cells.WrongCell:
+        return day(text)
 
 
 def minute(text):
@@ -109,7 +123,7 @@ def is_condition(text):
 
 def conditions(text):
     """One to four conditions of a grant, with a semicolon between two."""
-    found = [it.strip() for it in text.split(";")]
+    found = [it.strip() for it in text.lower().split(";")]
     if not all(map(is_condition, found)):
         raise ValueError("are none such as always, nolift, months:1,2,12 (rising) or farther:5280")
     if len(found) > 4:
@@ -131,9 +145,9 @@ def whose(text):
 
 def one_of(*words):
     def read(text):
-        if text not in words:
+        if text.lower() not in words:
             raise ValueError(f"is none of {', '.join(words)}")
-        return text
+        return text.lower()
     return read
 
 
@@ -152,7 +166,7 @@ COLUMNS = {
         "private": Column(whose, None),
     },
     "vehicles": {
-        "number": NUMBER, "name": NAME, "from_day": Column(day, REQUIRED), "days": Column(weekdays, []),
+        "number": NUMBER, "name": NAME, "from_day": Column(any_day, REQUIRED), "days": Column(weekdays, []),
         "depot": NUMBER, "capacity": Column(whole(1, MOST_SEATS), REQUIRED), "opens": Column(minute, REQUIRED),
         "closes": Column(minute, REQUIRED), "duration": Column(whole(1, LAST_MINUTE), REQUIRED),
         "chairs": Column(whole(0, MOST_CHAIRS), 0),
@@ -170,7 +184,7 @@ COLUMNS = {
     },
     "riders": {
         "number": NUMBER, "kind": Column(one_of("resident", "visitor"), REQUIRED),
-        "attendant": Column(yes_or_no, False), "wheelchair": Column(yes_or_no, False), "until": Column(day, None),
+        "attendant": Column(yes_or_no, False), "wheelchair": Column(yes_or_no, False), "until": Column(any_day, None),
         "conditions": Column(conditions, ["always"]), "home": Column(whole(1, HIGHEST_NUMBER), None),
     },
 }
@@ -203,22 +217,38 @@ def lines_in(path, columns, named=str.strip):
     return reader.fieldnames, rows
 
 
+def sheet_of(path, columns):
+    """A table as somebody's spreadsheet saved it."""
+    try:
+        sheet = sheets.read(pathlib.Path(path), {name: () for name in columns})
+    except sheets.Unreadable as error:
+        raise Wrong(str(error)) from None
+    for name, column in columns.items():
+        if column.default is REQUIRED and name not in sheet.header:
+            raise Wrong(f"{path} has no column {name}; its first line has to name the columns {', '.join(columns)}")
+    return sheet
+
+
 def records_in(path, kind, fault_of, key=("number",)):
-    """The records of a table, the rows that are refused, and the columns that are not read.
+    """The records of a table, the rows that are refused, how the table was read, and its rows as they stand.
 
     `fault_of` tells what is wrong with a record, or None. No two records have the same fields of `key`.
     """
-    columns, records, refused, known = COLUMNS[kind], [], [], {}
-    header, rows = lines_in(path, columns)
-    for line, fields in rows:
+    columns, records, refused, known, forms = COLUMNS[kind], [], [], {}, collections.Counter()
+    sheet = sheet_of(path, columns)
+    rows = Rows(sheet.header, {f"line {it.number} of {path}": it.cells for it in [*sheet.refused, *sheet.rows]})
+    for row in sheet.rows:
         try:
-            record = {name: value_of(name, column, fields) for name, column in columns.items()}
-            fault = "it has more fields than the first line" if None in fields else fault_of(record)
-            there = known.get(tuple(record[it] for it in key))
+            record = {name: value_of(name, column, row.fields) for name, column in columns.items()}
+            fault, there = fault_of(record), known.get(tuple(record[it] for it in key))
             if fault or there:
                 raise ValueError(fault or f"line {there} has the same number")
-            known[tuple(record[it] for it in key)] = line
+            known[tuple(record[it] for it in key)] = row.number
             records.append(record)
+            rows.cells[LABELS[kind].format_map(record)] = row.cells
+            forms.update((name, cells.day(row.fields[name])[1]) for name, it in columns.items() if it.read is any_day and row.fields.get(name))
         except ValueError as error:
-            refused.append(Refused(f"line {line} of {path}", str(error)))
-    return records, refused, [it for it in header if it not in columns]
+            refused.append(Refused(f"line {row.number} of {path}", str(error)))
+    refused += [Refused(f"line {it.number} of {path}", it.reason) for it in sheet.refused]
+    notes = [f"{name}: {count} days were read as {form}" for (name, form), count in sorted(forms.items()) if form != cells.ISO]
+    return records, refused, [*(f"the column {it} is not read" for it in sheet.header if it not in columns), *sheet.notes, *notes], rows

@@ -2,10 +2,11 @@
 import csv
 import json
 import math
+import pathlib
 import re
 import urllib.request
 
-from moving import carry, plane as geometry
+from moving import carry, gathering, plane as geometry
 from moving.limits import DONE, LAST_MINUTE, SOME_REFUSED, Wrong
 
 FEET_A_MINUTE = 88  # at one mile an hour
@@ -23,9 +24,10 @@ def times(words):
         raise Wrong(f"{words.folder}/agency.json has no places: run the command places first")
     if words.check:
         return checked(words.check, places)
-    if words.osrm and words.valhalla:
-        raise Wrong("this takes either --osrm or --valhalla")
-    minutes, told = by_server(words, places) if words.osrm or words.valhalla else by_straight_lines(words, places)
+    if sum(map(bool, (words.osrm, words.valhalla, words.osm))) > 1:
+        raise Wrong("this takes one of --osrm, --valhalla and --osm")
+    by = by_map if words.osm else by_server if words.osrm or words.valhalla else by_straight_lines
+    minutes, told = by(words, places)
     if words.symmetric:
         minutes = {(a, b): max(it, minutes.get((b, a), it)) for (a, b), it in minutes.items()}
     missing = [(a, b) for a in places for b in places if a != b and (a, b) not in minutes]
@@ -59,15 +61,42 @@ def minutes_of(seconds):
     return found
 
 
+def by_map(words, places):
+    """The times along the streets of a map."""
+    for name in ("osmium", "scipy"):
+        gathering.needs(name)
+    from desk_tools.town import streets
+    numbers, positions = sorted(places), positions_of(words, places)
+    progress = carry.Progress("steps", 3, after=2)
+    try:
+        progress.show(0, ": the map is read")
+        found = streets.read(pathlib.Path(words.osm))
+        progress.show(1, f": ways between {len(places)} places")
+        times_found = streets.times(found, [positions[it] for it in numbers])
+    except streets.NoMap as error:
+        raise Wrong(str(error)) from None
+    progress.end()
+    for line in streets.told(numbers, times_found):
+        print(f"  note: {line}")
+    minutes = {(a, b): minutes_of(60 * float(it)) for a, row in zip(numbers, times_found.minutes) for b, it in zip(numbers, row)
+               if a != b and math.isfinite(it)}
+    return minutes, f"along the streets of {words.osm}, without traffic"
+
+
+def positions_of(words, places):
+    """The latitudes and longitudes of places."""
+    plane = geometry.kept_plane(words.folder)
+    if plane is None:
+        raise Wrong(f"{words.folder} has no plane.json, so the places have no latitudes and longitudes")
+    return {number: plane.position(*point) for number, point in places.items()}
+
+
 # Servers.
 
 
 def by_server(words, places):
     """The times that a server of the agency's own tells."""
-    plane = geometry.kept_plane(words.folder)
-    if plane is None:
-        raise Wrong(f"{words.folder} has no plane.json, so the places have no latitudes and longitudes")
-    positions = {number: plane.position(*point) for number, point in places.items()}
+    positions = positions_of(words, places)
     numbers, minutes = sorted(places), {}
     url, asked = (words.osrm, osrm) if words.osrm else (words.valhalla, valhalla)
     blocks = [numbers[at : at + BLOCK] for at in range(0, len(numbers), BLOCK)]

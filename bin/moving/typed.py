@@ -7,3 +7,4 @@ from desk_tools import ending, event_log, events, holidays, offers, outbox, revi
 from desk_tools.counting import counted
 from desk_tools.letters import on_record
 from desk_tools.review import fixed_route, month, page, tables
+from desk_tools.town import addresses, corridor, people as cutting, joining, places, sheets, site_addresses

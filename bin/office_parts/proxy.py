@@ -15,8 +15,8 @@ from moving.typed import events
 DESKS_PATHS = re.compile(r"/(callers|policy|places|routes|vehicles|riders|trips|days)(/|$)")
 TALLY = {f"/tally/{it.name}": re.compile(events.pattern_of(it)) for it in events.EVENTS.values()}
 VEHICLE = re.compile("(?:^|&)vehicle=([0-9]+)")
-OWN = re.compile(r"/own/([1-9][0-9]*)/places\.json")
-OF_VEHICLE = re.compile(r"/drivers/([1-9][0-9]*)/(roster\.csv|places\.json|outcomes\.json)")
+OWN = re.compile(r"/own/([1-9][0-9]*)/(?:places|addresses)\.json")
+OF_VEHICLE = re.compile(r"/drivers/([1-9][0-9]*)/(roster\.csv|places\.json|outcomes\.json|addresses\.json)")
 # Nobody's number, by which the desk tells what a key may do.
 NOBODY = "/riders/4294967295"
 KINDS = {
@@ -64,8 +64,8 @@ class Handler(BaseHTTPRequestHandler):
         site, own, of_vehicle = self.office.site, OWN.fullmatch(path), OF_VEHICLE.fullmatch(path)
         if path == "/agency.json":
             self.send_file(site, "agency.json", "no-cache")
-        elif path == "/places.json":
-            self.send_where(self.any_key(), site, "places.json")
+        elif path in ("/places.json", "/addresses.json"):
+            self.send_where(self.any_key(), site, path[1:])
         elif path.startswith("/staff/"):
             self.send_where(self.staffs_key(), site, path[1:])
         elif own:

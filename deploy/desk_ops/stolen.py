@@ -242,7 +242,8 @@ def check_vehicle(given, copies):
 def tell_files(given):
     """The files of the site that a driver of this vehicle reads: those of the vehicle, or else those of all vehicles."""
     folders = [f"{given.site}/drivers/{given.vehicle}", f"{given.site}/drivers"]
-    for name, what in ("roster.csv", "names and notes"), ("places.json", "places, with what a driver has to know"):
+    known = "with what a driver has to know"
+    for name, what in ("roster.csv", "names and notes"), ("places.json", f"places, {known}"), ("addresses.json", f"addresses of its trips, {known}"):
         path = next((f"{it}/{name}" for it in folders if os.path.isfile(f"{it}/{name}")), None)
         if path:
             print(f"- the site's file {path}: {what}")

@@ -7,7 +7,7 @@
  * @typedef {{
  *     "denials": { id?: string, day: string, minute: number, rule: string, channel?: "page" | "telephone" | "app" | "standing-order", mode?: "around" | "not-before" | "by", at?: string, leg?: "lost", trip?: number, rider?: number, from?: number, to?: number, offer?: "booking" | "change" },
  *     "marks": { id?: string, day: string, minute: number, at?: string, mode?: "around" | "not-before" | "by" },
- *     "bookings": { id?: string, day: string, trip: number, mode: "around" | "not-before" | "by", minute: number, from: number, to: number, channel?: "page" | "telephone" | "app" | "standing-order", at?: string, lead?: number },
+ *     "bookings": { id?: string, day: string, trip: number, mode: "around" | "not-before" | "by", minute: number, from: number, to: number, channel?: "page" | "telephone" | "app" | "standing-order", at?: string, lead?: number, from_address?: number, to_address?: number },
  *     "cancellations": { id?: string, trip: number, by: "rider" | "agency", at?: string, channel?: "page" | "telephone" | "app" | "standing-order" },
  *     "stops": { id?: string, vehicle: number, trip: number, event: "arrived" | "aboard" | "dropped" | "left" | "no-show-rider" | "no-show-agency", at?: string },
  *     "no-shows": { id?: string, vehicle: number, day: string, trip: number, from: number, to: number, wait: number, at?: string, arrived?: number },
@@ -55,6 +55,8 @@ export const EVENTS = {
         channel: { kind: "word", words: ["page", "telephone", "app", "standing-order"] },
         at: { kind: "moment" },
         lead: { kind: "number", low: 0, high: 60, optional: true },
+        from_address: { kind: "number", low: 1, high: 4294967295, optional: true },
+        to_address: { kind: "number", low: 1, high: 4294967295, optional: true },
     },
     "cancellations": {
         id: { kind: "id" },

@@ -1,5 +1,6 @@
 // Signing in and out, and which screen is shown. An address holds a screen and its part, never a key.
 
+import { forgetAddresses, loadAddresses } from "./addresses.js";
 import { agency, forgetPlaces, hasAgency, loadAgency, loadPlaces, troubles } from "./agency.js";
 import { asked } from "./ask.js";
 import { plus, today } from "./clock.js";
@@ -154,7 +155,7 @@ const inHurry = (/** @type {Promise<any>} */ it) => Promise.race([it, new Promis
 async function askNames(screen) {
     const staff = STAFF.includes(screen.id), whose = `${desk.digest()} ${staff}`;
     if (loadedFor === whose) return true;
-    const answers = await inHurry(Promise.all([loadPlaces(screen.id), staff ? loadRoster() : true]));
+    const answers = await inHurry(Promise.all([loadPlaces(screen.id), staff ? loadRoster() : true, loadAddresses(screen.id)]));
     const answered = answers?.every(Boolean) ?? false;
     if (answered) loadedFor = whose;
     return answered;
@@ -334,6 +335,7 @@ async function signOut(words, byHand = false) {
     answerNo();
     if (digest) await forgetHere(digest);
     forgetPlaces();
+    forgetAddresses();
     forgetRoster();
     loadedFor = "";
     dropNames("local", (name) => name.startsWith("desk.") && !STAYS.includes(name) && !OF_KEYS.some((it) => name.startsWith(it)));

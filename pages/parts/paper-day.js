@@ -7,6 +7,7 @@ import { drawInto, found, part } from "./element.js";
 import { printParts } from "./paper.js";
 import { pagesOf } from "./paper-pages.js";
 import { riderLabel, riderOf } from "./roster.js";
+import { stopNote, stopWhere } from "./stop-where.js";
 import { heldTogether } from "./telephones.js";
 import { aboardAt } from "./texts.js";
 import { t } from "./words.js";
@@ -47,10 +48,10 @@ const notesWords = (notes) => notes.length > 0 && part("em", { class: "noted" },
  */
 function whoAndWhere(stop, notes) {
     if (stop.what === "DEPOT") return [part("strong", {}, whatWords(stop)), ` ${placeWords(stop.place)}`];
-    if (stop.what === "DROP") return [part("strong", {}, whatWords(stop)), ` ${riderLabel(Number(stop.rider))}, ${placeName(stop.place)}`];
-    const rider = riderOf(Number(stop.rider)), more = [rider?.aid, rider?.note, agency().manifest_telephone && rider?.telephone].filter(Boolean).join("; ");
-    return [part("strong", {}, whatWords(stop)), ` ${riderLabel(Number(stop.rider))}`, more && part("span", { class: "more" }, ` (${more})`), part("br"), placeName(stop.place),
-        placeNote(stop.place) && part("span", { class: "more" }, `, ${placeNote(stop.place)}`), notesWords(notes)];
+    if (stop.what === "DROP") return [part("strong", {}, whatWords(stop)), ` ${riderLabel(Number(stop.rider))}, ${stopWhere(stop)}`];
+    const note = [stopNote(stop), placeNote(stop.place)].filter(Boolean).join(", "), rider = riderOf(Number(stop.rider)), more = [rider?.aid, rider?.note, agency().manifest_telephone && rider?.telephone].filter(Boolean).join("; ");
+    return [part("strong", {}, whatWords(stop)), ` ${riderLabel(Number(stop.rider))}`, more && part("span", { class: "more" }, ` (${more})`), part("br"), stopWhere(stop),
+        note && part("span", { class: "more" }, `, ${note}`), notesWords(notes)];
 }
 
 /** @param {Stop} stop @param {Dues} dues */
@@ -126,7 +127,7 @@ export function printManifests(manifests, dues, options = {}) {
 
 /** @param {Manifest} manifest @param {string} label */
 function sheetRows(manifest, label) {
-    const named = (/** @type {Stop} */ stop) => [clock(stop.at), stop.rider === undefined ? t("dispatcher.depot") : riderLabel(stop.rider), placeName(stop.place),
+    const named = (/** @type {Stop} */ stop) => [clock(stop.at), stop.rider === undefined ? t("dispatcher.depot") : riderLabel(stop.rider), stopWhere(stop),
         stop.window ? between(...stop.window) : "", String(aboardAt(stop))];
     const row = (/** @type {string} */ line, /** @type {Stop | null} */ stop) => part("tr", {}, stop ? named(stop).map((cell) => part("td", {}, cell)) : part("td", { colspan: LINES }, line));
     return part("tbody", {}, part("tr", { class: "van-row" }, part("th", { colspan: LINES, scope: "rowgroup" }, [vehicleName(manifest.vehicle), label].filter(Boolean).join(": "))),

@@ -1,6 +1,8 @@
-// A place, searched by any part of its name, its note or its number.
+// A place, searched by any part of its name, its note or its number, or by any part of an address that is at it.
 
-import { isOwnPlace, placeNote, placePairs } from "./agency.js";
+import { addressOfChoice, choiceOfAddress } from "./address-meant.js";
+import { addressChoice, addressesFor, addressOf } from "./addresses.js";
+import { isOwnPlace, placeName, placeNote, placePairs } from "./agency.js";
 import { comboField } from "./combo.js";
 import { HIGHEST_ID } from "./limits.js";
 import { searchable } from "./roster.js";
@@ -18,6 +20,11 @@ function choicesOf(rider, usual) {
     const at = (/** @type {Choice} */ { id }) => (first.includes(id) ? first.indexOf(id) : first.length);
     return all.sort((a, b) => at(a) - at(b));
 }
+
+/** The addresses that may be chosen, each as a choice of its own.
+ * @param {number | undefined} rider @returns {Choice[]}
+ */
+const addressChoices = (rider) => addressesFor(rider).map((it) => ({ id: choiceOfAddress(it.id), text: addressChoice(it), note: placeName(it.place), sought: it.sought }));
 
 /** Those that have each of the typed words, a place of that very number or name first.
  * @param {Choice[]} all @param {string} typed
@@ -40,15 +47,19 @@ function meant(all, typed) {
 }
 
 /** @param {string} name @param {string} label @param {{ rider?: number, usual?: () => number[], hint?: string, optional?: boolean, value?: number,
- *   chosen?: () => void }} options chosen() follows each new choice */
-export function placeField(name, label, { rider, usual = () => [], value, ...options } = {}) {
-    const all = () => choicesOf(rider, usual());
+ *   addresses?: boolean, chosen?: () => void }} options chosen() follows each new choice; with addresses, address() is the one that was chosen */
+export function placeField(name, label, { rider, usual = () => [], value, addresses = false, ...options } = {}) {
+    const places = () => choicesOf(rider, usual()), all = () => [...places(), ...(addresses ? addressChoices(rider) : [])];
     const wants = (/** @type {string} */ typed) => {
         const count = typed.trim() ? fitting(all(), typed).length : 0;
         return count > 1 ? t("fields.place-many", { count }) : t(typed.trim() ? "fields.place-none" : "fields.place");
     };
-    const whole = comboField(name, label, { ...options, all, wants, search: (typed) => fitting(all(), typed), meant: (typed) => meant(all(), typed),
+    const whole = comboField(name, label, { ...options, all: places, wants, search: (typed) => fitting(all(), typed), meant: (typed) => meant(all(), typed),
         textOf: (id) => all().find((it) => it.id === id)?.text ?? String(id) });
     if (value !== undefined) whole.write(value);
-    return whole;
+    const read = () => {
+        const found = whole.read(), id = addressOfChoice(found.value);
+        return id === null ? found : { value: addressOf(id)?.place ?? null };
+    };
+    return { ...whole, read, address: () => addressOfChoice(whole.read().value) };
 }

@@ -15,7 +15,8 @@ import { guessedDrive, isMadeUp } from "./wishes.js";
 /** @typedef {import("../types").Trip} Trip */
 /** @typedef {import("./wishes.js").Mode} Mode */
 /** @typedef {import("./wishes.js").Said} Said */
-/** @typedef {{ mode: Mode, minute: number, by?: number | null }} Named what a rider named: the mode, its minute, and a minute to be there by beside a pickup */
+/** @typedef {{ mode: Mode, minute: number, by?: number | null, from_address?: number, to_address?: number }} Named what a rider named: the mode, its minute, a minute
+ *   to be there by beside a pickup, and which addresses of the places are meant */
 /** @typedef {Named & { from?: number, to?: number }} Kept with the window that was promised for it */
 /** @typedef {{ said: Said, old: Trip | null, counted: boolean, elsewhere?: "booking" | "change" }} Offer old is the trip as it was before a change; elsewhere says what the
  *   trip was where another browser was offered it: how it was before is not known here */
@@ -68,7 +69,8 @@ function servedNow() {
 }
 
 /** @param {import("../types").Ticket} ticket @param {Said} said */
-export const keepSaid = ({ trip, window_from: from, window_to: to }, { mode, minute, by }) => put(SAID, trip, { mode, minute, by, from, to });
+export const keepSaid = ({ trip, window_from: from, window_to: to }, { mode, minute, by, from_address: start, to_address: end }) =>
+    put(SAID, trip, { mode, minute, by, from, to, ...(start && { from_address: start }), ...(end && { to_address: end }) });
 
 /** @param {Kept | undefined} kept @param {{ window_from: number, window_to: number }} trip */
 const holds = (kept, trip) => kept !== undefined && ["around", "not-before", "by"].includes(kept.mode) && Number.isInteger(kept.minute)
@@ -79,6 +81,14 @@ const holds = (kept, trip) => kept !== undefined && ["around", "not-before", "by
  */
 export function saidOf(trip) {
     return [stored(SAID)[trip.trip], servedNow().bookings[trip.trip]].find((kept) => holds(kept, trip)) ?? null;
+}
+
+/** Which address an end of a trip means, as its booking named it; undefined where it named none.
+ * @param {number | undefined} trip @param {"from" | "to"} end @returns {number | undefined}
+ */
+export function addressSaid(trip, end) {
+    const [here, told] = trip === undefined ? [] : [stored(SAID)[trip], servedNow().bookings[trip]];
+    return (told ?? here)?.[`${end}_address`];
 }
 
 /** Minutes of driving, guessed.

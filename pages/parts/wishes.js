@@ -23,6 +23,8 @@ import { LAST_MINUTE, NEGOTIATED_MINUTES } from "./limits.js";
  * @property {number} drive minutes of driving, guessed
  * @property {number} lead the agency's lead, 0 to 60
  * @property {boolean} change whether a trip that is booked is asked for again
+ * @property {number} [from_address] the address that is meant at the place of the pickup
+ * @property {number} [to_address] the address that is meant at the place of the drop-off
  */
 /** @typedef {{ wish: number, by: number | null, bound: boolean, at: number }} Request bound where by is the plan's own and not the rider's; at counts the plan's requests */
 /** @typedef {{ window_from: number, window_to: number }} Window */

@@ -150,12 +150,12 @@ function backFields() {
     return [{ ...time, write: written(time) }, { ...shown, write: written(mode) }];
 }
 
-/** The fields of a wish: of a new trip with several days and the way back.
+/** The fields of a wish: of a new trip with several days and the way back; ends() says which addresses were chosen.
  * @param {{ rider: number, again: boolean }} options again where a trip is changed
  */
 export function wishFields({ rider, again }) {
     const usual = () => usualOf(rider);
-    const from = placeField("from", t("booking.from"), { rider, usual }), to = placeField("to", t("booking.to"), { rider, usual });
+    const from = placeField("from", t("booking.from"), { rider, usual, addresses: true }), to = placeField("to", t("booking.to"), { rider, usual, addresses: true });
     const days = daysField({ several: !again }), mode = modeField("mode", t("booking.mode"), "around");
     const wish = whileShown(timeField("wish", t("booking.wish"), { optional: true, hint: t("booking.wish-hint") }), () => mode.read().value !== "by");
     const by = timeField("by", t("booking.by"), { optional: true, hint: t("booking.by-hint") });
@@ -166,7 +166,8 @@ export function wishFields({ rider, again }) {
     } };
     const companion = tickField("companion", t("booking.with-companion")), attendant = tickField("attendant", t("booking.with-attendant"));
     const [back, backMode] = backFields(), ofBack = again ? [] : [backMode];
-    return { fields: [from, to, days, wish, ...(again ? [] : [back]), by, chosen, ...ofBack, companion, attendant], days, map: mapFor(from, to) };
+    return { fields: [from, to, days, wish, ...(again ? [] : [back]), by, chosen, ...ofBack, companion, attendant], days, map: mapFor(from, to),
+        ends: () => ({ from_address: from.address(), to_address: to.address() }) };
 }
 
 /** What is wrong of the values together.

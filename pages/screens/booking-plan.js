@@ -45,9 +45,10 @@ const UNTIL_LOST = 600_000;
 const ENDS = ["desk.key", "desk.caller", "desk.number", "left"];
 
 /** What the rider said of a leg.
- * @param {{ mode: import("../parts/wishes.js").Mode, minute: number, by: number | null, from: number, to: number, change: boolean }} values @returns {Said}
+ * @param {{ mode: import("../parts/wishes.js").Mode, minute: number, by: number | null, from: number, to: number, change: boolean, from_address?: number | null,
+ *   to_address?: number | null }} values @returns {Said}
  */
-export const saidIn = ({ mode, minute, by, from, to, change }) => ({ mode, minute, by: mode === "by" ? null : by, drive: driveOf({ from, to }), lead: agency().lead, change });
+export const saidIn = ({ mode, minute, by, from, to, change, from_address: start, to_address: end }) => ({ ...(start && { from_address: start }), ...(end && { to_address: end }), mode, minute, by: mode === "by" ? null : by, drive: driveOf({ from, to }), lead: agency().lead, change });
 
 /** @param {number} rider @param {Wish} wish @param {Trip | null} trip the trip that is asked for again @returns {Promise<Reply>} */
 function sent(rider, wish, trip) {
@@ -59,10 +60,11 @@ function sent(rider, wish, trip) {
  * @param {{ wish: Wish, said: Said }} leg @param {Ticket} ticket
  */
 export function tellBooked({ wish, said }, ticket) {
-    const { mode, minute, lead } = said;
+    const { mode, minute, lead, from_address: start, to_address: end } = said;
     dropOffer(ticket.trip);
     keepSaid(ticket, said);
-    count("bookings", { day: wish.day, trip: ticket.trip, mode, minute, from: ticket.window_from, to: ticket.window_to, ...(mode === "around" && { lead }) });
+    count("bookings", { day: wish.day, trip: ticket.trip, mode, minute, from: ticket.window_from, to: ticket.window_to, ...(mode === "around" && { lead }),
+        ...(start && { from_address: start }), ...(end && { to_address: end }) });
 }
 
 /** Replies after which nobody knows what came of a write. */

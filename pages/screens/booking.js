@@ -1,5 +1,7 @@
 // Booking for a rider: what the rider wishes, and a list of what came of each trip that was asked for.
 
+import { choiceOfAddress } from "../parts/address-meant.js";
+import { addressOf } from "../parts/addresses.js";
 import { placeName } from "../parts/agency.js";
 import { between, clock, dayInWords, dayShort } from "../parts/clock.js";
 import * as desk from "../parts/desk.js";
@@ -37,17 +39,19 @@ export const statusOf = (/** @type {string} */ status) => t(`booking.${status}`)
 
 // What is asked for.
 
-/** @param {any} values @param {string} day @param {"out" | "back"} way @param {boolean} change @returns {Leg} */
-function legOf(values, day, way, change) {
+/** @typedef {{ from_address: number | null, to_address: number | null }} Ends which addresses were chosen */
+
+/** @param {any} values @param {string} day @param {"out" | "back"} way @param {boolean} change @param {Ends} chosen @returns {Leg} */
+function legOf(values, day, way, change, chosen) {
     const { from, to, companion, attendant } = values, isOut = way === "out", mode = isOut ? values.mode : values.backMode, by = isOut ? values.by : null;
     const minute = isOut ? (mode === "by" ? by : values.wish) : values.back, ends = isOut ? { from, to } : { from: to, to: from };
-    return { key: `${day}-${way}`, said: saidIn({ mode, minute, by, ...ends, change }), ticket: null, denied: null, offer: null, refused: null, other: false,
+    return { key: `${day}-${way}`, said: saidIn({ mode, minute, by, ...ends, ...(isOut ? chosen : { from_address: chosen.to_address, to_address: chosen.from_address }), change }), ticket: null, denied: null, offer: null, refused: null, other: false,
         waitsFor: isOut ? null : `${day}-out`, wish: { day, wish: minute, ...ends, by: mode === "by" ? minute : by, attendant, companions: companion ? 1 : 0 } };
 }
 
-/** @param {any} values @param {boolean} change @returns {Leg[]} */
-const legsOf = (values, change) => values.days.flatMap((/** @type {string} */ day) => [legOf(values, day, "out", change),
-    ...(values.back === null || values.back === undefined ? [] : [legOf(values, day, "back", change)])]);
+/** @param {any} values @param {boolean} change @param {Ends} chosen @returns {Leg[]} */
+const legsOf = (values, change, chosen) => values.days.flatMap((/** @type {string} */ day) => [legOf(values, day, "out", change, chosen),
+    ...(values.back === null || values.back === undefined ? [] : [legOf(values, day, "back", change, chosen)])]);
 
 /** @param {[number, number]} one @param {[number, number]} other */
 const meets = (one, other) => one[0] < other[1] && other[0] < one[1];
@@ -150,7 +154,7 @@ function resultsShown({ legs, busy }, about, acts) {
  * @param {Given} given
  */
 function wishScreen({ rider, trip = null, booked, heading, action }) {
-    const { fields, days, map } = wishFields({ rider, again: Boolean(trip) });
+    const { fields, days, map, ends } = wishFields({ rider, again: Boolean(trip) });
     const about = { rider, trip, ids: trip ? `change-${trip.trip}` : "book" };
     const asker = askerOf({ change: (/** @type {any} */ patch, /** @type {any} */ options) => screen.change(patch, options), state: () => screen.state, rider, trip,
         booked: () => booked(screen.state.legs.find(({ ticket }) => ticket)?.ticket ?? null), onGone: (/** @type {() => void} */ act) => screen.onGone(act) });
@@ -159,9 +163,9 @@ function wishScreen({ rider, trip = null, booked, heading, action }) {
         screen.change({ legs: [], busy: false });
     };
     const whole = form({ name: heading, action, fields, class: "wish", extra: map, check: faultOf, begun: () => begin(),
-        ask: (values) => questionOf(about, legsOf(values, Boolean(trip))),
+        ask: (values) => questionOf(about, legsOf(values, Boolean(trip), ends())),
         send: async (values) => {
-            screen.change({ legs: legsOf(values, Boolean(trip)), busy: true });
+            screen.change({ legs: legsOf(values, Boolean(trip), ends()), busy: true });
             planned(rider, screen.state.legs, trip?.trip ?? null);
             await asker.rest();
             ended(rider);
@@ -193,7 +197,8 @@ function wishScreen({ rider, trip = null, booked, heading, action }) {
 function wishOf(trip) {
     const { from, to, companions, attendant } = trip, said = saidOf(trip), by = namedBy(trip);
     const mode = said?.mode ?? (by === null ? "around" : "by"), minute = said?.minute ?? trip.window_from;
-    return { from, to, mode, wish: mode === "by" ? null : minute, by: mode === "by" ? said?.minute ?? by : by, companion: companions > 0, attendant };
+    const at = (/** @type {number | undefined} */ address, /** @type {number} */ place) => (address !== undefined && addressOf(address)?.place === place ? choiceOfAddress(address) : place);
+    return { from: at(said?.from_address, from), to: at(said?.to_address, to), mode, wish: mode === "by" ? null : minute, by: mode === "by" ? said?.minute ?? by : by, companion: companions > 0, attendant };
 }
 
 /** @param {Trip | null} back */

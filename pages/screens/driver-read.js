@@ -13,7 +13,9 @@ import { t } from "../parts/words.js";
 /**
  * @typedef {{ name?: string, note?: string, latitude?: number, longitude?: number }} PlaceNames
  * @typedef {{ name: string, note: string }} RiderNames
- * @typedef {{ places: Record<string, PlaceNames>, riders: Record<string, RiderNames>, fares: Record<string, number> }} Names
+ * @typedef {{ street: string, note?: string, latitude?: number, longitude?: number }} Address
+ * @typedef {{ places: Record<string, PlaceNames>, riders: Record<string, RiderNames>, fares: Record<string, number>,
+ *   addresses?: Record<string, { from?: Address, to?: Address }> }} Names
  * @typedef {{ text: string, stops: import("./driver-day.js").Stop[], readAt: string, names: Names, known: import("./driver-day.js").Known }} Read
  * @typedef {Record<string, string>} Records how trips ended, as the desk has it
  * @typedef {Record<string, { kind: string, minute: number }>} Taps the last that drivers of the van told the site's log of each trip
@@ -106,19 +108,30 @@ function knownOf(records, taps) {
     return Object.fromEntries([...told, ...Object.entries(records).map(([trip, how]) => [trip, { how, minute: null }])]);
 }
 
+/** Which address each end of a trip means, as the site's file for the driver has it.
+ * @param {number} vehicle @returns {Promise<Record<string, { from?: Address, to?: Address }>>} */
+async function addressesOf(vehicle) {
+    try {
+        return JSON.parse(await driversFile(vehicle, "addresses.json")).addresses ?? {};
+    } catch {
+        return {};
+    }
+}
+
 /** Reads a day once, and keeps a copy of it: what was read, or why not.
  * @param {number} vehicle @param {string} day @param {Names} before names that are known already
  * @returns {Promise<(Read & { records: Records }) | { denied: string } | { silent: string }>} */
 export async function readDay(vehicle, day, before) {
     // (all at once: on a phone's line each answer takes its time)
     const reading = desk.readOnce(`/vehicles/${vehicle}/manifest/${day}`);
-    const files = Promise.all([allPlaces(vehicle), ridersOf(vehicle), exportOf(day), recordsOf(vehicle)]);
+    const files = Promise.all([allPlaces(vehicle), ridersOf(vehicle), exportOf(day), recordsOf(vehicle), addressesOf(vehicle)]);
     files.catch(() => {});
     const reply = await reading;
     if (reply.silent) return { silent: reply.silent };
     if (reply.denied) return { denied: reply.denied };
-    const stops = stopsIn(reply.value), [places, riders, { fares, records: exported }, { outcomes, taps }] = await files, records = { ...outcomes, ...exported };
-    const names = { places: { ...before.places, ...placesOf(stops, places) }, riders: { ...before.riders, ...riders }, fares: { ...before.fares, ...fares } };
+    const stops = stopsIn(reply.value), [places, riders, { fares, records: exported }, { outcomes, taps }, addresses] = await files, records = { ...outcomes, ...exported };
+    const names = { places: { ...before.places, ...placesOf(stops, places) }, riders: { ...before.riders, ...riders }, fares: { ...before.fares, ...fares },
+        addresses: { ...before.addresses, ...addresses } };
     const read = { text: reply.value, readAt: momentNow(), names, known: knownOf(records, day === today() ? taps : {}) };
     // (a phone without room for a copy shows what it read all the same, and no phone waits for its disk)
     keepCopy(copyName(vehicle, day), read).catch(() => {});
@@ -129,6 +142,9 @@ export async function readDay(vehicle, day, before) {
 export const placeAt = (id, names) => /** @type {PlaceNames} */ ({ ...placeOf(id), ...names.places[id] });
 /** @param {number} id @param {Names} names */
 export const placeNameAt = (id, names) => placeAt(id, names).name || `${placeWord()} ${id}`;
+/** The address that a stop means, or null where the place alone is known.
+ * @param {{ what: string, trip?: number }} stop @param {Names} names @returns {Address | null} */
+export const addressAt = ({ what, trip }, names) => names.addresses?.[trip ?? 0]?.[what === "PICK" ? "from" : "to"] ?? null;
 /** @param {number} rider @param {Names} names @returns {RiderNames} */
 export const riderAt = (rider, names) => names.riders[rider] ?? riderOf(rider) ?? { name: "", note: "" };
 /** "Ana Lopez, rider 1005", or "rider 1005".

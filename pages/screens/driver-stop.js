@@ -6,7 +6,7 @@ import { keptDenialOf } from "../parts/denials.js";
 import { button, part } from "../parts/element.js";
 import { counted, t } from "../parts/words.js";
 import { canTakeBack, choicesAt, evidenceOf, minutesUntil, waitAt } from "./driver-day.js";
-import { mapLink, placeAt, placeNameAt, riderAt, whoAt } from "./driver-read.js";
+import { addressAt, mapLink, placeAt, placeNameAt, riderAt, whoAt } from "./driver-read.js";
 
 /** @typedef {import("./driver-day.js").Shown} Shown */
 /** @typedef {import("./driver-day.js").What} What */
@@ -64,9 +64,9 @@ function headOf(stop, about) {
 
 /** @param {Shown} stop @param {About} about */
 function whereOf(stop, { names }) {
-    const place = placeAt(stop.place, names), link = mapLink(place), name = placeNameAt(stop.place, names);
-    const note = place.note || placeNote(stop.place);
-    return [part("p", { class: "driver-where" }, name, note && part("small", {}, note)),
+    const place = placeAt(stop.place, names), address = addressAt(stop, names), link = (address && mapLink(address)) || mapLink(place);
+    const name = address?.street ?? placeNameAt(stop.place, names), note = [address?.note, address && placeNameAt(stop.place, names), place.note || placeNote(stop.place)].filter(Boolean);
+    return [part("p", { class: "driver-where" }, name, note.map((text) => part("small", {}, text))),
         link && part("p", {}, part("a", { class: "driver-link", href: link, rel: "noreferrer noopener", target: link.startsWith("https:") ? "_blank" : null,
             "aria-label": t("driver.map-of", { place: name }) }, t("driver.map")))];
 }

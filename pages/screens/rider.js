@@ -1,5 +1,6 @@
 // The rider's own pages, in plain words.
 
+import { loadOwnAddresses } from "../parts/addresses.js";
 import { agency, hasOwnPlaces, loadOwnPlaces } from "../parts/agency.js";
 import { today } from "../parts/clock.js";
 import * as desk from "../parts/desk.js";
@@ -23,7 +24,7 @@ function withNames(rider, draw) {
     const screen = makeScreen({ state: { ready: hasOwnPlaces(rider) }, draw: ({ ready }, { kept }) => (ready ? kept("own", () => [draw(rider)].flat())
         : part("p", { role: "status" }, t("rider.reading"))) });
     const staying = makeScreen({ state: {}, draw: () => desk.stays() === rider && part("p", { class: "hint" }, t("rider.stays")) });
-    if (!screen.state.ready) loadOwnPlaces(rider).then(() => screen.change({ ready: true }));
+    if (!screen.state.ready) Promise.all([loadOwnPlaces(rider), loadOwnAddresses(rider)]).then(() => screen.change({ ready: true }));
     desk.stayAs(rider).then(() => staying.change({}));
     return [screen.element, staying.element];
 }

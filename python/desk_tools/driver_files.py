@@ -26,13 +26,16 @@ from pathlib import Path
 from typing import Any
 
 from desk_tools import ending
+from desk_tools.town.site_addresses import End, Known
 
 LOG = logging.getLogger("desk-driver-files")
 HEAD = re.compile(r"VEHICLE (\d+) DAY \d{4}-\d{2}-\d{2}")
-STOP = re.compile(r"\d\d:\d\d (?:DEPOT (\d+)|(?:PICK|DROP) trip \d+ rider (\d+) place (\d+)\b.*)")
+STOP = re.compile(r"\d\d:\d\d (?:DEPOT (\d+)|(PICK|DROP) trip (\d+) rider (\d+) place (\d+)\b.*)")
+END_OF = {"PICK": "from", "DROP": "to"}
 PLACE_FIELDS = ("id", "name", "note", "latitude", "longitude")
 ROSTER_FIELDS = ("rider", "name", "note")
-NAMES = ("roster.csv", "places.json", "outcomes.json")
+NAMES = ("roster.csv", "places.json", "outcomes.json", "addresses.json")
+ADDRESS_FIELDS = ("id", "street", "note", "latitude", "longitude")
 # Of what a driver taps, what says how far a trip has come.
 TAPS = ("aboard", "dropped", "no-show", "missed")
 SECONDS = 60
@@ -46,12 +49,15 @@ class Wrong(Exception):
 
 @dataclass
 class Need:
-    """What one driver has to know: numbers of riders and of places, and by trip how it ended and what was tapped."""
+    """What one driver has to know: numbers of riders and of places, by trip how it ended and what was tapped, and
+    both ends of its trips.
+    """
 
     riders: set[int] = field(default_factory=set)
     places: set[int] = field(default_factory=set)
     outcomes: dict[int, str] = field(default_factory=dict)
     taps: dict[int, dict[str, Any]] = field(default_factory=dict)
+    ends: dict[tuple[int, str], End] = field(default_factory=dict)
 
 
 def needs_in(sheets: list[str], exports: list[str]) -> dict[int, Need]:
@@ -67,8 +73,11 @@ def needs_in(sheets: list[str], exports: list[str]) -> dict[int, Need]:
                 vehicle = int(head[1])
             elif stop := STOP.fullmatch(line):
                 need = needs.setdefault(vehicle, Need())
-                need.places.add(int(stop[1] or stop[3]))
-                need.riders |= {int(stop[2])} if stop[2] else set()
+                need.places.add(int(stop[1] or stop[5]))
+                if stop[2]:
+                    need.riders.add(int(stop[4]))
+                    end = End(int(stop[4]), int(stop[5]))
+                    need.ends[int(stop[3]), END_OF[stop[2]]] = end
     for export in exports:
         for row in csv.DictReader(io.StringIO(export)):
             if row["status"] != "booked" and int(row["vehicle"]) in needs:
@@ -77,7 +86,10 @@ def needs_in(sheets: list[str], exports: list[str]) -> dict[int, Need]:
 
 
 def texts_of(
-    need: Need, places: list[dict[str, Any]], roster: list[dict[str, str]]
+    need: Need,
+    places: list[dict[str, Any]],
+    roster: list[dict[str, str]],
+    town: "Town | None" = None,
 ) -> dict[str, str]:
     """The text of each file of one van."""
     rows = [it for it in roster if it["rider"].isdecimal() and int(it["rider"]) in need.riders]
@@ -93,7 +105,39 @@ def texts_of(
         "roster.csv": out.getvalue(),
         "places.json": as_json({"places": known}),
         "outcomes.json": as_json({"outcomes": outcomes, "taps": taps}),
+        **({"addresses.json": as_json({"addresses": town.ends_of(need)})} if town else {}),
     }
+
+
+@dataclass
+class Town:
+    """The addresses, and which of them each booking named (staff/today.json)."""
+
+    known: Known
+    bookings: dict[str, Any]
+
+    def ends_of(self, need: Need) -> dict[str, dict[str, dict[str, Any]]]:
+        """By trip and end the address that is meant, where one is known."""
+        found: dict[str, dict[str, dict[str, Any]]] = {}
+        for (trip, end), it in sorted(need.ends.items()):
+            booking = self.bookings.get(str(trip))
+            number = booking.get(f"{end}_address") if isinstance(booking, dict) else None
+            meant = self.known.meant(it, number)
+            if meant is not None:
+                fields = {name: meant[name] for name in ADDRESS_FIELDS if name in meant}
+                found.setdefault(str(trip), {})[end] = fields
+        return found
+
+
+def town_in(folder: Path) -> Town | None:
+    """The town's addresses with today's bookings; none where there is no file of addresses."""
+    path = folder / "staff/addresses.json"
+    if not path.exists():
+        return None
+    listed = object_in(path).get("addresses", [])
+    known = Known([it for it in listed if isinstance(it, dict)])
+    bookings = object_in(folder / "staff/today.json").get("bookings", {})
+    return Town(known, bookings if isinstance(bookings, dict) else {})
 
 
 def as_json(value: object) -> str:
@@ -269,12 +313,14 @@ def make(folder: Path, url: str, key: str, today: str | None) -> str:
         sheets = [asked(url, key, f"/days/{day}/sheet") for day in days]
         exports = [asked(url, key, f"/days/{day}/trips.csv") for day in days]
         with locked(folder):
-            places, roster = places_in(folder), roster_in(folder)
+            places, roster, town = places_in(folder), roster_in(folder), town_in(folder)
             needs = sorted(needs_in(sheets, exports).items())
             for van, taps in taps_in(folder, days[0]).items():
                 for need in (need for number, need in needs if number == van):
                     need.taps = taps
-            changed = put(folder, {van: texts_of(need, places, roster) for van, need in needs})
+            changed = put(
+                folder, {van: texts_of(need, places, roster, town) for van, need in needs}
+            )
     except OSError as error:
         raise Wrong(f"{error.filename or folder}: {error.strerror}") from None
     except (KeyError, ValueError) as error:

@@ -211,7 +211,9 @@ def day_of(known: Known, today: datetime.date, zone: datetime.tzinfo) -> dict[st
         "notes": [_row(it, zone, "vehicle", "trip", "text") for it in of["notes"]],
         "bookings": {
             str(it.fields["trip"]): {
-                name: it.fields[name] for name in ("mode", "minute", "from", "to")
+                name: it.fields[name]
+                for name in ("mode", "minute", "from", "to", "from_address", "to_address")
+                if it.fields.get(name) is not None
             }
             for it in of["bookings"]
         },

@@ -100,6 +100,23 @@ def test_bookings_are_those_of_today_and_later_and_the_last_one_counts() -> None
     }
 
 
+def test_the_addresses_that_a_booking_names_are_kept() -> None:
+    fields = {"day": "2026-12-07", "trip": 641, "mode": "by", "minute": 610, "from": 500, "to": 530}
+    told = made(
+        line(
+            "bookings",
+            1,
+            channel="page",
+            **fields,
+            at="2026-12-07T08:00:00",
+            from_address=17,
+            to_address=4294967295,
+        )
+    )
+    kept = told["bookings"]["641"]
+    assert (kept["from_address"], kept["to_address"]) == (17, 4294967295)
+
+
 def test_an_offer_waits_until_its_trip_is_booked_or_cancelled() -> None:
     def offer(number: int, trip: int, day: str, at: str = "2026-12-07T08:00:00") -> bytes:
         named = {"trip": trip, "rider": 42, "from": 635, "to": 660, "offer": "booking"}

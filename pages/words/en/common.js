@@ -13,6 +13,7 @@ export const words = {
     "common.am": "AM",
     "common.pm": "PM",
     "common.agency": "Paratransit",
+    "common.address-at": ({ street, place }) => `${street}, at ${place}`,
     "common.place": "place",
     "common.vehicle": ({ vehicle }) => `Vehicle ${vehicle}`,
     "common.line": ({ line }) => `Line ${line}`,

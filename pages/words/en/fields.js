@@ -22,6 +22,7 @@ export const words = {
     "fields.yes-no": "Choose yes or no.",
     "fields.place": "Choose a place: write a part of its name, or its number.",
     "fields.place-none": "No place has this in its name. Write another part of it, or its number.",
+    "fields.address-choice": ({ id, street }) => `${street} (address ${id})`,
     "fields.place-many": ({ count }) => `${count} places have this in their names. Choose one of the list, or write more.`,
     "fields.id": ({ most }) => `Write a whole number from 1 to ${most}.`,
     "fields.rider-hint": "A number, a name or a part of it, or a telephone number.",

@@ -22,6 +22,7 @@ export const words = {
     "common.am": "a. m.",
     "common.pm": "p. m.",
     "common.agency": "Paratránsito",
+    "common.address-at": ({ street, place }) => `${street}, en ${place}`,
     "common.place": "lugar",
     "common.vehicle": ({ vehicle }) => `Vehículo ${vehicle}`,
     "common.line": ({ line }) => `Línea ${line}`,

@@ -22,6 +22,7 @@ export const words = {
     "fields.yes-no": "Elija sí o no.",
     "fields.place": "Elija un lugar: escriba una parte de su nombre, o su número.",
     "fields.place-none": "Ningún lugar tiene esto en su nombre. Escriba otra parte, o su número.",
+    "fields.address-choice": ({ id, street }) => `${street} (dirección ${id})`,
     "fields.place-many": ({ count }) => `${count} lugares tienen esto en su nombre. Elija uno de la lista, o escriba más.`,
     "fields.id": ({ most }) => `Escriba un número entero de 1 a ${most}.`,
     "fields.rider-hint": "Un número, un nombre o una parte, o un teléfono.",

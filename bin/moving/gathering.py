@@ -1,0 +1,149 @@
+"""The command that groups addresses into places: its folder's files, and what it prints. The rest is desk_tools.town."""
+import os
+import pathlib
+import sys
+
+from moving import carry, plane as geometry, whole_file
+from moving.limits import DONE, MOST_PLACES, SOME_REFUSED, Wrong
+from moving.typed import addresses, corridor, cutting, joining, places, sheets
+
+# Debian's Python has Debian's numpy; another one may come first on the path.
+PYTHON = "/usr/bin/python3"
+PACKAGES = {"osmium": "pyosmium"}
+MAP, PLACES, ADDRESSES, REFUSED = "gathered.svg", "gathered-places.csv", "gathered-addresses.csv", "refused-gather.csv"
+
+
+def gather(words):
+    """Groups the addresses of a table."""
+    needs("numpy")
+    from desk_tools.town import drawing, gather as town
+    try:
+        agency, plane = carry.kept_agency(words.folder), geometry.kept_plane(words.folder)
+        read, sheet = addresses.read(pathlib.Path(words.csv), plane)
+        known = town.Town(places_of(agency), corridor.lines_of(agency["routes"]), plane, words.speed, words.detour,
+                          words.serve_outside, words.most)
+        progress = carry.Progress("places tried", 1, after=2)
+        found = town.gathered(known, read, lambda done, total: shown(progress, done, total))
+        progress.end()
+    except sheets.Unreadable as error:
+        raise Wrong(str(error)) from None
+    refuse(sheet, found)
+    print("\n".join([f"note: {it}" for it in sheet.notes] + town.told(known, found)))
+    for line in addresses.listed(sheet.refused):
+        print(f"  refused: {line}")
+    put(words, {MAP: drawing.drawn(found, known.lines)} if words.plan else {
+        MAP: drawing.drawn(found, known.lines), PLACES: town.places_text(found),
+        ADDRESSES: addresses.text_of(found.addresses)}, addresses.refused_text(sheet) if sheet.refused else None)
+    return SOME_REFUSED if sheet.refused else DONE
+
+
+def needs(package):
+    """Goes on under Debian's Python where this one lacks a package of Debian."""
+    # (its threads would only wait for each other where the machine is busy)
+    os.environ.setdefault("OPENBLAS_NUM_THREADS", "1")
+    try:
+        __import__(package)
+    except ImportError:
+        if os.path.realpath(sys.executable) == os.path.realpath(PYTHON) or not os.path.exists(PYTHON):
+            name = PACKAGES.get(package, package)
+            raise Wrong(f"this takes the package python3-{name}: apt install python3-{name}") from None
+        os.execv(PYTHON, [PYTHON, *sys.argv])
+
+
+def shown(progress, done, total):
+    progress.total = total
+    progress.show(done)
+
+
+
+
+def places_of(agency):
+    """The places that stand, as far as their points are known."""
+    def whose(private):
+        return private if isinstance(private, bool) else tuple(private) if isinstance(private, list) else (private,)
+
+    known = [(number, it) for number, it in agency["places"].items() if "x" in it]
+    if len(known) > MOST_PLACES:
+        raise Wrong(f"agency.json has {len(known)} places, and the desk takes {MOST_PLACES}")
+    return [places.Place(int(number), it.get("name", ""), (it["x"], it["y"]), it.get("core", False),
+                  whose(it["private"]) if it.get("private") else ()) for number, it in known]
+
+
+def refuse(sheet, found):
+    """The rows that are refused since no place is right for them stand with the others, whole."""
+    rows = {it.number: it for it in sheet.rows}
+    sheet.refused += [type(it)(it.number, it.reason, rows[it.number].cells) for it in found.refused]
+    sheet.refused.sort(key=lambda it: it.number)
+
+
+def put(words, texts, refused, back=REFUSED):
+    """Writes the files, each whole; a plan writes the map alone."""
+    try:
+        for name, text in texts.items():
+            whole_file.written(f"{words.folder}/{name}", text)
+        path = f"{words.folder}/{back}"
+        if refused and not words.plan:
+            whole_file.written(path, refused)
+        elif os.path.exists(path) and not words.plan:
+            os.remove(path)
+    except OSError as error:
+        raise Wrong(f"{error.filename or words.folder}: {error.strerror}") from None
+    print(f"{', '.join(texts)} {'is' if len(texts) == 1 else 'are'} written to {words.folder}"
+          + (f"; {back} has the rows that were refused" if refused and not words.plan else ""))
+
+
+def join(words):
+    """Adds one address to a table."""
+    agency, plane = carry.kept_agency(words.folder), geometry.kept_plane(words.folder)
+    if plane is None:
+        raise Wrong(f"{words.folder} has no plane.json: run move-in routes first")
+    path = pathlib.Path(words.csv)
+    try:
+        known, sheet = addresses.read(path, plane) if path.exists() else ([], None)
+    except sheets.Unreadable as error:
+        raise Wrong(str(error)) from None
+    if sheet and sheet.refused:
+        raise Wrong(f"{path}, row {sheet.refused[0].number}: {sheet.refused[0].reason}. Mend it first: the file is written whole")
+    latitude, _, longitude = words.at.partition(",")
+    fields = {"id": words.id or str(max((it.number for it in known), default=0) + 1), "street": " ".join(words.street.split()),
+              "latitude": latitude.strip(), "longitude": longitude.strip(), "note": " ".join(words.note.split()), "rider": words.rider}
+    try:
+        new = addresses.address_of(sheets.Row(0, fields, []), plane)
+    except addresses.WrongCell as error:
+        raise Wrong(str(error)) from None
+    try:
+        found = joining.joined(new, places_of(agency), corridor.lines_of(agency["routes"]))
+    except joining.NoPlace as error:
+        print(f"refused: {error}")
+        return SOME_REFUSED
+    print(f"{new.number}: {new.street}: at place {found.place.number} {found.place.name}, {found.feet:,.0f} feet away")
+    if not words.plan:
+        try:
+            whole_file.written(words.csv, addresses.text_of(joining.with_row(known, found.address)))
+        except OSError as error:
+            raise Wrong(f"{words.csv}: {error.strerror}") from None
+        print(f"{words.csv} is written")
+    return DONE
+
+
+def people(words):
+    """Cuts one table of riders into what goes where."""
+    agency, plane = carry.kept_agency(words.folder), geometry.kept_plane(words.folder)
+    stand, lines = places_of(agency), corridor.lines_of(agency["routes"])
+    path = pathlib.Path(words.addresses or f"{words.folder}/{ADDRESSES}")
+    try:
+        known, sheet = addresses.read(path, plane) if words.addresses or path.exists() else ([], None)
+        if sheet and sheet.refused:
+            raise Wrong(f"{path}, row {sheet.refused[0].number}: {sheet.refused[0].reason}. Mend it first: the file is written whole")
+        made = cutting.cut(pathlib.Path(words.csv), plane, known, lambda it: joining.joined(it, stand, lines).address)
+    except sheets.Unreadable as error:
+        raise Wrong(str(error)) from None
+    print("\n".join(cutting.told(made)))
+    for line in addresses.listed(made.sheet.refused):
+        print(f"  refused: {line}")
+    if words.plan:
+        print("Nothing was written.")
+        return SOME_REFUSED if made.sheet.refused else DONE
+    texts = {**cutting.texts_of(made), "cut-addresses.csv": addresses.text_of(made.addresses)}
+    put(words, texts, addresses.refused_text(made.sheet) if made.sheet.refused else None, "refused-people.csv")
+    return SOME_REFUSED if made.sheet.refused else DONE

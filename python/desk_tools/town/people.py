@@ -1,0 +1,217 @@
+"""One table of riders, cut into what goes where: riders.csv, the roster, and the addresses of homes.
+
+Columns: number, name, telephone, language, home_address, latitude, longitude, home, kind, attendant,
+wheelchair, until, conditions, aid, note. `home` is the number of the home's place. Without it the
+home's address is looked up in the table of addresses, or joins a place by its position.
+"""
+
+import csv
+import io
+import re
+from collections import Counter
+from collections.abc import Callable, Sequence
+from dataclasses import dataclass, field, replace
+from pathlib import Path
+
+from desk_tools.town import cells, sheets
+from desk_tools.town.addresses import Address, Plane, named, refuse_wrong, with_point
+from desk_tools.town.cells import WrongCell
+from desk_tools.town.joining import NoPlace
+from desk_tools.town.sheets import Row, Sheet
+
+COLUMNS = {
+    "number": ("rider", "id", "rider_id", "rider_number", "client_id"),
+    "name": ("rider_name", "full_name", "client_name"),
+    "telephone": ("phone", "telephone_number", "phone_number", "tel"),
+    "language": ("lang",),
+    "home_address": ("address", "street", "street_address"),
+    "latitude": ("lat",),
+    "longitude": ("lon", "lng", "long"),
+    "x": (),
+    "y": (),
+    "home": ("place", "home_place"),
+    "kind": ("type",),
+    "attendant": ("pca", "personal_care_attendant"),
+    "wheelchair": (),
+    "until": ("certified_until", "expires", "expiration", "expiration_date"),
+    "conditions": ("condition",),
+    "aid": ("mobility_aid", "aids"),
+    "note": ("notes", "comment", "comments"),
+}
+RIDERS = ("number", "kind", "attendant", "wheelchair", "until", "conditions", "home")
+ROSTER = ("rider", "name", "telephone", "language", "home", "aid", "note")
+LANGUAGES = {"english": "en", "inglés": "en", "spanish": "es", "español": "es"}
+KINDS = ("resident", "visitor")
+
+
+@dataclass(frozen=True)
+class Person:
+    """A rider as the two tables have one."""
+
+    rider: dict[str, str]
+    roster: dict[str, str]
+
+
+@dataclass
+class Cut:
+    """What a table was cut into."""
+
+    people: list[Person]
+    addresses: list[Address]
+    sheet: Sheet
+    forms: Counter[tuple[str, str]] = field(default_factory=Counter)
+    without_home: int = 0
+
+
+Join = Callable[[Address], Address]
+
+
+def cut(path: Path, plane: Plane | None, known: Sequence[Address], join: Join) -> Cut:
+    """The table's riders, and the addresses with their homes among them.
+
+    `join` gives an address its place, or raises NoPlace.
+    """
+    sheet = sheets.read(path, COLUMNS, cells.HIGHEST_NUMBER)
+    for name in ("number", "name"):
+        if name not in sheet.header:
+            raise sheets.Unreadable(
+                f"{path} has no column {name} in row 1, which names the columns"
+            )
+    made = Cut([], list(known), sheet)
+    seen: dict[int, int] = {}
+    streets = {plain(it.street): at for at, it in enumerate(made.addresses)}
+
+    def take(row: Row) -> None:
+        number = named("number", row.fields, cells.number)
+        if number is None or not row.fields.get("name"):
+            raise WrongCell(f"{'name' if number else 'number'} is missing")
+        if number in seen:
+            raise WrongCell(f"row {seen[number]} has the number {number} already")
+        rider = rider_of(number, row.fields, made.forms)
+        home = home_of(number, row.fields, plane, made, streets, join)
+        seen[number] = row.number
+        made.without_home += home == ""
+        made.people.append(
+            Person({**rider, "home": home}, {**roster_of(number, row.fields), "home": home})
+        )
+
+    refuse_wrong(sheet, take)
+    return made
+
+
+def plain(street: str) -> str:
+    """A street as it is compared: without case, commas and points."""
+    return " ".join(re.sub(r"[.,#]", " ", street).lower().split())
+
+
+def rider_of(
+    number: int, fields: dict[str, str], forms: Counter[tuple[str, str]]
+) -> dict[str, str]:
+    """What the desk needs of a rider."""
+    kind = fields.get("kind", "").lower() or "resident"
+    if kind not in KINDS:
+        raise WrongCell(f"kind {fields['kind']!r} is none of {', '.join(KINDS)}")
+    until = named("until", fields, cells.day)
+    if until:
+        forms["until", until[1]] += 1
+    flags = {
+        name: "yes" if named(name, fields, cells.yes_or_no) else "no"
+        for name in ("attendant", "wheelchair")
+    }
+    conditions = fields.get("conditions", "").lower()
+    return {
+        "number": str(number),
+        "kind": kind,
+        **flags,
+        "until": until[0] if until else "",
+        "conditions": conditions,
+    }
+
+
+def roster_of(number: int, fields: dict[str, str]) -> dict[str, str]:
+    """What the roster has of a rider."""
+    language = fields.get("language", "").lower()
+    telephone = fields.get("telephone", "")
+    if telephone and not any(it.isdigit() for it in telephone):
+        raise WrongCell(f"telephone {telephone!r} has no digits")
+    return {
+        "rider": str(number),
+        "name": fields["name"],
+        "telephone": telephone,
+        "language": LANGUAGES.get(language, language),
+        "aid": fields.get("aid", ""),
+        "note": fields.get("note", ""),
+    }
+
+
+def home_of(
+    number: int,
+    fields: dict[str, str],
+    plane: Plane | None,
+    made: Cut,
+    streets: dict[str, int],
+    join: Join,
+) -> str:
+    """The number of the home's place, and the home's address among the addresses."""
+    home = named("home", fields, cells.number)
+    street = fields.get("home_address", "")
+    if not street:
+        return str(home or "")
+    at = streets.get(plain(street))
+    if at is not None:
+        there = made.addresses[at]
+        riders = tuple(sorted({*there.riders, number}))
+        made.addresses[at] = replace(there, riders=riders)
+        return str(home or there.place or "")
+    new = max((it.number for it in made.addresses), default=0) + 1
+    address = with_point(Address(new, street, place=home, riders=(number,)), fields, plane)
+    if home is None:
+        address = joined(address, join)
+    streets[plain(street)] = len(made.addresses)
+    made.addresses.append(address)
+    return str(address.place)
+
+
+def joined(address: Address, join: Join) -> Address:
+    """The address at a place."""
+    if address.point is None:
+        raise WrongCell(
+            f"home_address {address.street!r} is in no table of addresses, and has no position"
+        )
+    try:
+        return join(address)
+    except NoPlace as error:
+        raise WrongCell(str(error)) from None
+
+
+def table(columns: Sequence[str], rows: Sequence[dict[str, str]]) -> str:
+    """Rows as a CSV."""
+    text = io.StringIO()
+    writer = csv.DictWriter(text, columns, lineterminator="\n", extrasaction="ignore")
+    writer.writeheader()
+    writer.writerows(rows)
+    return text.getvalue()
+
+
+def texts_of(made: Cut) -> dict[str, str]:
+    """The texts of riders.csv and of the roster."""
+    return {
+        "cut-riders.csv": table(RIDERS, [it.rider for it in made.people]),
+        "cut-roster.csv": table(ROSTER, [it.roster for it in made.people]),
+    }
+
+
+def told(made: Cut) -> list[str]:
+    """What was cut, and how cells were read."""
+    forms = [
+        f"{name}: {count} days were read as {form}"
+        for (name, form), count in sorted(made.forms.items())
+        if form != cells.ISO
+    ]
+    unread = [f"the column {it} is not read" for it in made.sheet.header if it not in COLUMNS]
+    homes = sum(bool(it.riders) for it in made.addresses)
+    return [
+        *(f"note: {it}" for it in [*unread, *made.sheet.notes, *forms]),
+        f"{len(made.people)} riders; {len(made.addresses)} addresses, {homes} of them homes",
+        *([f"{made.without_home} riders have no home"] if made.without_home else []),
+    ]

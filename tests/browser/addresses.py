@@ -1,0 +1,43 @@
+"""Addresses: one is found by any part of it, the booking names it, and the ticket and the manifest show it."""
+import json
+
+from booking import BOOK, FRIDAY, begin, counted_in, last_trip, results, wish
+from checks import check, holds, same
+
+VANS = 1
+ADDRESSES = [
+    {"id": 701, "street": "17 Quillfeather Rd", "place": 3, "note": "rear door, code 4411"},
+    {"id": 702, "street": "4 Thistledown Ave", "place": 9, "latitude": 41.5, "longitude": -87.5},
+    {"id": 703, "street": "99 Somebody's Home", "place": 3, "riders": [1001]},
+]
+
+
+def with_addresses(at):
+    at.town.write_file("staff/addresses.json", json.dumps({"addresses": ADDRESSES}).encode())
+
+
+@check
+def a_booking_finds_an_address_by_any_part_and_names_it(at):
+    with_addresses(at)
+    begin(at, "1002")
+    wish(at, start="quillf", goal="thistledown", day=FRIDAY, wish="9:00 AM")
+    at.browser.press(BOOK)
+    told = results(at, 1)
+    trip = last_trip(at, 1002)
+    same("the places of the addresses", (3, 9), (trip["from"], trip["to"]))
+    holds(f"the ticket has the street and the place: {told}", "17 Quillfeather Rd, at " in told and "4 Thistledown Ave, at " in told)
+    holds(f"the note is not the rider's: {told}", "4411" not in told)
+    counted_in(at, "bookings", f"trip={trip['trip']}", "from_address=701", "to_address=702")
+
+
+@check
+def another_riders_home_is_not_offered(at):
+    with_addresses(at)
+    begin(at, "1002")
+    wish(at, start="somebody")
+    at.browser.press(BOOK)
+    at.browser.sees("Choose")
+    begin(at, "1001")
+    wish(at, start="somebody", goal="library")
+    same("the own home", "99 Somebody's Home (address 703)",
+         at.browser.script("return document.querySelector('input[name=from]').value"))

@@ -1,0 +1,213 @@
+"""Addresses at places: the corridor test of many points, whom a place may stand for, and the least sum of minutes."""
+
+import itertools
+import random
+from pathlib import Path
+
+import pytest
+from hypothesis import given, settings
+from hypothesis import strategies as st
+
+np = pytest.importorskip("numpy")
+
+from desk_tools.town import addresses, drawing, gather, grouping, medoids, sheets  # noqa: E402
+from desk_tools.town.addresses import Address  # noqa: E402
+from desk_tools.town.corridor import Line, feet_from_line, is_served_alike, lines_at  # noqa: E402
+from desk_tools.town.gather import Town  # noqa: E402
+from desk_tools.town.many_points import masks_of  # noqa: E402
+from desk_tools.town.places import Place  # noqa: E402
+
+COORDINATE = st.integers(-30_000, 30_000)
+POINT = st.tuples(COORDINATE, COORDINATE)
+FAR = st.integers(-1_000_000, 1_000_000)
+
+
+def line(number: int, *points: tuple[int, int], width: int = 3_960) -> Line:
+    """A line with these points."""
+    return Line(number, f"line {number}", width, points, True)
+
+
+LINES = st.lists(st.lists(POINT, min_size=2, max_size=4), min_size=1, max_size=6).map(
+    lambda all_: [line(at, *points) for at, points in enumerate(all_, 1)]
+)
+CROSS = [line(1, (-20_000, 0), (20_000, 0)), line(2, (0, -20_000), (0, 20_000))]
+
+
+def town(places: list[Place], lines: list[Line], most: int = 100, outside: bool = False) -> Town:
+    """A town without a plane."""
+    return Town(places, lines, None, most=most, is_outside_served=outside)
+
+
+def scattered(count: int, seed: int, spread: int = 8_000) -> list[Address]:
+    """Addresses round the middle."""
+    chance = random.Random(seed)
+    spots = [(round(chance.gauss(0, spread)), round(chance.gauss(0, spread))) for _ in range(count)]
+    return [
+        Address(at, f"{at} Oak St", it, riders=(at,) if at % 4 == 0 else (), row=at + 1)
+        for at, it in enumerate(spots, 1)
+    ]
+
+
+def quiet(_done: int, _of: int) -> None:
+    """Shows nothing."""
+
+
+@given(LINES, st.lists(st.tuples(FAR, FAR), min_size=1, max_size=8), st.integers(-2, 2))
+def test_many_points_are_tested_as_one_is(
+    lines: list[Line], points: list[tuple[int, int]], aside: int
+) -> None:
+    """Also at the foot at which a corridor ends."""
+    x, y = lines[0].points[0]
+    points = [*points, (x, y + lines[0].width + aside), (x - lines[0].width - aside, y)]
+    found = masks_of(np.array(points, dtype=np.int64), np.zeros(len(points), dtype=bool), lines)
+    assert found.tolist() == [lines_at(it, False, lines) for it in points]
+
+
+@given(LINES, POINT)
+def test_the_feet_of_a_line_are_the_least_within_which_it_lies(
+    lines: list[Line], point: tuple[int, int]
+) -> None:
+    """By squares of whole numbers, for a segment along an axis."""
+    (x, y), _ = lines[0].points[:2]
+    flat = [(x, y), (x + 500, y)]
+    feet = feet_from_line(point, flat)
+    dx = max(x - point[0], 0, point[0] - x - 500)
+    square = dx * dx + (point[1] - y) ** 2
+    assert feet * feet >= square and (feet == 0 or (feet - 1) ** 2 < square)
+
+
+@settings(max_examples=30)
+@given(LINES, st.integers(0, 1_000_000), st.integers(3, 20), st.booleans())
+def test_nobody_is_denied_by_the_grouping(
+    lines: list[Line], seed: int, most: int, outside: bool
+) -> None:
+    """Each address is at a place in the corridors of at least its lines; no other place serves one outside."""
+    own = [Place(7, "Depot", (0, 0)), Place(9, "Home of 5", (50, 50), private=(5,))]
+    given_ = scattered(60, seed)
+    try:
+        found = gather.gathered(town(own, lines, most, outside), given_, quiet)
+    except sheets.Unreadable as error:
+        assert "new places are needed" in str(error)
+        return
+    assert {it.row for it in found.addresses} | {it.number for it in found.refused} == {
+        it.row for it in given_
+    }
+    assert len(found.places) <= most
+    for it in found.addresses:
+        place = found.places[it.place or 0]
+        mask = lines_at(it.point or (0, 0), False, lines)
+        assert is_served_alike(mask, lines_at(place.point, False, lines))
+        assert mask or outside
+        assert place.number != 9 or it.riders == (5,)
+    by_row = {it.row: it for it in given_}
+    for refusal in found.refused:
+        assert lines_at(by_row[refusal.number].point or (0, 0), False, lines) == 0
+
+
+def test_homes_stay_their_riders_own() -> None:
+    """No new place has a home's point, and one of homes alone is private to who lives there."""
+    found = gather.gathered(town([], CROSS, 12), scattered(200, 3), quiet)
+    homes = {it.point for it in found.addresses if it.riders}
+    new = [it for it in found.places.values() if it.is_new]
+    assert new and not homes & {it.point for it in new}
+    for it in new:
+        group = [one for one in found.addresses if one.place == it.number]
+        if all(one.riders for one in group):
+            assert it.private == tuple(sorted(rider for one in group for rider in one.riders))
+        else:
+            assert it.private == () and it.name.startswith("Near ")
+            assert not any(it.name == f"Near {one.street}" for one in group if one.riders)
+
+
+@pytest.mark.parametrize("seed", range(12))
+def test_the_sum_is_within_a_tenth_of_the_least(seed: int) -> None:
+    """Beside every choice of three of twelve addresses."""
+    chance = np.random.default_rng(seed)
+    at = chance.integers(-3_000, 3_000, size=(12, 2))
+    points = medoids.Points(at, np.ones(12, dtype=np.uint64))
+    matrix = np.asfortranarray(medoids.costs(points, points, 1.0))
+    weights = np.ones(12, dtype=np.float32)
+    chosen = medoids.swapped(
+        matrix, weights, medoids.started(matrix, weights, [], 3), 0, lambda *_: None
+    )
+    least = min(
+        matrix[:, list(it)].min(axis=1).sum() for it in itertools.combinations(range(12), 3)
+    )
+    assert matrix[:, chosen].min(axis=1).sum() <= least * 1.1
+
+
+@given(st.integers(0, 10_000))
+def test_no_swap_of_a_place_makes_the_sum_less(seed: int) -> None:
+    """What is found is a least sum as far as single swaps go, and own places stay."""
+    chance = np.random.default_rng(seed)
+    at = chance.integers(-9_000, 9_000, size=(30, 2))
+    masks = chance.integers(1, 8, size=30).astype(np.uint64)
+    masks[0] = np.uint64(7)
+    points = medoids.Points(at, masks)
+    matrix = np.asfortranarray(medoids.costs(points, points, 1.0))
+    weights = chance.integers(1, 5, size=30).astype(np.float32)
+    chosen = medoids.swapped(
+        matrix, weights, medoids.started(matrix, weights, [0, 1], 6), 2, lambda *_: None
+    )
+    assert chosen[:2] == [0, 1]
+    total = float(weights @ matrix[:, chosen].min(axis=1))
+    for place in range(2, len(chosen)):
+        for column in range(30):
+            tried = [*chosen[:place], column, *chosen[place + 1 :]]
+            assert float(weights @ matrix[:, tried].min(axis=1)) >= total * (1 - 1e-5)
+
+
+def test_core_addresses_are_at_core_places() -> None:
+    """A core place serves all lines, so no other address comes to it."""
+    given_ = [
+        Address(1, "1 Oak St", (9_000, 9_000), core=True, row=2),
+        Address(2, "2 Oak St", (9_100, 3_000), row=3),
+    ]
+    found = gather.gathered(town([], CROSS), given_, quiet)
+    first, second = (found.places[it.place or 0] for it in found.addresses)
+    assert first.core and not second.core and not found.refused
+
+
+def test_too_many_groups_of_lines_are_said_and_nothing_is_made() -> None:
+    """Four lines that do not meet need four places."""
+    lines = [line(at, (at * 20_000, 0), (at * 20_000, 9_000)) for at in range(4)]
+    given_ = [Address(at + 1, "Oak", (at * 20_000, 0), row=at + 2) for at in range(4)]
+    with pytest.raises(sheets.Unreadable, match="4 new places are needed, and 3 are free"):
+        gather.gathered(town([], lines, 3), given_, quiet)
+    assert len(gather.gathered(town([], lines, 4), given_, quiet).places) == 4
+
+
+def test_a_plan_says_how_far_and_draws() -> None:
+    """The farthest first, twenty of them; a street with signs of XML does not break the map."""
+    given_ = [*scattered(50, 1, 3_000), Address(99, "<Main> & 1st", (100, 100), row=100)]
+    a_town = town([], CROSS, 5)
+    found = gather.gathered(a_town, given_, quiet)
+    lines = gather.told(a_town, found)
+    feet = [float(it.split(": ")[2].split(" feet")[0].replace(",", "")) for it in lines[-20:]]
+    assert feet == sorted(feet, reverse=True) and feet[0] == round(max(found.feet))
+    text = drawing.drawn(found, CROSS)
+    assert "<Main>" not in text and text.count("<circle") == len(found.places)
+
+
+def test_what_is_written_is_read_again(tmp_path: Path) -> None:
+    """The file that gather writes is one that it takes."""
+    found = gather.gathered(town([], CROSS), scattered(30, 2, 3_000), quiet)
+    path = tmp_path / "addresses.csv"
+    path.write_text(addresses.text_of(found.addresses), encoding="utf-8")
+    again, sheet = addresses.read(path, None)
+    assert not sheet.refused
+    assert [(it.number, it.street, it.place, it.riders) for it in again] == [
+        (it.number, it.street, it.place, it.riders) for it in found.addresses
+    ]
+
+
+def test_grouping_of_many_cells() -> None:
+    """More addresses than cells are all at a place that is allowed."""
+    chance = np.random.default_rng(1)
+    at = chance.integers(-3_000, 3_000, size=(5_000, 2))
+    points = grouping.points_of(at, np.zeros(5_000, dtype=bool), CROSS)
+    none = grouping.points_of(at[:0], np.zeros(0, dtype=bool), CROSS)
+    wanted = grouping.Wanted(points, np.zeros(5_000, dtype=bool), none, 8, 0.001)
+    found = grouping.grouped_at(wanted, CROSS, quiet)
+    assert len(found.of) == 5_000 and len(found.places) == 8
+    assert grouping.is_allowed(points.masks, found.places.masks[found.of]).all()
