@@ -10,7 +10,7 @@ import re
 
 from moving.limits import HIGHEST_NUMBER, Wrong
 
-COLUMNS = ("rider", "name", "telephone", "language", "home", "usual", "aid", "note", "attendant")
+COLUMNS = ("rider", "name", "telephone", "language", "home", "usual", "aid", "note", "attendant", "reminder", "mail")
 NEEDED, LISTED = ("rider", "name"), {"home", "usual"}
 DRIVERS_COLUMNS = ("rider", "name", "note")
 # What a roster holds, as far as it is right, and a sentence for each thing that is wrong.
@@ -19,6 +19,8 @@ NUMBER, LANGUAGE = re.compile(r"0*[1-9][0-9]{0,9}"), re.compile(r"[a-z]{2,3}(-[A
 DIGIT, PARTS, BROKEN = re.compile(r"[0-9]"), re.compile(r"[\s;]+"), re.compile("[\udc80-\udcff]")
 # How other encodings begin, and what parts columns elsewhere.
 MARKS = {b"\xff\xfe": "UTF-16", b"\xfe\xff": "UTF-16", b"PK": "a workbook and no CSV"}
+# How a rider is reminded of trips: bin/reminders has the same channels.
+REMINDERS, MAIL = ("sms", "mail", "voice", "none"), re.compile(r"[^\s@,;<>\"]+@[A-Za-z0-9][A-Za-z0-9.-]*")
 OTHER_COMMAS = {";": "semicolons", "\t": "tabs"}
 
 
@@ -114,10 +116,23 @@ def checked(rider, known_places, said):
     if rider.get("language") and not LANGUAGE.fullmatch(rider["language"]):
         said(f"language {rider['language']!r} is no language such as en or es")
         rider["language"] = ""
+    check_reminder(rider, said)
     for name in LISTED & rider.keys():
         if rider[name]:
             rider[name] = " ".join(places_of(name, rider[name], known_places, said))
     return rider
+
+
+def check_reminder(rider, said):
+    """Leaves out a channel or an address that is none."""
+    if rider.get("reminder"):
+        rider["reminder"] = rider["reminder"].lower()
+        if rider["reminder"] not in REMINDERS:
+            said(f"reminder {rider['reminder']!r} is none of {', '.join(REMINDERS)}")
+            rider["reminder"] = ""
+    if rider.get("mail") and not MAIL.fullmatch(rider["mail"]):
+        said(f"mail {rider['mail']!r} is no mail address")
+        rider["mail"] = ""
 
 
 def places_of(name, text, known_places, said):

@@ -47,5 +47,5 @@ def lists_of(days):
 SENTENCES = [
     "These are the figures that the National Transit Database asks of demand response, as far as the desk knows them.",
     "Trips without an outcome count in no other figure.",
-    "Vehicle miles and vehicle hours are not here: the desk plans drives, and does not measure them.",
 ]
+WITHOUT_MILES = "Vehicle miles and vehicle hours are not here: drivers report them to the site, and its log (--tally) was not given."

@@ -10,7 +10,7 @@ PROGRAM = "/usr/local/bin/desk"
 SETTINGS = "/etc/desk"
 # What runs beside a desk that serves: for its agency, and for all desks of the machine. The night's work is another matter.
 BESIDE = "desk-today.service", "desk-record.service", "desk-journal.timer", "desk-retention.timer", \
-    "desk-driver-files.timer", "desk-closed-days.timer", "desk-denials.timer"
+    "desk-driver-files.timer", "desk-closed-days.timer", "desk-denials.timer", "desk-reminders.timer", "desk-reminders-soon.timer"
 OF_MACHINE = "desk-health.service", "desk-watch.timer", "desk-restart.timer"
 AGENCY_NAME = re.compile(r"[a-z0-9]+(-[a-z0-9]+)*")
 

@@ -17,6 +17,7 @@ import { keepFiles } from "./driver-files.js";
 import { forgetAndLeave } from "./driver-gone.js";
 import { footOf, headOf, listOf, noticesOf } from "./driver-list.js";
 import { lockOfPhone } from "./driver-lock.js";
+import { enterReading, milesOf } from "./driver-miles.js";
 import { keepVehicle, keptDay, keptVehicle, NO_NAMES, readDay, whoAt } from "./driver-read.js";
 import { behind, heldIn, logOf, namesOf, shownDay, stateOf, waitingIn } from "./driver-state.js";
 import { stopCard, TITLE } from "./driver-stop.js";
@@ -39,7 +40,9 @@ function goneFrom(before, now) {
  * @param {State} state @param {string} now */
 const waitsAt = (state, now) => shownDay(state).stops.map((stop) => waitAt(stop, agency().wait_minutes, now)?.left ?? 0);
 
-/** @param {State} state @param {ReturnType<typeof actsOf> & { show: (day: string) => void }} acts */
+/** @typedef {ReturnType<typeof actsOf> & { show: (day: string) => void, pull: (pull: import("./driver-odometer.js").Pull) => void }} Acts */
+
+/** @param {State} state @param {Acts} acts */
 function drawn(state, acts) {
     const { stops, next } = shownDay(state), shown = stops.find(({ name }) => name === state.opened) ?? stops[next], { read, day, today: now } = state;
     const about = { day, now: state.now, names: namesOf(state), hasCome: day <= now, isOver: day < now, noRoom: state.noRoom,
@@ -47,7 +50,8 @@ function drawn(state, acts) {
     const none = read && part("section", { class: "card driver-stop", key: "none" },
         part("h2", { id: TITLE, tabindex: -1 }, t(stops.length ? "driver.all-passed" : "driver.no-stops")));
     if (state.locked) return [headOf(state, acts), noticesOf(state, acts), footOf(state, acts)];
-    return [headOf(state, acts), noticesOf(state, acts), shown ? stopCard(shown, about, acts) : none, footOf(state, acts), listOf(state, acts),
+    return [headOf(state, acts), noticesOf(state, acts), milesOf(state, acts, true), shown ? stopCard(shown, about, acts) : none, milesOf(state, acts, false),
+        footOf(state, acts), listOf(state, acts),
         read && part("details", { class: "card", key: "printed" }, part("summary", {}, t("driver.printed")),
             sheetOf(t("driver.printed-of", { vehicle: vehicleName(state.vehicle), day: dayInWords(day) }), read.text))];
 }
@@ -194,12 +198,12 @@ function whenBack(place, act) {
 
 /** @param {number} vehicle */
 function manifestOf(vehicle) {
-    /** @type {ReturnType<typeof actsOf> & { show: (day: string) => void }} */
+    /** @type {Acts} */
     let acts;
     /** @type {ReturnType<typeof makeScreen<State>>} */
     const screen = makeScreen({ state: stateOf(vehicle, today()), draw: (state) => (acts ? drawn(state, acts) : []) });
     const lock = lockOfPhone(), reader = readerOf(screen, lock);
-    acts = { ...actsOf(screen, reader.relog), show: (day) => reader.show(day) };
+    acts = { ...actsOf(screen, reader.relog), show: (day) => reader.show(day), pull: (pull) => void enterReading(screen.state, pull, reader.relog) };
     screen.every(TICK, clockOf(screen, reader, lock));
     screen.every(RENEWED, () => reader.refresh());
     screen.every(AGAIN, () => screen.state.silent && reader.refresh());

@@ -15,6 +15,7 @@ import { t } from "../parts/words.js";
 import { bookingFor, offersFor } from "./booking.js";
 import { entryForms, lettersFor, standingOf } from "./cases.js";
 import { formsCard } from "./forms.js";
+import { calendarButton } from "./trips-calendar.js";
 import { tripsOfRider } from "./trips.js";
 
 /** What is drawn once the rider's own places have names.
@@ -46,7 +47,7 @@ let again = null;
 
 /** @param {number} rider */
 function trips(rider) {
-    const list = tripsOfRider(rider, { heading: t("rider.trips"), cards: true, purpose: "rider", again: (trip, back) => {
+    const list = tripsOfRider(rider, { heading: t("rider.trips"), cards: true, purpose: "rider", above: calendarButton, again: (trip, back) => {
         again = { trip, back };
         keepSubject("rider", rider);
         location.hash = "rider/book";

@@ -119,11 +119,11 @@ const sureToCancel = (rider, trip) => asked({ question: t("booking.cancel-questi
     detail: t("booking.cancel-detail", { day: dayInWords(trip.day), window: windowOf(trip), from: placeName(trip.from), to: placeName(trip.to) }),
     yes: t("booking.cancel-yes", { trip: trip.trip }) });
 
-/** All trips of a rider. again(trip, back) books a trip on another day.
+/** All trips of a rider. again(trip, back) books a trip on another day; above is drawn over the trips.
  * @param {number} rider
- * @param {{ heading: string, cards?: boolean, purpose?: string, again?: (trip: Trip, back: Trip | null) => void }} options
+ * @param {{ heading: string, cards?: boolean, purpose?: string, again?: (trip: Trip, back: Trip | null) => void, above?: (trips: Trip[]) => Given }} options
  */
-export function tripsOfRider(rider, { heading, cards = false, purpose = "standing", again }) {
+export function tripsOfRider(rider, { heading, cards = false, purpose = "standing", again, above }) {
     const top = `trips-${rider}`, read = reading(desk.pathOf.trips(rider)), taps = drivers();
     const tripsNow = () => /** @type {Trip[]} */ (read.reply()?.value?.trips ?? []);
     const screen = makeScreen({ state: /** @type {State} */ ({ changing: null, answers: {} }), class: "card trips-card",
@@ -134,7 +134,7 @@ export function tripsOfRider(rider, { heading, cards = false, purpose = "standin
                 button(t("booking.leave"), () => screen.change({ changing: null }, { focus: top }))];
             return [part("h2", { id: top, tabindex: -1 }, heading), read.age(), reply === null ? part("p", {}, t("booking.reading"))
                 : reply.denied !== undefined ? denialOf(reply, purpose)
-                    : tripsShown({ rider, cards, trips: tripsNow(), told: taps?.reply()?.value, state, tools, below })];
+                    : [above?.(tripsNow()), tripsShown({ rider, cards, trips: tripsNow(), told: taps?.reply()?.value, state, tools, below })]];
         } });
     // (what was read before is drawn at once, so these are there before the screen is)
     function refresh() { return read.again(); }

@@ -1021,6 +1021,35 @@ watch.observe(document, { childList: true, subtree: true, attributes: true });
 MOST_SECONDS, MOST_BYTES = 6, {"the form to sign in": 47_000, "the next stop": 68_000}
 
 
+@check
+def the_odometer_is_kept_and_told_the_sites_log_once(at):
+    at.browser.fresh()
+    before = {kind: len(events(at, kind)) for kind in ("pull_out", "pull_in")}
+    with at.browser.clock(hurry=20):
+        sign_in(at, "05:10")
+        at.browser.sees_no("Pull in: enter the odometer")
+        at.browser.press("Pull out: enter the odometer")
+        at.browser.fill("Odometer now, in whole miles", "many")
+        at.browser.press("Save")
+        at.browser.sees("Enter whole miles, such as 48210.")
+        at.browser.fill("Odometer now, in whole miles", "48,210")
+        at.browser.press("Save")
+        at.browser.sees("Pulled out", "odometer 48,210")
+        at.browser.press("Pull in: enter the odometer")
+        at.browser.fill("Odometer now, in whole miles", "48200")
+        at.browser.press("Save")
+        at.browser.sees("This is less than at the pull-out, 48,210. Correct one of them.")
+        at.browser.fill("Odometer now, in whole miles", "48310")
+        at.browser.fill("Odometer at the first pickup, if you wrote it down", "48214")
+        at.browser.press("Save")
+        at.browser.sees("Pulled in", "odometer 48,310")
+        at.town.set_clock(TOMORROW, "05:20")
+        until("nothing is told", lambda: len(events(at, "pull_in")) > before["pull_in"])
+    out, back = events(at, "pull_out")[before["pull_out"]:], events(at, "pull_in")[before["pull_in"]:]
+    same("the pull-out", [("1", "48210", TOMORROW)], [(it["vehicle"], it["odometer"], it["day"]) for it in out])
+    same("the pull-in", [("48310", "48214", None)], [(it["odometer"], it["first_pickup"], it.get("last_drop")) for it in back])
+
+
 def first_sight(at, what, selector, kept):
     """The seconds until something is seen on a phone that has nothing of these pages, and the bytes that came."""
     at.browser.driver.get(f"{at.browser.origin}/icon.svg")

@@ -4,6 +4,9 @@
 export const words = {
     "trips.list-today": "Today",
     "trips.list-coming": "Upcoming",
+    "trips.calendar": "Save my trips for my calendar",
+    "trips.calendar-summary": ({ agency }) => `Ride with ${agency}`,
+    "trips.calendar-text": ({ trip, window, from, to, telephone }) => `Trip ${trip}. Pickup ${window}, from ${from} to ${to}. If this trip changes, save your trips again.${telephone ? ` Help: ${telephone}` : ""}`,
     "trips.none-later": "No other upcoming trips.",
     "trips.none-coming": "No upcoming trips.",
     "trips.way": "From and to",

@@ -4,6 +4,9 @@
 export const words = {
     "trips.list-today": "Hoy",
     "trips.list-coming": "Próximos viajes",
+    "trips.calendar": "Guardar mis viajes en mi calendario",
+    "trips.calendar-summary": ({ agency }) => `Viaje con ${agency}`,
+    "trips.calendar-text": ({ trip, window, from, to, telephone }) => `Viaje ${trip}. Recogida ${window}, de ${from} a ${to}. Si este viaje cambia, guarde sus viajes de nuevo.${telephone ? ` Ayuda: ${telephone}` : ""}`,
     "trips.none-later": "No hay otros viajes próximos.",
     "trips.none-coming": "No hay viajes próximos.",
     "trips.way": "Desde y hasta",

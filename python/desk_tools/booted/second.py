@@ -14,7 +14,8 @@ COPY, OF_MACHINE = "desk-2025-03-11-0305.db", "machine-2025-03-11-0305.tar.gz"
 # What runs on a machine that serves by desk-setup's usual answers.
 SERVING = (
     "desk.service desk-health.service desk-record.service desk-today.service desk-backup.timer desk-closed-days.timer desk-denials.timer "
-    "desk-driver-files.timer desk-journal.timer desk-restart.timer desk-retention.timer desk-watch.timer desk-worklist.timer nginx.service"
+    "desk-driver-files.timer desk-journal.timer desk-reminders-soon.timer desk-reminders.timer desk-restart.timer desk-retention.timer "
+    "desk-watch.timer desk-worklist.timer nginx.service"
 ).split()
 OPENED = "no write is missing"
 

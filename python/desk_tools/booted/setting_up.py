@@ -8,7 +8,7 @@ from desk_tools.booted import office
 from desk_tools.booted.town import Town
 
 # What waits for a key, or for something that is marked.
-REST = "desk-closed-days.timer desk-denials.timer desk-driver-files.timer"
+REST = "desk-closed-days.timer desk-denials.timer desk-driver-files.timer desk-reminders.timer desk-reminders-soon.timer"
 
 # Takes what the watch sends, as an agency's own service would.
 HOOK = """

@@ -1,0 +1,1 @@
+"""Reminders: one message for each trip, by the channel that the rider chose."""

@@ -1,0 +1,149 @@
+"""Reminders: texts, addresses, settings, and a file in which each message stands once."""
+
+import datetime
+import json
+import string
+import tempfile
+from pathlib import Path
+
+import pytest
+from hypothesis import given
+from hypothesis import strategies as some
+
+from desk_tools.reminders import kept, reading, riders, settings, texts
+
+DAY = datetime.date(2026, 12, 8)
+ROOM = tempfile.TemporaryDirectory()
+AGENCY = texts.Agency("Town Rides", "555-0100", 12, {1: "Mill"})
+
+
+def trip(begins: int = 600, ends: int = 615) -> texts.Trip:
+    return texts.Trip(1, 7, DAY, begins, ends, 1, 2)
+
+
+@pytest.mark.parametrize(
+    "language, begins, wanted",
+    [
+        ("en", 600, "Tuesday, December 8. Pickup between 10:00 AM and 10:15 AM"),
+        ("en", 1445, "Wednesday, December 9. Pickup between 12:05 AM and 12:20 AM"),
+        ("es", 725, "martes 8 de diciembre. Lo recogemos entre las 12:05 PM y las 12:20 PM"),
+    ],
+)
+def test_a_text_has_the_day_and_the_window(language: str, begins: int, wanted: str) -> None:
+    rider = riders.Rider(7, "Ana", language)
+    told = texts.text_of("evening", trip(begins, begins + 15), rider, AGENCY, settings.Settings())
+    assert wanted in told
+
+
+def test_a_window_behind_midnight_is_soon_on_the_next_day() -> None:
+    late = trip(1450, 1465)
+    assert reading.is_soon(late, datetime.datetime(2026, 12, 8, 23, 30), 60)
+    assert not reading.is_soon(late, datetime.datetime(2026, 12, 8, 0, 0), 60)
+    assert not reading.is_soon(late, datetime.datetime(2026, 12, 9, 0, 10), 60)
+    assert DAY in reading.days_of_soon(datetime.datetime(2026, 12, 9, 0, 5))
+
+
+@pytest.mark.parametrize(
+    "text", ["", "555", "555-0101 or 555-0102", "-oops", "ask 5550101", "٥٥٥٠١٠١"]
+)
+def test_a_number_that_no_machine_may_dial(text: str) -> None:
+    with pytest.raises(ValueError):
+        riders.dialed(text)
+
+
+@given(some.text(string.printable, max_size=30))
+def test_an_address_is_never_an_option_of_a_command(text: str) -> None:
+    for rider in (
+        riders.Rider(7, channel="sms", telephone=text),
+        riders.Rider(7, channel="mail", mail=text),
+    ):
+        try:
+            to = rider.address
+        except ValueError:
+            continue
+        assert (
+            to
+            and not to.startswith("-")
+            and to.isascii()
+            and not set(to) & set(" \n\r\t\"'`$;|<>,")
+        )
+
+
+@given(
+    some.recursive(
+        some.none() | some.integers() | some.text(),
+        lambda it: some.lists(it)
+        | some.dictionaries(
+            some.sampled_from(
+                ["channels", "sms", "command", "seconds", "texts", "en", "evening", "soon_minutes"]
+            ),
+            it,
+        ),
+        max_leaves=12,
+    )
+)
+def test_settings_are_right_or_named(held: object) -> None:
+    try:
+        found = settings._settings(held)
+    except ValueError as error:
+        assert str(error)
+        return
+    for language in settings.LANGUAGES:
+        assert texts.text_of("evening", trip(), riders.Rider(7, "Ana", language), AGENCY, found)
+
+
+@given(
+    some.lists(
+        some.tuples(some.integers(1, 4), some.sampled_from(["begin", "sent", "failed", "left"])),
+        max_size=12,
+    ),
+    some.binary(max_size=20),
+)
+def test_what_was_begun_stands_whatever_is_cut_off(
+    steps: list[tuple[int, str]], rest: bytes
+) -> None:
+    path = _fresh()
+    state = kept.State(path)
+    for number, step in steps:
+        reminder = kept.Reminder(
+            DAY.isoformat(), number, "evening", 7, "sms", "5550107", "2026-12-07T18:00:00"
+        )
+        if step == "begin":
+            state.begin(reminder)
+        elif step == "left" and reminder.key not in state.reminders:
+            state.leave(reminder)
+        elif reminder.key in state.reminders and step != "left":
+            state.end(reminder.key, step)
+    path.open("ab").write(rest.replace(b"\n", b""))
+    again = kept.State(path)
+    assert (again.reminders, again.left) == (state.reminders, state.left)
+    assert len(again.to_call(DAY)) == sum(
+        it.result != "sent" for it in state.reminders.values()
+    ) + len(state.left)
+    assert not again.to_call(DAY + datetime.timedelta(days=1))
+    again.shorten(DAY)
+    again.add(kind="run", day=DAY.isoformat(), which="evening")
+    assert kept.read(path).reminders == state.reminders
+    again.shorten(DAY + datetime.timedelta(days=61))
+    assert kept.read(path).reminders == {}
+
+
+def _fresh() -> Path:
+    path = Path(ROOM.name, "reminders.jsonl")
+    path.unlink(missing_ok=True)
+    return path
+
+
+def test_a_line_of_another_program_ends_all(tmp_path: Path) -> None:
+    path = tmp_path / "reminders.jsonl"
+    path.write_text(json.dumps({"kind": "end", "key": "none", "result": "sent", "why": ""}) + "\n")
+    with pytest.raises(settings.Wrong):
+        kept.read(path)
+
+
+def test_a_mail_has_one_line_for_each_head() -> None:
+    mail = texts.mail_of(
+        "k", "Your\nBcc: all@town.example", "Hé", "bo@town.example", "rides@town.example"
+    ).decode()
+    head, body = mail.split("\n\n", 1)
+    assert "Subject: Your Bcc: all@town.example" in head and "\nBcc:" not in head and body
