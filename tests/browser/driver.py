@@ -930,6 +930,32 @@ def a_driver_who_takes_over_a_van_reads_how_its_trips_ended(at):
 
 
 @check
+def a_tap_that_was_taken_back_is_not_read_as_one_of_another_phone(at):
+    trip = begin_bad(at, "13:40", 5)
+    # (a phone that has tapped nothing else on this day)
+    at.browser.fresh()
+    sign_in(at, "13:40", BAD_DAY)
+    state_of = lambda it: at.browser.script("return document.querySelector(`#stop-PICK-${arguments[0]} .driver-state`).textContent", it)
+    for name in ["Aboard", "Undo “aboard”"]:
+        at.browser.script("document.getElementById(`stop-PICK-${arguments[0]}`).click()", trip)
+        at.browser.press(name)
+        at.browser.settled()
+    taps = [{"trip": it, "kind": "aboard", "minute": minute} for it, minute in [(BOOKED[3], 640), (trip, 820)]]
+    at.town.write_file("staff/today.json", json.dumps({"day": BAD_DAY, "made": f"{BAD_DAY}T17:45:00Z", "vehicles": {"1": {"taps": taps}}}))
+    at.town.write_drivers_files()
+    try:
+        at.browser.reload()
+        until(lambda: f"trip {BOOKED[3]} reads {state_of(BOOKED[3])!r}", lambda: state_of(BOOKED[3]) == "aboard")
+        same("what was taken back", "", state_of(trip).replace("next", ""))
+        at.browser.script("document.getElementById(`stop-PICK-${arguments[0]}`).click()", trip)
+        at.browser.find("button", "Aboard")
+        same("what can be taken back", False, at.browser.is_there("button", re.compile("Undo")))
+    finally:
+        at.town.write_file("staff/today.json", None)
+        at.town.write_drivers_files()
+
+
+@check
 def no_tap_is_dropped_while_another_is_under_way(at):
     begin_bad(at, "11:35", 3)
     at.browser.find("button", "Arrived")
