@@ -54,7 +54,7 @@ const dayOf = (moment, zone) => new Intl.DateTimeFormat("en-CA", { timeZone: zon
  * @param {string} key @param {string} van
  */
 async function readManifest(key, van) {
-    for (const name of ["places.json", "roster.csv", "outcomes.json"]) readAhead(`/drivers/${van}/${name}`, key);
+    for (const name of ["places.json", "roster.csv", "outcomes.json", "addresses.json"]) readAhead(`/drivers/${van}/${name}`, key);
     const reply = await first, day = reply?.ok ? dayOf(reply.headers.get("date"), (await reply.clone().json()).zone) : "";
     if (day) for (const path of [`/vehicles/${van}/manifest/${day}`, `/days/${day}/trips.csv`]) readAhead(path, key);
     // (what nobody took by then is old)
