@@ -12,6 +12,8 @@ from people import EVERY_DAY, TODAY
 VANS = 1
 WAITS = "An offer waits for an answer of Ana María Núñez (1006)"
 BEFORE_IT = "2025-03-21"
+# Found and pressed in one step: a page that reads by itself may draw between two.
+PRESS_NO = "[...document.querySelectorAll('button')].find((it) => it.textContent === arguments[0])?.click()"
 
 
 def offered(at):
@@ -124,8 +126,7 @@ def once_its_pickup_window_has_begun_an_offer_takes_no_answer(at):
         at.town.set_clock(LATER, clock24(trip["window_from"] + 1))
         at.browser.requests()
         # (a page that has read by itself meanwhile has no button any more)
-        for button in at.browser.all("button", f"No, cancel trip {trip['trip']}"):
-            button.click()
+        at.browser.script(PRESS_NO, f"No, cancel trip {trip['trip']}")
         at.browser.sees("Its pickup window has begun, so it cannot be answered any more. Call the rider and dispatch.")
         same("answers", [0, 0], answers(at, trip))
         holds("something is cancelled", not any("/cancel" in it for it in at.browser.requests()))
