@@ -2,9 +2,9 @@
 import json
 import re
 
-from booking import BOOK, LATE_VAN, LATER, begin, clock, counted_in, last_trip, wish
+from booking import BOOK, LATE_VAN, LATER, begin, clock, last_trip, wish
 from checks import check, holds, same
-from counted import lines
+from counted import lines, waiting
 from database import until
 from left_open import write_file_of_the_day
 from people import EVERY_DAY, TODAY
@@ -22,12 +22,17 @@ def offered(at):
                                              "closes": 1320, "duration": 960, "chairs": 1})
     begin(at, "1006")
     wish(at, start="library", goal="senior", day=LATER, wish="9 am", matters="not-before")
-    at.browser.requests()
     at.browser.press(BOOK)
     at.browser.sees("The desk offers 10:", "minutes after 9:00 AM")
     trip = last_trip(at, 1006)
-    counted_in(at, "denials", "rule=no", f"trip={trip['trip']}")
+    # (what the site has counts, and not what this browser's own log still knows of)
+    until(lambda: f"the site's log has no denial of trip {trip['trip']}; the browser keeps {waiting(at)}", lambda: denials_of(at, trip))
     return trip
+
+
+def denials_of(at, trip):
+    named = re.compile(rf"/tally/denials\?.*\brule=no\b.*\btrip={trip['trip']}\b")
+    return [it for it in lines(at, "/tally/denials") if named.search(it)]
 
 
 def status_of(at, trip):
