@@ -393,7 +393,7 @@ def files_that_were_missed_are_asked_for_again(at):
 
 # The files of the pages.
 
-FILES = ["/screens/admin-names.js", "/screens/admin.js", "/css/admin.css", "/words/en/admin.js", "/parts/addresses.js", "/parts/main.js"]
+FILES = ["/screens/admin-names.js", "/screens/admin.js", "/words/en/admin.js", "/parts/addresses.js", "/parts/main.js"]
 NOT_LOADED, NOT_DRAWN = "This screen could not be loaded", "This part could not be shown."
 STYLED = "return [...document.querySelectorAll('link[rel=stylesheet]')].every((it) => it.sheet) && Boolean(document.querySelector('link[href=\"css/admin.css\"]'))"
 NOTES = "window.notes = 0; new MutationObserver(() => { if (document.querySelector('main > [role=alert]')) window.notes += 1; }).observe(document.querySelector('main'), { childList: true })"
