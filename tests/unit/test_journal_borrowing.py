@@ -149,6 +149,7 @@ def test_a_name_is_no_mark_and_steers_nothing(tmp_path: Path, name: str, shown: 
         (b"number;name;role;from;to;digits\n11;Rosa;nobody;;;abc\n", "row 2"),
         (b"number,name,role,subject,from,to,digits\n11,Rosa,exam", "row 2"),
         (b"number,name,role,digits\n11,Rosa \xff\xfe\x81\x8d,clerk,abc\n", "row 2"),
+        (b"number,name,role,subject,from,to,digits\n11,Rosa,clerk,,2026-11-2", "row 2"),
         (b"what,ever\n1,2\n", "number"),
         (b"number,name,role,subject,from,to,digits\n11,Rosa,clerk,,,,abc\n\xff", "row 3"),
     ],

@@ -190,6 +190,10 @@ def read(path: Path) -> People:
         raise Damaged(f"{path}, row {refused.number}: {refused.reason}")
     known = People()
     for row in sheet.rows:
+        if len(row.cells) < len(sheet.header):
+            count, columns = len(row.cells), len(sheet.header)
+            said = f"it has {count} cells, and row 1 names {columns} columns: was the file cut?"
+            raise Damaged(f"{path}, row {row.number}: {said}")
         digits = row.fields.get("digits", "")
         if digits.startswith(UPTO) and digits[len(UPTO) :].isdecimal():
             known.upto = max(known.upto, int(digits[len(UPTO) :]))
