@@ -397,7 +397,7 @@ def is_hidden(ours: object, theirs: object) -> bool:
     """Whether two texts are the same but for what the record left out of one as a key."""
     if not isinstance(ours, str) or not isinstance(theirs, str) or HIDDEN not in ours:
         return False
-    parts = map(re.escape, ours.split(HIDDEN))
+    parts = [re.escape(it) for it in ours.split(HIDDEN)]
     return re.fullmatch(".{8,}".join(parts), theirs, re.DOTALL) is not None
 
 
