@@ -2,7 +2,7 @@
 
 import { plus, today } from "../parts/clock.js";
 import * as desk from "../parts/desk.js";
-import { button, part, table } from "../parts/element.js";
+import { button, drawInto, part, table } from "../parts/element.js";
 import { choiceField, dayField, form, numberField } from "../parts/fields.js";
 import { HIGHEST_ID } from "../parts/limits.js";
 import { printParts } from "../parts/paper.js";
@@ -101,6 +101,6 @@ export const record = (reader) => ({ id: "record", name: t("record.record"), dra
     const place = document.createElement("div");
     place.className = "stack";
     place.append(questions(), ...(reader === "admin" ? [keysToSee()] : []));
-    isRefused().then((is) => is && place.replaceChildren(part("p", { class: "note", role: "status" }, t("record.caller"))));
+    isRefused().then((is) => is && drawInto(place, part("p", { class: "note", role: "status" }, t("record.caller"))));
     return place;
 } });

@@ -94,13 +94,14 @@ def take(words: argparse.Namespace) -> int:
 
     added = taking.take(places, words.nginx_pid, finish)
     added += corrections.take(places, words.corrections)
-    reading.keep_people(places)
     with places.locked():
         head = signing.head_of(chain.files_in(places.record)[-1])
         if words.offsite:
             signing.sent(places.record, words.offsite, head)
         else:
             signing.marked(places.record, head)
+    # (a damaged callers.csv keeps nothing from being chained and sent)
+    reading.keep_people(places)
     print(f"{added} lines taken; the record ends with entry {head.last}")
     for said in broken:
         logging.error("the record does not hold, and this day is not signed: %s", said)
