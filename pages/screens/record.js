@@ -2,14 +2,14 @@
 
 import { plus, today } from "../parts/clock.js";
 import * as desk from "../parts/desk.js";
-import { button, part, table } from "../parts/element.js";
+import { button, drawInto, part, table } from "../parts/element.js";
 import { choiceField, dayField, form, numberField } from "../parts/fields.js";
 import { HIGHEST_ID } from "../parts/limits.js";
 import { printParts } from "../parts/paper.js";
 import { makeScreen } from "../parts/screen.js";
 import { language, t } from "../parts/words.js";
 
-/** @typedef {{ title: string, columns: string[], rows: (string | number)[][], notes: string[] }} Answer */
+/** @typedef {{ title: string, columns: string[], rows: (string | number)[][], notes: string[], warning?: string }} Answer */
 /** @typedef {{ answer: Answer, fault?: undefined } | { fault: string }} Found */
 
 const QUESTIONS = ["trip", "rider", "lists", "caller", "standing", "own", "keys"], OF_ALL = ["keys"];
@@ -32,8 +32,13 @@ const headsOf = ({ columns }) => columns.map((name) => t(`record.${name}`));
 /** @param {Answer} answer */
 const tableOf = (answer) => table(answer.title, headsOf(answer).map((head, at) => ({ head, cell: (/** @type {(string | number)[]} */ row) => String(row[at] ?? "") })), answer.rows);
 
+/** What comes first: that the record does not hold.
+ * @param {Answer} answer
+ */
+const warningOf = ({ warning }) => (warning ? part("p", { class: "note" }, warning) : null);
+
 /** @param {Answer} answer */
-const paperOf = (answer) => [answer.notes.map((it) => part("p", {}, it)), part("table", {}, part("thead", {}, part("tr", {}, headsOf(answer).map((it) => part("th", {}, it)))),
+const paperOf = (answer) => [warningOf(answer), answer.notes.map((it) => part("p", {}, it)), part("table", {}, part("thead", {}, part("tr", {}, headsOf(answer).map((it) => part("th", {}, it)))),
     part("tbody", {}, answer.rows.map((row) => part("tr", {}, row.map((it) => part("td", {}, String(it ?? "")))))))];
 
 /** @param {Found | null} found */
@@ -41,7 +46,7 @@ function shown(found) {
     if (!found) return null;
     if (found.fault !== undefined) return part("p", { class: "note" }, t(`record.${found.fault}`));
     const { answer } = found;
-    return part("section", { class: "card", id: "record-answer", tabindex: -1 }, part("h2", {}, answer.title), answer.notes.map((it) => part("p", {}, it)),
+    return part("section", { class: "card", id: "record-answer", tabindex: -1 }, warningOf(answer), part("h2", {}, answer.title), answer.notes.map((it) => part("p", {}, it)),
         answer.rows.length ? tableOf(answer) : part("p", {}, t("record.nothing")),
         part("div", { class: "row" }, button(t("record.print"), () => printParts(answer.title, paperOf(answer)))));
 }
@@ -75,18 +80,27 @@ function keysToSee() {
         if (!found) return [head, part("p", { role: "status" }, t("record.reading"))];
         if (found.fault !== undefined) return [head, part("p", { class: "note" }, t(`record.${found.fault}`))];
         const at = found.answer.columns.indexOf(NOTE), rows = found.answer.rows.filter((row) => row[at]);
-        return [head, rows.length ? tableOf({ ...found.answer, rows }) : part("p", {}, t("record.keys-none"))];
+        return [head, warningOf(found.answer), rows.length ? tableOf({ ...found.answer, rows }) : part("p", {}, t("record.keys-none"))];
     } });
     asked("keys", { from: plus(today(), -DAYS_BACK) }).then((found) => screen.change({ found }));
     return screen.element;
 }
 
-/** The page, for an officer or an admin.
+/** Whether the site refuses this key: a path without a question is asked.
+ * @returns {Promise<boolean>}
+ */
+async function isRefused() {
+    const { status } = await desk.fetchFile("/record/");
+    return status === 401 || status === 403;
+}
+
+/** The page, for an officer or an admin. Anybody else reads one sentence.
  * @param {"officer" | "admin"} reader
  */
 export const record = (reader) => ({ id: "record", name: t("record.record"), draw: () => {
     const place = document.createElement("div");
     place.className = "stack";
     place.append(questions(), ...(reader === "admin" ? [keysToSee()] : []));
+    isRefused().then((is) => is && drawInto(place, part("p", { class: "note", role: "status" }, t("record.caller"))));
     return place;
 } });

@@ -55,6 +55,15 @@ def an_officer_sees_what_happened_to_a_trip(at):
 
 
 @check
+def a_clerk_reads_one_sentence(at):
+    with answering(at):
+        at.town.set_clock(DAY, "10:00")
+        at.browser.sign_in(at.keys["clerk"], "officer", "record")
+        at.browser.sees("This key may not read the record. It is for officers and admins.")
+        at.browser.sees_no("What do you want to know?")
+
+
+@check
 def keys_need_no_number_and_a_trip_needs_one(at):
     begin(at, "officer")
     asks(at, "What happened to a trip?")

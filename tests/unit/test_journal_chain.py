@@ -262,6 +262,20 @@ def test_a_copy_elsewhere_shows_what_was_rewritten_whole(office: Office, tmp_pat
     assert status == verifying.BROKEN and "elsewhere" in said
 
 
+def test_a_clock_that_was_set_back_is_named(
+    office: Office, monkeypatch: pytest.MonkeyPatch
+) -> None:
+    """Between two files too; the record holds all the same."""
+    moments = iter(f"2026-11-29T{it}:00:00.000Z" for it in (12, 13, 14, 15, 11, 12, 13, 14, 15, 16))
+    monkeypatch.setattr(taking, "now", lambda: next(moments))
+    office.take(line(1), day="2026-11-29")
+    assert "went back" not in office.verify()[1]
+    office.take(line(2), day="2026-11-28")
+    office.take(line(3))
+    said = office.verify()[1]
+    assert "the clock went back at entry" in said and "to 2026-11-29T11:00:00.000Z" in said, said
+
+
 def test_two_sites_are_told_apart(tmp_path: Path, monkeypatch: pytest.MonkeyPatch) -> None:
     one = Office(tmp_path / "one", monkeypatch)
     three_days(one)

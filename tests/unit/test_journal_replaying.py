@@ -141,3 +141,15 @@ def test_a_write_without_an_answer_stays_where_the_copy_has_it(tmp_path: Path) -
         desk = Played(tmp_path, wanted)
         replaying.replay_unknown(desk, line, 1)
         assert desk.state == state
+
+
+def test_a_reason_that_has_a_key_is_not_sure_and_the_key_is_not_printed() -> None:
+    """The record leaves the key out; other words beside it are a difference all the same."""
+    kept = {"words": "he read (key) to me", "day": 3}
+    same = {"words": "he read hello-hello to me", "day": 3}
+    said, is_sure = replaying.difference(kept, same)
+    assert not is_sure and "hello" not in said and "may be a key" in said
+    said, is_sure = replaying.difference(kept, {**same, "day": 4})
+    assert is_sure and "hello" not in said and "day is 4, by the record 3" in said
+    said, is_sure = replaying.difference(kept, {**same, "words": "he sang hello-hello to me"})
+    assert is_sure and "hello" not in said

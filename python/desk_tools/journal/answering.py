@@ -11,7 +11,8 @@ from datetime import date
 from http.server import BaseHTTPRequestHandler
 from pathlib import Path
 
-from desk_tools.journal import questions
+from desk_tools.journal import chain, questions, shown
+from desk_tools.journal.people import Damaged
 from desk_tools.journal.places import Wrong
 from desk_tools.journal.words import LANGUAGES
 
@@ -30,6 +31,11 @@ OF_NUMBER: dict[str, Callable[[questions.Asked, int], questions.Answer]] = {
     "own": questions.of_own,
 }
 OF_ALL = {"keys": questions.of_keys}
+
+
+def told_in(cell: object) -> object:
+    """A cell as the page shows it: text on one line, without signs of direction and control."""
+    return shown.straight(cell) if isinstance(cell, str) else cell
 
 
 def day_in(given: dict[str, str], name: str) -> date | None:
@@ -98,7 +104,7 @@ class Handler(BaseHTTPRequestHandler):
             return
         try:
             found = answered(self.path, self.server.ask)
-        except (Wrong, OSError) as error:
+        except (Wrong, Damaged, chain.Broken, OSError) as error:
             LOG.error("%s", error)
             self.reply(503, {"denied": "record.fault"})
             return
@@ -112,10 +118,17 @@ class Handler(BaseHTTPRequestHandler):
                 {
                     "title": found.title,
                     "columns": found.columns,
-                    "rows": found.rows,
+                    "rows": [[told_in(it) for it in row] for row in found.rows],
                     "notes": found.notes,
+                    "warning": found.warning,
                 },
             )
+
+    def do_POST(self) -> None:  # pylint: disable=invalid-name
+        """The record is only read."""
+        self.reply(405, {"denied": "http.method"})
+
+    do_PUT = do_DELETE = do_PATCH = do_OPTIONS = do_HEAD = do_POST
 
     def reply(self, status: int, told: dict[str, object]) -> None:
         """Sends a reply."""

@@ -63,16 +63,20 @@ def asked_of(words: argparse.Namespace) -> questions.Asked:
 def show(words: argparse.Namespace, answer: questions.Answer) -> int:
     """Prints an answer as text, as CSV or as a page."""
     said = Words(words.language)
-    heads = sheets.heads_of(answer.columns, said)
+    heads, first = sheets.heads_of(answer.columns, said), [answer.warning] * bool(answer.warning)
     if words.csv:
+        if answer.warning:
+            logging.error("%s", answer.warning)
         print(sheets.as_csv(heads, answer.rows), end="")
     elif words.html:
-        print(sheets.as_page(answer.title, heads, answer.rows, answer.notes, said), end="")
+        print(sheets.as_page(answer.title, heads, answer.rows, first + answer.notes, said), end="")
     else:
+        if answer.warning:
+            print(answer.warning)
         print(sheets.as_text(answer.title, heads, answer.rows, said.said("nothing")), end="")
         for note in answer.notes:
             print(note)
-    return DONE
+    return NOT_DONE if answer.warning else DONE
 
 
 def take(words: argparse.Namespace) -> int:
@@ -90,13 +94,14 @@ def take(words: argparse.Namespace) -> int:
 
     added = taking.take(places, words.nginx_pid, finish)
     added += corrections.take(places, words.corrections)
-    reading.keep_people(places)
     with places.locked():
         head = signing.head_of(chain.files_in(places.record)[-1])
         if words.offsite:
             signing.sent(places.record, words.offsite, head)
         else:
             signing.marked(places.record, head)
+    # (a damaged callers.csv keeps nothing from being chained and sent)
+    reading.keep_people(places)
     print(f"{added} lines taken; the record ends with entry {head.last}")
     for said in broken:
         logging.error("the record does not hold, and this day is not signed: %s", said)
@@ -405,6 +410,9 @@ def main(arguments: list[str]) -> int:
         status: int = words.do(words)
         sys.stdout.flush()
         return status
+    except people.Damaged as error:
+        print(f"bin/journal: {error}", file=sys.stderr)
+        return WRONG_WORDS
     except (Wrong, chain.Broken, OSError) as error:
         print(f"bin/journal: {error}", file=sys.stderr)
         return NOT_DONE

@@ -5,6 +5,7 @@ import urllib.parse
 from dataclasses import dataclass, field
 from typing import Any
 
+from desk_tools.journal import shown
 from desk_tools.journal.lines import Line, object_of, text_of, told
 from desk_tools.journal.names import Names
 from desk_tools.journal.people import People, Person, digits_of
@@ -43,6 +44,8 @@ class Event:
     trip: int = 0
     details: list[str] = field(default_factory=list)
     is_of_all: bool = False
+    # Which line of the record it is, counted from its beginning.
+    turn: int = 0
 
     @property
     def what(self) -> str:
@@ -219,13 +222,13 @@ class Teller:
         """A key that was put for somebody."""
         fields, words = event.line.fields, self.words
         role, subject = text_of(fields, "role"), fields.get("subject")
-        event.kind = "key"
+        name, event.kind = text_of(fields, "name"), "key"
         if role == "rider" and isinstance(subject, int):
             event.rider = subject
         event.done, event.asked = words.both(
             "key-put",
             number=fields.get("id"),
-            name=f"{fields['name']}, " if text_of(fields, "name") else "",
+            name=f"{shown.quoted(name)}, " if name else "",
             role=words.called("role", role),
             subject=words.said("key-subject", number=subject) if subject else "",
         )

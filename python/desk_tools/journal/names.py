@@ -7,6 +7,7 @@ import sqlite3
 from dataclasses import dataclass, field
 from pathlib import Path
 
+from desk_tools.journal import shown
 from desk_tools.journal.places import Wrong
 from desk_tools.journal.words import Words
 
@@ -57,7 +58,7 @@ def named(records: object) -> dict[int, str]:
     """The names of a list of records of agency.json."""
     found = records if isinstance(records, list) else []
     return {
-        it["id"]: it["name"]
+        it["id"]: shown.straight(it["name"])
         for it in found
         if isinstance(it, dict)
         and isinstance(it.get("id"), int)
@@ -75,7 +76,7 @@ def of_agency(agency: dict[str, object], roster: Path | None, words: Words = Wor
             for row in rows:
                 number = (row.get("rider") or "").strip()
                 if number.isdecimal():
-                    riders[int(number)] = " ".join((row.get("name") or "").split())
+                    riders[int(number)] = shown.plain(row.get("name") or "")
         except (OSError, ValueError, csv.Error) as error:
             raise Wrong(f"{roster} can't be read: {error}") from None
     return Names(

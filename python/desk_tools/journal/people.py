@@ -6,27 +6,32 @@ there are the first digits of its digest alone.
 """
 
 import contextlib
-import csv
 import hashlib
-import io
 import sqlite3
 from collections.abc import Iterable
 from dataclasses import dataclass, replace
 from itertools import combinations
 from pathlib import Path
 
-from desk_tools.journal import lines
+from desk_tools.journal import lines, shown
 from desk_tools.journal.lines import Line
 from desk_tools.journal.places import Wrong
 from desk_tools.journal.sheets import as_csv
 from desk_tools.journal.signing import written
 from desk_tools.journal.words import Words
 from desk_tools.tables import ROLES
+from desk_tools.town import sheets as tables
 
 # The last column has the callers whose keys begin with the same digits at the same time: their lines are nobody's.
 COLUMNS = ("number", "name", "role", "subject", "from", "to", "digits", "alike")
 DIGITS = 12
 UPTO = "up to entry "
+# Bytes that no name has and that an older version let by.
+CONTROLS = bytes([*range(0x09), *range(0x0E, 0x20), 0x7F])
+
+
+class Damaged(Exception):
+    """Why callers.csv can't be read: one sentence with the row."""
 
 
 @dataclass(frozen=True)
@@ -50,7 +55,7 @@ class Person:
         kind = "subject-rider" if self.role == "rider" else "subject-vehicle"
         return words.said(
             "caller",
-            name=f"{self.name}, " if self.name else "",
+            name=f"{shown.quoted(self.name)}, " if self.name else "",
             role=words.said(f"role-{self.role}"),
             subject=words.said(kind, number=self.subject) if self.subject else "",
             number=self.number,
@@ -64,8 +69,7 @@ def digits_of(digest: str) -> str:
 
 def named(fields: dict[str, object]) -> str:
     """The name beside a caller's record, on one line."""
-    value = fields.get("name")
-    return " ".join(value.split())[:200] if isinstance(value, str) else ""
+    return shown.plain(lines.text_of(fields, "name"))
 
 
 class People:
@@ -75,7 +79,6 @@ class People:
         self.rows, self.upto = list(rows), upto
         self.by_digits: dict[str, list[Person]] | None = None
         self.found_alike: list[list[Person]] | None = None
-        self.found_borrowed: set[Person] | None = None
 
     def of_digits(self, digits: str, moment: str) -> list[Person]:
         """Whose key had these digits at that moment; where nobody's, who had it last before.
@@ -111,32 +114,13 @@ class People:
         ]
         return self.found_alike
 
-    def borrowed(self) -> set[Person]:
-        """Keys that stood for a while between two times of an older key of the same caller: another person may have used them."""
-        if self.found_borrowed is not None:
-            return self.found_borrowed
-        self.found_borrowed = set()
-        of_number: dict[int, list[Person]] = {}
-        for row in sorted(self.rows, key=lambda it: it.since):
-            of_number.setdefault(row.number, []).append(row)
-        for rows in of_number.values():
-            first: dict[str, int] = {}
-            for at, row in enumerate(rows):
-                first.setdefault(row.digits, at)
-            self.found_borrowed |= {
-                row
-                for row, after in zip(rows, rows[1:])
-                if row.digits and first[after.digits] < first[row.digits]
-            }
-        return self.found_borrowed
-
     def add(self, *rows: Person) -> None:
         """Adds rows."""
         self.put_rows([*self.rows, *rows])
 
     def put_rows(self, rows: list[Person]) -> None:
         """Has these rows from now on."""
-        self.rows, self.by_digits, self.found_alike, self.found_borrowed = rows, None, None, None
+        self.rows, self.by_digits, self.found_alike = rows, None, None
 
     def merge(self, other: "People") -> None:
         """Takes in the rows of another site's record that are not here."""
@@ -164,7 +148,10 @@ class People:
         moment, last = lines.told(line.at), self.now(number)
         if any((it.number, it.digits, it.since) == (number, digits, moment) for it in self.rows):
             return
-        name = named(fields) or (last.name if last else "")
+        # (a name belongs to its key: a former one that is put back has its own again)
+        former = [it for it in self.rows if it.number == number and it.digits == digits]
+        before = former[-1] if former else last
+        name = named(fields) or (before.name if before else "")
         new = Person(
             number, name, role, subject if isinstance(subject, int) else 0, moment, "", digits
         )
@@ -187,38 +174,48 @@ def read(path: Path) -> People:
     if not path.exists():
         return People()
     try:
-        rows = list(csv.DictReader(io.StringIO(path.read_text(encoding="utf-8-sig"), newline="")))
-        upto = [
-            int(it["digits"][len(UPTO) :])
-            for it in rows
-            if (it.get("digits") or "").startswith(UPTO)
-        ]
-        numbered = [
-            (at, it)
-            for at, it in enumerate(rows, 2)
-            if any((it.get(name) or "") for name in COLUMNS[:6])
-        ]
-        return People([row_of(it, at) for at, it in numbered], max(upto, default=0))
-    except (OSError, ValueError, csv.Error) as error:
-        raise Wrong(f"{path}: {error}") from None
+        content = path.read_bytes()
+    except OSError as error:
+        raise Damaged(f"{path} can't be read: {error.strerror}") from None
+    if content[:2] not in tables.MARKS:
+        content = content.translate(None, CONTROLS)
+    try:
+        sheet = tables.of_bytes(content, path, {})
+    except tables.Unreadable as error:
+        raise Damaged(f"{error}") from None
+    for name in ("number", "role", "digits"):
+        if sheet.header and name not in sheet.header:
+            raise Damaged(f"{path}, row 1: it names no column {name}")
+    for refused in sheet.refused:
+        raise Damaged(f"{path}, row {refused.number}: {refused.reason}")
+    known = People()
+    for row in sheet.rows:
+        if len(row.cells) < len(sheet.header):
+            count, columns = len(row.cells), len(sheet.header)
+            said = f"it has {count} cells, and row 1 names {columns} columns: was the file cut?"
+            raise Damaged(f"{path}, row {row.number}: {said}")
+        digits = row.fields.get("digits", "")
+        if digits.startswith(UPTO) and digits[len(UPTO) :].isdecimal():
+            known.upto = max(known.upto, int(digits[len(UPTO) :]))
+        if any(row.fields.get(name) for name in COLUMNS[:6]):
+            try:
+                known.rows.append(row_of(row.fields))
+            except ValueError as error:
+                raise Damaged(f"{path}, row {row.number}: {error}") from None
+    return known
 
 
-def row_of(fields: dict[str, str], at: int) -> Person:
+def row_of(fields: dict[str, str]) -> Person:
     """A row; ValueError says what is wrong."""
     got = {name: (fields.get(name) or "").strip() for name in COLUMNS}
-    if not got["number"].isdecimal() or got["role"] not in ROLES:
-        raise ValueError(f"row {at} has no number, or a role that is none of {', '.join(ROLES)}")
+    if not (got["number"].isascii() and got["number"].isdecimal()):
+        raise ValueError("it has no number")
+    if got["role"] not in ROLES:
+        raise ValueError(f"its role is none of {', '.join(ROLES)}")
     subject = int(got["subject"]) if got["subject"].isdecimal() else 0
-    name = got["name"].removeprefix("'")
-    return Person(
-        int(got["number"]),
-        name,
-        got["role"],
-        subject,
-        got["from"],
-        got["to"],
-        got["digits"].lower(),
-    )
+    name = shown.plain(got["name"].removeprefix("'"))
+    moments = got["from"], got["to"]
+    return Person(int(got["number"]), name, got["role"], subject, *moments, got["digits"].lower())
 
 
 def others_of(row: Person, alike: list[list[Person]]) -> str:
@@ -234,7 +231,7 @@ def keep(path: Path, people: People) -> None:
     cells = [
         (
             it.number,
-            it.name,
+            shown.plain(it.name),
             it.role,
             it.subject or "",
             it.since,

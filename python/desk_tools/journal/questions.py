@@ -4,7 +4,8 @@ from collections.abc import Callable, Iterator
 from dataclasses import dataclass, field
 from datetime import date, datetime, tzinfo
 
-from desk_tools.journal import chain, reading
+from desk_tools.journal import borrowing, chain, lines, reading, shown
+from desk_tools.journal.borrowing import Borrowed, History
 from desk_tools.journal.events import Event, Teller
 from desk_tools.journal.lines import Line, moment_of, text_of
 from desk_tools.journal.names import Names
@@ -15,6 +16,7 @@ from desk_tools.journal.words import Words
 OWN_COLUMNS = ("when", "who", "what", "outcome", "details")
 COLUMNS = ("when", "who", "what", "outcome", "details", "address", "entry")
 NO_KEY = 401
+USES = {0: "keys-used-never", 1: "keys-used-once"}
 # Words of lines that have several riders in them.
 LISTS = (b"/staff/", b"/days/", b"/manifest/", b"/drivers/", b"/record/")
 
@@ -27,6 +29,8 @@ class Answer:
     columns: tuple[str, ...]
     rows: list[tuple[object, ...]]
     notes: list[str] = field(default_factory=list)
+    # What comes before all else: that the record does not hold.
+    warning: str = ""
 
 
 @dataclass
@@ -72,21 +76,43 @@ class Asked:
         return (not self.first or day >= self.first) and (not self.last or day <= self.last)
 
     def events(
-        self, reader: reading.Reader, wanted: reading.Wanted = lambda raw: True
+        self, reader: reading.Reader, history: History, wanted: reading.Wanted
     ) -> Iterator[Event]:
-        """All lines that are wanted, in words. Writes are read in any case: they tell whose each trip is."""
+        """All lines that are wanted, in words. Writes are read in any case: they tell whose each trip is.
+
+        Once all are read, the history says what was borrowed.
+        """
         teller = Teller(self.people, self.names, self.riders)
-        for line in reader.lines(lambda raw: b'"method":"GET"' not in raw or wanted(raw)):
-            yield teller.event(line)
+        for place, raw in reader.raw():
+            is_wanted = b'"method":"GET"' not in raw or wanted(raw)
+            line = lines.read(place, raw) if is_wanted else None
+            reader.unreadable += is_wanted and line is None
+            history.saw(raw, line)
+            if line is not None:
+                event = teller.event(line)
+                event.turn = history.turn
+                yield event
+        history.close()
+
+    def warning(self, reader: reading.Reader) -> str:
+        """What comes before an answer from a record that does not hold."""
+        return self.words.said("broken", why=reader.broken) if reader.broken else ""
 
 
-def row_of(asked: Asked, event: Event) -> tuple[object, ...]:
+def who_of(words: Words, event: Event, history: History) -> str:
+    """Who it was, and whether by a borrowed key or in a borrowed role."""
+    marks, who = history.marks(event.line.who, event.turn), event.who
+    if Borrowed.KEY in marks:
+        return words.said("by-borrowed", who=who)
+    return words.said("in-borrowed-role", who=who) if marks else who
+
+
+def row_of(asked: Asked, event: Event, history: History) -> tuple[object, ...]:
     """A line of an answer."""
     line, words = event.line, asked.words
-    is_borrowed = not asked.people.borrowed().isdisjoint(event.people)
     return (
         asked.when(line),
-        words.said("by-borrowed", who=event.who) if is_borrowed else event.who,
+        who_of(words, event, history),
         event.what,
         event.outcome,
         "; ".join(event.details),
@@ -99,15 +125,23 @@ def answer(
     asked: Asked, title: str, wanted: reading.Wanted, is_asked: Callable[[Event], bool]
 ) -> Answer:
     """The lines that a question asks for."""
-    reader = reading.Reader(asked.places)
+    reader, history = reading.Reader(asked.places, checks=True), History(asked.people)
     found = [
-        it for it in asked.events(reader, wanted) if is_asked(it) and asked.is_of_days(it.line)
+        it
+        for it in asked.events(reader, history, wanted)
+        if is_asked(it) and asked.is_of_days(it.line)
     ]
     those = [it for event in found for it in event.people]
-    notes = notes_of(asked, reader, those) + far_of(asked, found)
-    if not asked.people.borrowed().isdisjoint(those):
-        notes.append(asked.words.said("note-borrowed"))
-    return Answer(title, COLUMNS, [row_of(asked, it) for it in found], notes)
+    notes = notes_of(asked, reader, those) + far_of(asked, found) + marks_of(asked, found, history)
+    rows = [row_of(asked, it, history) for it in found]
+    return Answer(title, COLUMNS, rows, notes, asked.warning(reader))
+
+
+def marks_of(asked: Asked, found: list[Event], history: History) -> list[str]:
+    """What the marks in these lines say."""
+    marks = {mark for it in found for mark in history.marks(it.line.who, it.turn)}
+    keys = {Borrowed.KEY: "note-borrowed", Borrowed.ROLE: "note-borrowed-role"}
+    return [asked.words.said(key) for mark, key in keys.items() if mark in marks]
 
 
 def notes_of(asked: Asked, reader: reading.Reader, found: list[Person]) -> list[str]:
@@ -150,7 +184,8 @@ def of_trip(asked: Asked, trip: int) -> Answer:
                     f"{name}: {value}" for name, value in row.items() if name != "trip" and value
                 )
                 what, where = words.said("corrected"), words.said("in-corrections")
-                found.rows.append((when, row.get("who", ""), what, where, said, "", ""))
+                who = shown.plain(str(row.get("who", "")))
+                found.rows.append((when, who, what, where, said, "", ""))
     return found
 
 
@@ -197,117 +232,95 @@ def of_standing(asked: Asked, rider: int) -> Answer:
     )
 
 
-@dataclass
-class Key:
-    """A key that was put: for whom, when, by whom, and its digits; and whether it was used before the next one."""
-
-    caller: int
-    digits: str
-    event: Event
-    uses: int = 0
-    stood: str = ""
-    is_back: bool = False
-
-
 def of_keys(asked: Asked) -> Answer:
-    """Who changed keys, and which were borrowed: put for somebody else, and the former key put back."""
-    reader = reading.Reader(asked.places)
-    now: dict[int, str] = {}
-    # (of each caller the keys, and how many were there before each; a key that is older than the record comes first)
-    before: dict[int, dict[str, int]] = {}
-    seen: set[str] = {it.digits for it in asked.people.rows if not it.since}
-    keys: list[Key] = []
-    last: dict[int, Key] = {}
-    for event in asked.events(reader, lambda raw: True):
-        line = event.line
-        if event.kind == "key" and event.was_done:
-            caller, digits = line.fields.get("id"), digits_of(text_of(line.fields, "digest"))
-            if isinstance(caller, int) and digits:
-                former = before.setdefault(caller, {})
-                key = Key(caller, digits, event, stood=now.get(caller, ""))
-                # (a key that stood before the record began is known by its uses, or by a row of callers.csv)
-                is_others = any(digits in it for other, it in before.items() if other != caller)
-                is_older = caller in last and digits in seen and not is_others
-                if is_older:
-                    former.setdefault(digits, -1)
-                turn = former.setdefault(digits, len(former))
-                # (a borrowed key that comes again after the caller's own one does not make that one borrowed)
-                key.is_back = caller in now and turn < former[now[caller]]
-                if digits != now.get(caller):
-                    keys.append(key)
-                    last[caller] = key
-                now[caller] = digits
-        elif event.kind == "key":
-            keys.append(Key(0, "", event))
-        seen.add(line.who)
-        for key in last.values():
-            key.uses += key.digits == line.who
+    """Who changed keys, roles and subjects of callers, and what was borrowed: put, and the former one put back."""
+    reader, history = reading.Reader(asked.places, checks=True), History(asked.people)
+    found = [
+        it
+        for it in asked.events(reader, history, lambda raw: borrowing.CALLERS in raw)
+        if it.kind == "key" and not (it.was_done and not history.is_change(it.turn))
+    ]
     rows = [
-        (*row_of(asked, it.event), found_of(asked, it, keys))
-        for it in keys
-        if asked.is_of_days(it.event.line)
+        (*row_of(asked, it, history), "; ".join(found_of(asked, it, history)))
+        for it in found
+        if asked.is_of_days(it.line)
     ]
     notes = notes_of(asked, reader, asked.people.rows)
-    return Answer(asked.titled("title-keys"), (*COLUMNS, "note"), rows, notes)
+    return Answer(
+        asked.titled("title-keys"), (*COLUMNS, "note"), rows, notes, asked.warning(reader)
+    )
 
 
-def found_of(asked: Asked, key: Key, keys: list[Key]) -> str:
-    """What a reader has to see of a key."""
-    said, words = [], asked.words
-    own = key.event.people
-    if key.digits and not own:
-        said.append(words.said("keys-nobody"))
-    elif key.digits and all(it.number != key.caller for it in own):
-        said.append(words.said("keys-another"))
-    if key.is_back:
-        at = keys.index(key)
-        between = [it for it in keys[:at] if it.caller == key.caller and it.digits != key.digits]
-        if between:
-            used = between[-1]
-            uses = words.said("keys-used-once" if used.uses == 1 else "keys-used", count=used.uses)
-            when = asked.when(used.event.line)
-            said.append(words.said("keys-borrowed", when=when, digits=used.digits, uses=uses))
-        else:
-            said.append(words.said("keys-back"))
+def found_of(asked: Asked, event: Event, history: History) -> Iterator[str]:
+    """What a reader has to see of a change."""
+    words, caller = asked.words, event.line.fields.get("id")
+    digits = digits_of(text_of(event.line.fields, "digest"))
+    if event.was_done and digits and not event.people:
+        yield words.said("keys-nobody")
+    elif event.was_done and digits and all(it.number != caller for it in event.people):
+        yield words.said("keys-another")
+    for back in history.returns.get(event.turn, []) if event.was_done else []:
+        for periods in borrowing.runs_of(back):
+            yield said_of(asked, back, periods)
     others = [
         row.number
         for alike in asked.people.alike()
         for row in alike
-        if key.digits == row.digits and row.number != key.caller
+        if digits == row.digits and row.number != caller
     ]
-    if others:
-        said.append(words.said("keys-alike", number=min(others)))
-    return "; ".join(said)
+    if others and event.was_done:
+        yield words.said("keys-alike", number=min(others))
+
+
+def said_of(asked: Asked, back: borrowing.Return, periods: list[borrowing.Period]) -> str:
+    """What was borrowed, from when on, and how often it was used."""
+    words, first = asked.words, periods[0]
+    count = sum(it.uses for it in periods)
+    uses = words.said(USES.get(count, "keys-used"), count=count)
+    when = asked.when(first.line) if first.line else words.said("keys-older")
+    if back.kind is Borrowed.KEY:
+        key = "keys-own-back" if back.is_by_self else "keys-borrowed"
+        return words.said(key, when=when, digits=first.digits, uses=uses)
+    kind = "subject-rider" if first.role == "rider" else "subject-vehicle"
+    subject = words.said(kind, number=first.subject) if first.subject else ""
+    role = words.called("role", first.role)
+    return words.said("keys-role", when=when, role=role, subject=subject, uses=uses)
 
 
 def of_own(asked: Asked, rider: int) -> Answer:
     """A rider's own copy: what was entered and read of them, by whom as a role, without other people's names."""
     number, words = str(rider).encode(), asked.words
-    reader = reading.Reader(asked.places)
+    reader, history = reading.Reader(asked.places, checks=True), History(asked.people)
+    found = [
+        it
+        for it in asked.events(reader, history, lambda raw: number in raw)
+        if it.rider == rider and asked.is_of_days(it.line)
+    ]
     rows: list[tuple[object, ...]] = []
-    found: list[Event] = []
-    for event in asked.events(reader, lambda raw: number in raw):
-        if event.rider != rider or not asked.is_of_days(event.line):
-            continue
-        found.append(event)
+    for event in found:
         what, details = event.what, "; ".join(event.details)
         if event.kind == "key":
             what, details = words.said("own-key-put" if event.was_done else "own-key-asked"), ""
-        rows.append(
-            (asked.when(event.line), own_who(words, event, rider), what, event.outcome, details)
-        )
+        who = own_who(words, event, rider, history)
+        rows.append((asked.when(event.line), who, what, event.outcome, details))
     title = asked.titled("title-own", rider=asked.names.rider(rider))
-    return Answer(title, OWN_COLUMNS, rows, far_of(asked, found))
+    return Answer(title, OWN_COLUMNS, rows, far_of(asked, found), asked.warning(reader))
 
 
-def own_who(words: Words, event: Event, rider: int) -> str:
+def own_who(words: Words, event: Event, rider: int, history: History) -> str:
     """Who it was, for the rider's own copy: the rider, another one, or a role of the agency."""
-    said = {
-        words.said("own-agency", role=words.said(f"role-{it.role}"))
-        if it.role != "rider"
-        else words.said("own-you" if it.subject == rider else "own-another")
-        for it in event.people
-    }
+    marks = history.marks(event.line.who, event.turn)
+    said = {own_person(words, it, rider, history) for it in event.people}
     # (401 is the desk's own word that nobody has the key; else the key is one that callers.csv lacks)
     nobody = "own-nobody" if event.line.status == NO_KEY else "own-unknown"
-    return words.said("or").join(sorted(said)) or words.said(nobody)
+    who = words.said("or").join(sorted(said)) or words.said(nobody)
+    return words.said("own-borrowed", who=who) if marks else who
+
+
+def own_person(words: Words, person: Person, rider: int, history: History) -> str:
+    """One person, for the rider's own copy. A number that was ever another rider's is not simply the rider's."""
+    if person.role != "rider":
+        return words.said("own-agency", role=words.said(f"role-{person.role}"))
+    if person.subject != rider:
+        return words.said("own-another")
+    return words.said("own-shared" if history.subjects(person.number) != {rider} else "own-you")

@@ -6,7 +6,7 @@ from datetime import date, timedelta
 from pathlib import Path
 from typing import Any
 
-from desk_tools.journal import chain, lines, people
+from desk_tools.journal import chain, lines, people, verifying
 from desk_tools.journal.lines import Line
 from desk_tools.journal.people import People
 from desk_tools.journal.places import Places
@@ -41,17 +41,59 @@ def files_from(files: list[chain.File], first: date | None) -> list[chain.File]:
 
 
 class Reader:
-    """Reads a record behind a place, or the files from a day on. `unreadable` says how many lines could not be read so far."""
+    """Reads a record behind a place, or the files from a day on. `unreadable` says how many lines could not be read so far.
 
-    def __init__(self, places: Places, after: int = 0, first: date | None = None) -> None:
+    A reader that `checks` reads all files, and has in `broken` the first thing that does not hold.
+    """
+
+    def __init__(
+        self, places: Places, after: int = 0, first: date | None = None, checks: bool = False
+    ) -> None:
         self.places, self.after, self.first = places, after, first
+        self.checks, self.broken = checks, ""
+        self.seen = verifying.Seen()
         self.unreadable = 0
         self.part, self.taken = 0, 0
 
+    def files(self) -> Iterator[Iterator[chain.Entry]]:
+        """The entries of each file."""
+        if not self.checks:
+            yield from map(
+                chain.entries_of, files_from(files_after(self.places, self.after), self.first)
+            )
+            return
+        for folder in self.places.record, self.places.folder / "heads":
+            self.seen.marks.update(verifying.marks_in(folder) if folder.is_dir() else {})
+        files = chain.files_in(self.places.record)
+        self.tries(lambda: verifying.check_files(files))
+        for file in files:
+            yield self.checked(file, file is files[-1])
+        self.tries(lambda: verifying.check_ends(self.seen, files))
+
+    def tries(self, check: Callable[[], object]) -> None:
+        """Keeps the first thing that does not hold."""
+        try:
+            if not self.broken:
+                check()
+        except chain.Broken as broken:
+            self.broken = str(broken)
+
+    def checked(self, file: chain.File, is_last: bool) -> Iterator[chain.Entry]:
+        """The entries of a file, each looked at. The unit may just write the last line of all."""
+        checker = verifying.Checker(self.seen, file)
+        for raw in chain.raw_lines(file):
+            if is_last and not raw.endswith(b"\n"):
+                break
+            self.tries(lambda line=raw: checker.line(line))  # type: ignore[misc]
+            entry = chain.entry_of(raw)
+            if entry and raw.endswith(b"\n"):
+                yield entry
+        self.tries(lambda: checker.end(is_last))
+
     def raw(self) -> Iterator[tuple[int, bytes]]:
         """Each request's line with its place in the record; 0 where it is not chained yet."""
-        for file in files_from(files_after(self.places, self.after), self.first):
-            for entry in chain.entries_of(file):
+        for entries in self.files():
+            for entry in entries:
                 note = entry.note
                 if note == "opened":
                     self.part, self.taken = int(entry.fields.get("part", 0)), 0

@@ -11,6 +11,7 @@ import http.client
 import json
 import os
 import random
+import re
 import secrets
 import shlex
 import shutil
@@ -39,6 +40,8 @@ exec {program} "$@"
 ROUNDED, NEAR, QUARTER = timedelta(milliseconds=2), timedelta(seconds=0.5), 15
 # Of writes at once: how many may come next, how many writes are made anew for one order, and how far the search goes back.
 MOST_AT_ONCE, MOST_TRIES, MOST_FORKS = 8, 400, 16
+# What stands in the record in place of a key.
+HIDDEN = "(key)"
 Rows = dict[tuple[Any, ...], dict[str, Any]]
 # A line with the callers whose it may be: more than one where keys begin alike.
 Write = tuple[Line, list[int]]
@@ -379,28 +382,45 @@ def rows_of(path: Path, table: str) -> Rows:
     return {tuple(row[name] for name in KEYS[table]): row for row in found}
 
 
-def compared(replayed: Path, after: Path) -> Iterator[str]:
-    """A sentence for each row that differs."""
+def compared(replayed: Path, after: Path, found: Found) -> None:
+    """Finds each row that differs. What the record leaves out as a key can't be compared."""
     for table, keys in KEYS.items():
         ours, theirs = rows_of(replayed, table), rows_of(after, table)
         for key in sorted({*ours, *theirs}, key=lambda it: tuple(map(str, it))):
             if ours.get(key) != theirs.get(key):
                 row = ", ".join(f"{name} {value}" for name, value in zip(keys, key))
-                yield f"{table}, {row}: {difference(ours.get(key), theirs.get(key))}"
+                said, is_sure = difference(ours.get(key), theirs.get(key))
+                (found.differing if is_sure else found.unsure).append(f"{table}, {row}: {said}")
 
 
-def difference(ours: dict[str, Any] | None, theirs: dict[str, Any] | None) -> str:
-    """How a row differs."""
+def is_hidden(ours: object, theirs: object) -> bool:
+    """Whether two texts are the same but for what the record left out of one as a key."""
+    if not isinstance(ours, str) or not isinstance(theirs, str) or HIDDEN not in ours:
+        return False
+    parts = [re.escape(it) for it in ours.split(HIDDEN)]
+    return re.fullmatch(".{8,}".join(parts), theirs, re.DOTALL) is not None
+
+
+def difference(ours: dict[str, Any] | None, theirs: dict[str, Any] | None) -> tuple[str, bool]:
+    """How a row differs, and whether that is sure. A text that may have a key is not printed."""
     if ours is None:
-        return f"no line explains this row: {theirs}"
+        return f"no line explains this row: {theirs}", True
     if theirs is None:
-        return f"the record has this row, and the file has not: {ours}"
+        return f"the record has this row, and the file has not: {ours}", True
+    names = [it for it in ours if ours[it] != theirs[it]]
+    left_out = [it for it in names if is_hidden(ours[it], theirs[it])]
     said = [
-        f"{name} is {theirs[name]!r}, by the record {ours[name]!r}"
-        for name in ours
-        if ours[name] != theirs[name]
+        (
+            f"{name} is otherwise than {ours[name]!r} of the record"
+            if HIDDEN in str(ours[name])
+            else f"{name} is {theirs[name]!r}, by the record {ours[name]!r}"
+        )
+        for name in names
+        if name not in left_out
     ]
-    return "; ".join(said)
+    if said:
+        return "; ".join(said), True
+    return f"{', '.join(left_out)} has what may be a key, and the record leaves keys out", False
 
 
 def check(
@@ -436,7 +456,7 @@ def check(
                     f"kept, caller {caller}: its last write has the number {number}, and no line names it"
                 )
         copied(replay.file, folder / "ended.db")
-        found.differing += compared(folder / "ended.db", replay.after)
+        compared(folder / "ended.db", replay.after, found)
         found.differing += digests.others(replay.after)
     return found
 

@@ -8,6 +8,8 @@ from desk_tools.journal import chain, lines, signing
 from desk_tools.journal.places import Places
 
 HOLDS, BROKEN, ENDS_EARLY = 0, 1, 3
+# A clock that is put right by less than this was not set back. Of more places than these only the first are named.
+CLOCK, MOST_NAMED = timedelta(seconds=5), 3
 # What is said where nothing was compared: a whole record that root wrote anew holds by itself.
 NOT_COMPARED = "; not compared with a copy elsewhere, which alone shows a record that root wrote anew: --elsewhere FOLDER does that"
 
@@ -28,42 +30,69 @@ class Seen:
     begins: str = ""
     removed: dict[int, str] = field(default_factory=dict)
     marks: dict[int, str] = field(default_factory=dict)
+    # Where the clock was set back: the entry, the moment there and the one before.
+    set_back: list[tuple[int, str, str]] = field(default_factory=list)
+
+
+class Checker:
+    """Whether the lines of a file hold, one after another; raises what does not."""
+
+    def __init__(self, seen: Seen, file: chain.File) -> None:
+        self.seen, self.file = seen, file
+        self.at = 0
+        self.is_closed = False
+
+    def broken(self, said: str) -> chain.Broken:
+        """What is wrong with this line."""
+        return chain.Broken(f"{self.file.name}, line {self.at}: {said}")
+
+    def line(self, raw: bytes) -> chain.Entry:
+        """Reads the next line."""
+        self.at += 1
+        seen, entry = self.seen, chain.entry_of(raw)
+        if not raw.endswith(b"\n"):
+            raise self.broken("it has no end: torn by a fall of the power, or cut by hand")
+        if entry is None:
+            raise self.broken("it is no entry")
+        note = entry.note
+        if self.at == 1:
+            begin(seen, self.file, entry)
+        elif note == "opened":
+            raise self.broken("the file is opened twice")
+        if self.is_closed:
+            raise self.broken("an entry stands after the end of the file")
+        if entry.place != seen.place + 1:
+            raise self.broken(f"entry {entry.place} comes after entry {seen.place}")
+        if chain.digest(seen.chain, entry.place, entry.line) != entry.chain:
+            raise self.broken(f"entry {entry.place} was changed, or the one before it")
+        count(seen, entry, note)
+        self.is_closed = note == "closed"
+        return entry
+
+    def end(self, is_last: bool) -> None:
+        """No more lines follow in this file."""
+        if not self.at:
+            raise chain.Broken(f"{self.file.name} is empty")
+        if not self.is_closed and not is_last:
+            raise chain.Broken(f"{self.file.name} has no end, and another file follows")
+        self.seen.files += 1
 
 
 def read_file(seen: Seen, file: chain.File, is_last: bool) -> None:
     """Reads a file on; raises what does not hold."""
-    opened = closed = False
-    for at, raw in enumerate(chain.raw_lines(file), 1):
-        entry = chain.entry_of(raw)
-        if not raw.endswith(b"\n"):
+    checker = Checker(seen, file)
+    for raw in chain.raw_lines(file):
+        checker.line(raw)
+    checker.end(is_last)
+
+
+def check_files(files: list[chain.File]) -> None:
+    """Whether no file is missing between two."""
+    for file, after in zip(files, files[1:]):
+        if after.number != file.number + 1:
             raise chain.Broken(
-                f"{file.name}, line {at}: it has no end: torn by a fall of the power, or cut by hand"
+                f"{after.name} comes after {file.name}: a file between them is missing"
             )
-        if entry is None:
-            raise chain.Broken(f"{file.name}, line {at}: it is no entry")
-        note = entry.note
-        if at == 1:
-            begin(seen, file, entry)
-            opened = True
-        elif note == "opened":
-            raise chain.Broken(f"{file.name}, line {at}: the file is opened twice")
-        if closed:
-            raise chain.Broken(f"{file.name}, line {at}: an entry stands after the end of the file")
-        if entry.place != seen.place + 1:
-            raise chain.Broken(
-                f"{file.name}, line {at}: entry {entry.place} comes after entry {seen.place}"
-            )
-        if chain.digest(seen.chain, entry.place, entry.line) != entry.chain:
-            raise chain.Broken(
-                f"{file.name}, line {at}: entry {entry.place} was changed, or the one before it"
-            )
-        count(seen, entry, note)
-        closed = note == "closed"
-    if not opened:
-        raise chain.Broken(f"{file.name} is empty")
-    if not closed and not is_last:
-        raise chain.Broken(f"{file.name} has no end, and another file follows")
-    seen.files += 1
 
 
 def close(places: Places, file: chain.File, key: Path) -> str:
@@ -107,11 +136,22 @@ def count(seen: Seen, entry: chain.Entry, note: str) -> None:
         seen.requests += 1
         seen.unreadable += entry.line.startswith(b'{"unreadable":')
     if isinstance(fields.get("at"), str):
-        seen.last = str(fields["at"])
+        at = str(fields["at"])
+        if is_back(seen.last, at):
+            seen.set_back.append((entry.place, at, seen.last))
+        seen.last = at
     if entry.place in seen.marks and seen.marks[entry.place] != entry.chain:
         raise chain.Broken(
             f"entry {entry.place}: its digest is another one elsewhere: one of the two was changed"
         )
+
+
+def is_back(before: str, at: str) -> bool:
+    """Whether a note has an earlier moment than the note before it: then the machine's clock was set back."""
+    try:
+        return bool(before) and lines.moment_of(at) + CLOCK < lines.moment_of(before)
+    except ValueError:
+        return False
 
 
 def marks_in(folder: Path) -> dict[int, str]:
@@ -158,6 +198,15 @@ def check_begin(seen: Seen, files: list[chain.File]) -> str:
     return f"; files before {files[0].name} were removed by the rule of retention"
 
 
+def check_ends(seen: Seen, files: list[chain.File]) -> None:
+    """Whether the record that was read begins and ends where it should."""
+    if files:
+        check_begin(seen, files)
+    far = max([*seen.marks, 0])
+    if far > seen.place:
+        raise chain.Broken(f"it ends with entry {seen.place}, and a head names entry {far}")
+
+
 def verify(
     places: Places, public: Path | None, elsewhere: Path | None, today: date
 ) -> tuple[int, str]:
@@ -175,11 +224,7 @@ def verify(
                         f"entry {place} has two digests: the copy elsewhere names another one"
                     )
         files = chain.files_in(places.record)
-        for file, after in zip(files, files[1:]):
-            if after.number != file.number + 1:
-                raise chain.Broken(
-                    f"{after.name} comes after {file.name}: a file between them is missing"
-                )
+        check_files(files)
         if not files:
             return ENDS_EARLY, f"there is no record in {places.record}"
         for file in files:
@@ -190,6 +235,10 @@ def verify(
     unreadable = f"; {seen.unreadable} lines could not be read" if seen.unreadable else ""
     places_torn = ", ".join(map(str, seen.torn))
     torn = f"; half a line was found at entry {places_torn}, and is kept there" if seen.torn else ""
+    for place, at, before in seen.set_back[:MOST_NAMED]:
+        torn += f"; the clock went back at entry {place}, from {before} to {at}, so moments there are not certain"
+    more = len(seen.set_back) - MOST_NAMED
+    torn += f", and {more} more times" if more > 0 else ""
     notes += "" if elsewhere else NOT_COMPARED
     told = f"{seen.requests} requests in {seen.files} files, up to entry {seen.place}, {seen.day}{unreadable}{torn}{notes}"
     far = max([*seen.marks, 0])

@@ -28,6 +28,7 @@ EN = {
     "caller-number": "caller {number}",
     "not-certain": "not certain: {people}",
     "by-borrowed": "{who}, by a BORROWED key",
+    "in-borrowed-role": "{who}, in a BORROWED role",
     "or": " or ",
     "and": " and ",
     "no-key": "no key",
@@ -133,6 +134,9 @@ EN = {
     "days-both": "{title}, {first} to {last}",
     "days-from": "{title}, from {first} on",
     "days-to": "{title}, up to {last}",
+    "note-borrowed-role": "A BORROWED role was put for a while and then the former one, so somebody else may have used it. "
+    "The list of who changed keys says who put it.",
+    "broken": "This record does not hold: {why}. What stands below may have been changed. bin/journal verify says more.",
     "note-begins": "The record begins on {day}. What was done before is not in it.",
     "note-no-caller": 'callers.csv has no caller {number}, so what was done by that key stands under "unknown key". '
     "If the caller is older than the record, run bin/journal callers with a backup and ask again.",
@@ -140,9 +144,15 @@ EN = {
     "in-corrections": "in corrections.csv",
     "keys-nobody": "put by a key of nobody whom callers.csv names",
     "keys-another": "put by one person for another",
-    "keys-borrowed": "BORROWED: the key of {when} ({digits}) was {uses}, then the former key was put back",
-    "keys-used-once": "used once",
-    "keys-used": "used {count} times",
+    "keys-borrowed": "BORROWED: the key of {when} ({digits}) {uses}, and then the former key was put back",
+    "keys-role": "BORROWED ROLE: from {when} on the caller was {role}{subject}; the key {uses}, and then the former role or "
+    "rider was put back",
+    "keys-own-back": "the same person replaced the own key of the caller and put the former one back; the key of {when} "
+    "({digits}) {uses}",
+    "keys-used-never": "was not used",
+    "keys-used-once": "was used once",
+    "keys-used": "was used {count} times",
+    "keys-older": "before the record",
     "keys-back": "a former key was put back",
     "keys-alike": "AMBIGUOUS: this key begins with the same 12 digits as that of caller {number}",
     "own-you": "you",
@@ -150,6 +160,8 @@ EN = {
     "own-another": "another rider",
     "own-nobody": "somebody without a key of the agency",
     "own-unknown": "somebody whose key is not on the list of callers",
+    "own-borrowed": "not certain: {who}, or somebody with a BORROWED key or role",
+    "own-shared": "somebody with a caller's number that was also another rider's",
     "own-key-put": "put a key for you",
     "own-key-asked": "asked to put a key for you",
     # The columns.
@@ -186,6 +198,7 @@ ES = {
     "caller-number": "el usuario {number}",
     "not-certain": "no es seguro: {people}",
     "by-borrowed": "{who}, con una clave PRESTADA",
+    "in-borrowed-role": "{who}, con una función PRESTADA",
     "or": " o ",
     "and": " y ",
     "no-key": "sin clave",
@@ -287,6 +300,9 @@ ES = {
     "days-both": "{title}, del {first} al {last}",
     "days-from": "{title}, desde el {first}",
     "days-to": "{title}, hasta el {last}",
+    "note-borrowed-role": "Una función PRESTADA se puso por un tiempo y después la anterior; quizá la usó otra persona. "
+    "La lista de quién cambió claves dice quién la puso.",
+    "broken": "Este registro no está íntegro: {why}. Lo que sigue puede haber sido cambiado. bin/journal verify dice más.",
     "note-begins": "El registro empieza el {day}. Lo que se hizo antes no está en él.",
     "note-no-caller": "callers.csv no tiene al usuario {number}, así que lo hecho con su clave aparece como «clave desconocida». "
     "Si el usuario es anterior al registro, ejecute bin/journal callers con una copia y pregunte otra vez.",
@@ -295,8 +311,14 @@ ES = {
     "keys-nobody": "la puso una clave que no es de nadie que nombre callers.csv",
     "keys-another": "la puso una persona para otra",
     "keys-borrowed": "PRESTADA: la clave del {when} ({digits}) {uses}, y después se volvió a poner la clave anterior",
+    "keys-role": "FUNCIÓN PRESTADA: desde el {when} el usuario fue {role}{subject}; la clave {uses}, y después se volvió a poner "
+    "la función o el pasajero anterior",
+    "keys-own-back": "la misma persona reemplazó la clave propia del usuario y volvió a poner la anterior; la clave del {when} "
+    "({digits}) {uses}",
+    "keys-used-never": "no se usó",
     "keys-used-once": "se usó una vez",
     "keys-used": "se usó {count} veces",
+    "keys-older": "tiempo anterior al registro",
     "keys-back": "se volvió a poner una clave anterior",
     "keys-alike": "AMBIGUA: esta clave empieza con los mismos 12 dígitos que la del usuario {number}",
     "own-you": "usted",
@@ -304,6 +326,8 @@ ES = {
     "own-another": "otro pasajero",
     "own-nobody": "alguien sin clave de la agencia",
     "own-unknown": "alguien cuya clave no está en la lista de usuarios",
+    "own-borrowed": "no es seguro: {who}, o alguien con una clave o función PRESTADA",
+    "own-shared": "alguien con un número de usuario que también fue de otro pasajero",
     "own-key-put": "puso una clave para usted",
     "own-key-asked": "pidió poner una clave para usted",
     "column-when": "cuándo",
