@@ -195,6 +195,14 @@ export function nextStep(said, answers) {
     return { is: "denied", reason: /** @type {Answer<Reply>} */ (reason) };
 }
 
+/** Whether a plan may have asked for a nearer time than that of a trip which is not what was said.
+ * @param {Said} said @param {Window & { wish: number, by: number | null }} trip
+ */
+export function mayGoOn(said, trip) {
+    const request = requestsOf(said).find(({ wish, by }) => wish === trip.wish && by === trip.by) ?? requestsOf(said).find(({ wish }) => wish === trip.wish);
+    return request !== undefined && nearer(said, request, trip, 0) !== null;
+}
+
 /** The rule that is counted of a plan that did not give what was said, or null where no rule denied it. An offer beyond the hour is a denial of what
  * was said, for lack of a vehicle (49 CFR 37.131(b)(2)); where the very minute was denied by a rule, that rule counts.
  * @template {AnyReply} Reply

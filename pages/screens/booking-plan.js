@@ -86,7 +86,7 @@ async function carriedOut({ rider, trip }, leg, id) {
         const again = trip ?? (standing ? /** @type {Trip} */ ({ ...leg.wish, ...standing, status: "booked" }) : null);
         const reply = await sent(rider, { ...leg.wish, wish, by }, again);
         answers.push({ request: step.request, reply });
-        if (reply.value !== undefined && !isAsSaid(leg.said, reply.value)) keepOffer(reply.value.trip, { said: leg.said, old: trip, counted: false });
+        if (reply.value !== undefined && !isAsSaid(leg.said, reply.value)) keepOffer(reply.value.trip, { said: leg.said, old: trip, counted: false, asking: id });
     }
 }
 
