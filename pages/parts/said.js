@@ -28,9 +28,9 @@ const MOST = 500;
 
 /** @typedef {Kept & { rider: number, day: string, offer: "booking" | "change" }} Offered */
 /** What the site's log knows of bookings and offers, as it was last taken out of its text.
- * @type {{ text: string | null, bookings: Record<string, Kept>, offers: Record<string, Offered> }}
+ * @type {{ text: string | null, made: string | null, bookings: Record<string, Kept>, offers: Record<string, Offered> }}
  */
-let served = { text: null, bookings: {}, offers: {} };
+let served = { text: null, made: null, bookings: {}, offers: {} };
 /** What this page asks just now, whose key began it, and how its lock is let go.
  * @type {Map<string, { whose: string | null, release: () => void }>}
  */
@@ -62,8 +62,8 @@ const tableIn = (/** @type {any} */ it) => (typeof it === "object" && it !== nul
 function servedNow() {
     const text = toldRead().reply()?.value ?? null;
     if (text !== served.text) {
-        const { bookings, offers } = objectIn(text);
-        served = { text, bookings: tableIn(bookings), offers: tableIn(offers) };
+        const { made, bookings, offers } = objectIn(text);
+        served = { text, made: typeof made === "string" ? made : null, bookings: tableIn(bookings), offers: tableIn(offers) };
     }
     return served;
 }
@@ -134,6 +134,9 @@ export function openOffer(trip) {
     return { said: { mode: told.mode, minute: told.minute, by: null, drive: driveOf(trip), lead: agency().lead, change: told.offer === "change" }, old: null, counted: true,
         elsewhere: told.offer === "change" ? "change" : "booking" };
 }
+
+/** When the site made the file of the day that was read last, or null where it does not say. */
+export const toldMade = () => servedNow().made;
 
 /** The offers that the site's log knows and nobody has answered, by trip, for the list of what waits. */
 export const offersTold = () => Object.entries(servedNow().offers).filter(([, it]) => Number.isInteger(it?.rider) && Number.isInteger(it.minute))

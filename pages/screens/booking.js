@@ -123,7 +123,7 @@ function legShown(leg, about, acts, busy) {
     const { rider, trip } = about, { ticket, offer, refused, said, wish, key } = leg, id = `leg-${key}`;
     if (ticket) return part("li", { key }, ticketOf({ rider, ticket, wish, said }, { id,
         heading: t(trip ? "booking.changed-for" : "booking.booked-for", { trip: ticket.trip, rider: riderLabel(rider) }) }));
-    if (offer) return part("li", { key }, offerShown({ trip: { ...wish, ...offer }, said, old: trip, denied: leg.denied, id, busy, answer: (yes) => acts.answer(leg, yes) }));
+    if (offer) return part("li", { key }, offerShown({ trip: { ...wish, ...offer }, said, old: trip, denied: leg.denied, id, busy, no: leg.no, answer: (yes) => acts.answer(leg, yes) }));
     if (refused) return part("li", { key }, part("section", { class: "refused", tabindex: -1, id, "aria-label": refusedWords(trip, leg.moved) },
         part("h3", {}, refusedWords(trip, leg.moved)), part("p", {}, t("booking.offer-counted"))));
     if (leg.denied) return part("li", { key }, deniedShown(leg, about, acts, busy));

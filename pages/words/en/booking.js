@@ -113,6 +113,8 @@ export const words = {
     "booking.offer-given-up": "The offer was not taken, and is given up.",
     "booking.offer-is-back": ({ trip, day, window }) => `Trip ${trip} is back: ${day}, pickup ${window}.`,
     "booking.offer-moved": ({ trip, day, window }) => `Trip ${trip} was put to another time meanwhile: ${day}, pickup ${window}.`,
+    "booking.offer-looking": "Looking whether somebody else has answered…",
+    "booking.offer-unsure": ({ trip }) => `The agency may have kept trip ${trip} for you meanwhile, so it stands as it is and nothing is cancelled. Call the agency if you do not want it.`,
     "booking.offer-begun": "Its pickup window has begun, so it cannot be answered any more. Call the rider and dispatch. A no-show of this trip is not the rider's, who never said yes.",
     "booking.offer-counted": "It is counted as a denial of the time that the rider asked for, and not as a cancellation by the rider.",
     "booking.change-of": ({ trip, rider }) => `Change trip ${trip} of ${rider}`,

@@ -113,6 +113,8 @@ export const words = {
     "booking.offer-given-up": "La oferta no se aceptó y quedó anulada.",
     "booking.offer-is-back": ({ trip, day, window }) => `El viaje ${trip} volvió: ${day}, recogida ${window}.`,
     "booking.offer-moved": ({ trip, day, window }) => `El viaje ${trip} pasó entretanto a otra hora: ${day}, recogida ${window}.`,
+    "booking.offer-looking": "Se está mirando si otra persona ya respondió…",
+    "booking.offer-unsure": ({ trip }) => `Es posible que la agencia ya haya guardado el viaje ${trip} para usted: sigue en pie y no se canceló nada. Llame a la agencia si no lo quiere.`,
     "booking.offer-begun": "Su horario de recogida ya empezó, así que ya no se puede responder. Llame a la persona y a despacho. Si no se presenta, no cuenta en su contra: nunca aceptó este viaje.",
     "booking.offer-counted": "Cuenta como denegación de la hora que pidió el pasajero, y no como cancelación del pasajero.",
     "booking.change-of": ({ trip, rider }) => `Cambiar el viaje ${trip} de ${rider}`,
