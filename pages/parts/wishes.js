@@ -220,12 +220,15 @@ export function countedRule(said, step) {
  */
 export const isRule = (name) => name === FULL || /^\d/.test(name);
 
-/** The first and the last minute of a pickup that would have done.
+/** The first and the last minute of a pickup that was looked for; not before a minute, a request without a bound reaches an hour further.
  * @param {Said} said @returns {[number, number]}
  */
 export function searched(said) {
     const { mode, minute } = said;
-    if (mode === "not-before") return [minute, cut(minute + NEGOTIATED_MINUTES)];
+    if (mode === "not-before") {
+        const latest = requestsOf(said).filter(({ bound }) => !bound).map(({ wish }) => wish);
+        return [minute, cut(Math.max(minute, ...latest) + NEGOTIATED_MINUTES)];
+    }
     if (mode === "around") return [cut(minute - NEGOTIATED_MINUTES), cut(minute + NEGOTIATED_MINUTES)];
     return [cut(Math.min(...requestsOf(said).map(({ wish }) => wish)) - NEGOTIATED_MINUTES), minute];
 }
