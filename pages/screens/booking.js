@@ -72,8 +72,10 @@ async function questionOf({ rider, trip }, legs) {
     if (!nowhere && !same.length && !meeting.length) return null;
     const list = (/** @type {Trip[]} */ trips) => part("ul", {}, trips.map((it) => part("li", {}, t("booking.same-trip", { trip: it.trip, day: dayInWords(it.day),
         window: windowOf(it), from: placeName(it.from), to: placeName(it.to) }))));
-    return { question: same.length ? t("booking.same-question", { count: same.length, rider: riderLabel(rider) })
-        : t(meeting.length ? "booking.meets-question" : "booking.nowhere-question", { rider: riderLabel(rider), place: placeName(legs[0].wish.from) }),
+    const question = same.length ? t("booking.same-question", { count: same.length, rider: riderLabel(rider) })
+        : t(meeting.length ? "booking.meets-question" : "booking.nowhere-question", { rider: riderLabel(rider), place: placeName(legs[0].wish.from) });
+    // (a rider without a name begins with a word in small letters)
+    return { question: question.charAt(0).toUpperCase() + question.slice(1),
     detail: [nowhere && (same.length > 0 || meeting.length > 0) && part("p", {}, t("booking.nowhere", { place: placeName(legs[0].wish.from) })), same.length > 0 && list(same),
         same.length > 0 && meeting.length > 0 && part("p", {}, t("booking.meets")), meeting.length > 0 && list(meeting)],
     yes: t(trip ? "booking.change-yes" : same.length ? "booking.same-yes" : "booking.all-the-same") };
