@@ -316,6 +316,9 @@ const write = (path, fields, nextKey) => inTurn(() => {
     return sent(pending);
 });
 
+/** Whether a write of this window has no answer yet. */
+export const isWriting = () => mine !== null && JSON.parse(keptText("session", PENDING) ?? "null")?.digest === mine;
+
 /** A write that was under way when the page was loaded anew: its reply, or null where there is none.
  * @returns {Promise<Reply<any> | null>}
  */

@@ -5,10 +5,11 @@ import { addressChoice, addressesFor, addressOf } from "./addresses.js";
 import { isOwnPlace, placeName, placeNote, placePairs } from "./agency.js";
 import { comboField } from "./combo.js";
 import { HIGHEST_ID } from "./limits.js";
+import { fitting } from "./place-order.js";
 import { searchable } from "./roster.js";
 import { t } from "./words.js";
 
-/** @typedef {{ id: number, text: string, note: string, sought: string }} Choice */
+/** @typedef {{ id: number, text: string, note: string, sought: string, isAddress?: boolean }} Choice */
 
 /** The places that may be chosen: the rider's own ones first, then the usual ones in their order.
  * @param {number | undefined} rider @param {number[]} usual @returns {Choice[]}
@@ -24,16 +25,7 @@ function choicesOf(rider, usual) {
 /** The addresses that may be chosen, each as a choice of its own.
  * @param {number | undefined} rider @returns {Choice[]}
  */
-const addressChoices = (rider) => addressesFor(rider).map((it) => ({ id: choiceOfAddress(it.id), text: addressChoice(it), note: placeName(it.place), sought: it.sought }));
-
-/** Those that have each of the typed words, a place of that very number or name first.
- * @param {Choice[]} all @param {string} typed
- */
-function fitting(all, typed) {
-    const words = searchable(typed).split(" ").filter(Boolean), same = (/** @type {Choice} */ { id, text }) => String(id) === typed.trim() || text === typed.trim();
-    const fit = all.filter(({ sought }) => words.every((word) => sought.includes(word)));
-    return [...fit.filter(same), ...fit.filter((it) => !same(it))];
-}
+const addressChoices = (rider) => addressesFor(rider).map((it) => ({ id: choiceOfAddress(it.id), text: addressChoice(it), note: placeName(it.place), sought: it.sought, isAddress: true }));
 
 /** The one place that is meant by what was typed, or null.
  * @param {Choice[]} all @param {string} typed

@@ -18,8 +18,8 @@ import { guessedDrive, isMadeUp } from "./wishes.js";
 /** @typedef {{ mode: Mode, minute: number, by?: number | null, from_address?: number, to_address?: number }} Named what a rider named: the mode, its minute, a minute
  *   to be there by beside a pickup, and which addresses of the places are meant */
 /** @typedef {Named & { from?: number, to?: number }} Kept with the window that was promised for it */
-/** @typedef {{ said: Said, old: Trip | null, counted: boolean, elsewhere?: "booking" | "change" }} Offer old is the trip as it was before a change; elsewhere says what the
- *   trip was where another browser was offered it: how it was before is not known here */
+/** @typedef {{ said: Said, old: Trip | null, counted: boolean, elsewhere?: "booking" | "change", asking?: string }} Offer old is the trip as it was before a change; elsewhere
+ *   says what the trip was where another browser was offered it: how it was before is not known here; asking is the plan that got it and has not ended */
 /** @typedef {import("./taken-up.js").Asking} Asking */
 
 const SAID = "desk.said", OFFERS = "desk.offers", ASKING = "desk.asking";
@@ -28,9 +28,9 @@ const MOST = 500;
 
 /** @typedef {Kept & { rider: number, day: string, offer: "booking" | "change" }} Offered */
 /** What the site's log knows of bookings and offers, as it was last taken out of its text.
- * @type {{ text: string | null, bookings: Record<string, Kept>, offers: Record<string, Offered> }}
+ * @type {{ text: string | null, made: string | null, bookings: Record<string, Kept>, offers: Record<string, Offered> }}
  */
-let served = { text: null, bookings: {}, offers: {} };
+let served = { text: null, made: null, bookings: {}, offers: {} };
 /** What this page asks just now, whose key began it, and how its lock is let go.
  * @type {Map<string, { whose: string | null, release: () => void }>}
  */
@@ -62,8 +62,8 @@ const tableIn = (/** @type {any} */ it) => (typeof it === "object" && it !== nul
 function servedNow() {
     const text = toldRead().reply()?.value ?? null;
     if (text !== served.text) {
-        const { bookings, offers } = objectIn(text);
-        served = { text, bookings: tableIn(bookings), offers: tableIn(offers) };
+        const { made, bookings, offers } = objectIn(text);
+        served = { text, made: typeof made === "string" ? made : null, bookings: tableIn(bookings), offers: tableIn(offers) };
     }
     return served;
 }
@@ -128,10 +128,15 @@ export function openOffer(trip) {
     if (trip.status !== "booked" || trip.day < today()) return null;
     const told = servedNow().offers[trip.trip], own = offerOf(trip.trip);
     if (own && isKeptElsewhere(trip, own.old)) return null;
+    // (a plan that has not ended may still give what was said)
+    if (own?.asking !== undefined && stored(ASKING)[own.asking]) return null;
     if (own || !holds(told, trip) || holds(stored(SAID)[trip.trip], trip) || holds(servedNow().bookings[trip.trip], trip)) return own;
     return { said: { mode: told.mode, minute: told.minute, by: null, drive: driveOf(trip), lead: agency().lead, change: told.offer === "change" }, old: null, counted: true,
         elsewhere: told.offer === "change" ? "change" : "booking" };
 }
+
+/** When the site made the file of the day that was read last, or null where it does not say. */
+export const toldMade = () => servedNow().made;
 
 /** The offers that the site's log knows and nobody has answered, by trip, for the list of what waits. */
 export const offersTold = () => Object.entries(servedNow().offers).filter(([, it]) => Number.isInteger(it?.rider) && Number.isInteger(it.minute))

@@ -1,5 +1,7 @@
 // What was asked of the desk for a rider's trips, and what came of each. Nothing here knows of a page or of the desk.
 
+import { isOfMinute, isRule } from "./wishes.js";
+
 /** @typedef {import("../types").Wish} Wish */
 /** @typedef {"planned" | "sending" | "booked" | "denied" | "unsent" | "nothing" | "offered" | "cancelled" | "stands"} State planned: it waits for its turn; unsent: the page
  *   was gone before its turn came; nothing, offered, cancelled, stands: what the desk had of it once its window was closed */
@@ -42,6 +44,15 @@ export function afterAnswer(legs, asked, reply, late) {
     const at = lastAt(legs, (leg) => isSame(leg, asked) && leg.state === "sending");
     return legs.map((leg, index) => (index !== at ? leg
         : { ...leg, ...asked, state: reply.denied === undefined ? "booked" : "denied", reply: reply.denied === undefined ? reply.value : reply, late: leg.late || late }));
+}
+
+/** The denial that is to be counted with an answer: the page that asked is gone, so its plan counts none. null where it is none of what the rider said.
+ * @param {Leg[]} legs as they are before the answer @param {{ rider: number, trip: number | null, wish: Wish }} asked @param {{ denied?: string }} reply
+ */
+export function denialOfGone(legs, asked, { denied }) {
+    const leg = legs[lastAt(legs, (it) => isSame(it, asked) && it.state === "sending")];
+    if (!leg?.cut || !leg.said || denied === undefined || !isRule(denied) || isOfMinute(denied)) return null;
+    return { day: asked.wish.day, minute: leg.said.minute, rule: denied, mode: /** @type {import("./wishes.js").Mode} */ (leg.said.mode) };
 }
 
 /** The page was loaded anew: what waited for its turn never went out, and whoever asked sees no answer of what did.

@@ -10,7 +10,8 @@ import { keepObject, keptObject } from "./kept.js";
 import { dropNote, note } from "./notes.js";
 import { riderLabel } from "./roster.js";
 import { makeScreen } from "./screen.js";
-import { afterAnswer, afterEnding, afterLoading, afterPlanning, afterReading, afterSending, afterTakingUp, riderOfChange, toBeRead } from "./sent-list.js";
+import { afterAnswer, afterEnding, afterLoading, afterPlanning, afterReading, afterSending, afterTakingUp, denialOfGone, riderOfChange, toBeRead } from "./sent-list.js";
+import { count } from "./tally.js";
 import { isOfMinute } from "./wishes.js";
 import { t } from "./words.js";
 
@@ -162,5 +163,8 @@ desk.whenSending(({ path, fields }) => {
 });
 desk.whenWrote(({ path, fields, reply, waited }) => {
     const asked = askedIn(path, fields);
-    if (asked && reply.denied !== "left") keep(afterAnswer(legs(), asked, reply, waited || !isSeen(asked.rider)));
+    if (!asked || reply.denied === "left") return;
+    const denial = denialOfGone(legs(), asked, reply);
+    if (denial) count("denials", denial);
+    keep(afterAnswer(legs(), asked, reply, waited || !isSeen(asked.rider)));
 });

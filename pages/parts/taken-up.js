@@ -1,7 +1,7 @@
 // What came of a request whose window was closed before the answer, by the rider's trips as they are now. Nothing here knows of a page or of the
 // desk, and nothing is sent again: what the desk does not have was not done.
 
-import { isAsSaid, requestsOf } from "./wishes.js";
+import { isAsSaid, mayGoOn, requestsOf } from "./wishes.js";
 
 /** @typedef {import("../types").Trip} Trip */
 /** @typedef {import("../types").Wish} Wish */
@@ -39,6 +39,8 @@ export function cameOf(asking, trips, { age, isKnown }) {
         return !last ? { is: "waits" } : trip ? { is: "stands", trip } : { is: "nothing" };
     }
     const trip = foundIn(asking, trips, isKnown);
-    if (trip) return { is: asking.agreed || isAsSaid(asking.said, trip) ? "booked" : "offered", trip };
-    return { is: last ? "nothing" : "waits" };
+    if (!trip) return { is: last ? "nothing" : "waits" };
+    if (asking.agreed || isAsSaid(asking.said, trip)) return { is: "booked", trip };
+    // (the plan may have asked for a nearer time, and that reply is the last one)
+    return last || !mayGoOn(asking.said, trip) ? { is: "offered", trip } : { is: "waits" };
 }

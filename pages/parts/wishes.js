@@ -195,6 +195,14 @@ export function nextStep(said, answers) {
     return { is: "denied", reason: /** @type {Answer<Reply>} */ (reason) };
 }
 
+/** Whether a plan may have asked for a nearer time than that of a trip which is not what was said.
+ * @param {Said} said @param {Window & { wish: number, by: number | null }} trip
+ */
+export function mayGoOn(said, trip) {
+    const request = requestsOf(said).find(({ wish, by }) => wish === trip.wish && by === trip.by) ?? requestsOf(said).find(({ wish }) => wish === trip.wish);
+    return request !== undefined && nearer(said, request, trip, 0) !== null;
+}
+
 /** The rule that is counted of a plan that did not give what was said, or null where no rule denied it. An offer beyond the hour is a denial of what
  * was said, for lack of a vehicle (49 CFR 37.131(b)(2)); where the very minute was denied by a rule, that rule counts.
  * @template {AnyReply} Reply
@@ -212,12 +220,15 @@ export function countedRule(said, step) {
  */
 export const isRule = (name) => name === FULL || /^\d/.test(name);
 
-/** The first and the last minute of a pickup that would have done.
+/** The first and the last minute of a pickup that was looked for; not before a minute, a request without a bound reaches an hour further.
  * @param {Said} said @returns {[number, number]}
  */
 export function searched(said) {
     const { mode, minute } = said;
-    if (mode === "not-before") return [minute, cut(minute + NEGOTIATED_MINUTES)];
+    if (mode === "not-before") {
+        const latest = requestsOf(said).filter(({ bound }) => !bound).map(({ wish }) => wish);
+        return [minute, cut(Math.max(minute, ...latest) + NEGOTIATED_MINUTES)];
+    }
     if (mode === "around") return [cut(minute - NEGOTIATED_MINUTES), cut(minute + NEGOTIATED_MINUTES)];
     return [cut(Math.min(...requestsOf(said).map(({ wish }) => wish)) - NEGOTIATED_MINUTES), minute];
 }

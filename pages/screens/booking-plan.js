@@ -2,9 +2,10 @@
 // parts/wishes.js.
 
 import { agency } from "../parts/agency.js";
-import { minuteNow, momentNow, today } from "../parts/clock.js";
+import { isNewer, LONGEST, noOf } from "../parts/answering.js";
+import { minuteNow, momentNow, serverNow, today } from "../parts/clock.js";
 import * as desk from "../parts/desk.js";
-import { beginAsking, driveOf, dropOffer, endAsking, isKeptElsewhere, keepOffer, keepSaid, leaveAsking } from "../parts/said.js";
+import { beginAsking, driveOf, dropOffer, endAsking, isKeptElsewhere, keepOffer, keepSaid, leaveAsking, toldMade } from "../parts/said.js";
 import { belongs } from "../parts/sent.js";
 import { cancelTrip, count, countLater } from "../parts/tally.js";
 import { countedRule, isAsSaid, nextStep, otherRequests } from "../parts/wishes.js";
@@ -12,6 +13,12 @@ import { drivers } from "./trips-today.js";
 
 // For so long a way back may still be asked for, in milliseconds, once the way there was denied.
 const UNTIL_LOST = 600_000;
+/** How often the site's file is looked at while a No waits for it, in milliseconds. */
+const LOOKED = 1_500;
+/** When this window got each offer.
+ * @type {Map<number, number>}
+ */
+const offeredAt = new Map();
 
 /** @typedef {import("../types").Trip} Trip */
 /** @typedef {import("../types").Ticket} Ticket */
@@ -33,6 +40,7 @@ const UNTIL_LOST = 600_000;
  * @property {Ticket | null} offer a trip that stands and is not what the rider said, until that is answered
  * @property {Ticket | null} refused an offer that the rider did not want: the trip is given up
  * @property {Trip | null} [moved] the trip of such an offer where another clerk has put it to another time
+ * @property {"looking" | "unsure"} [no] how far a No to the offer has come
  * @property {boolean} other whether other times were tried
  * @property {string | null} waitsFor the leg that has to be booked before
  * @property {string} [marked] the moment at which a copy of the desk's file was asked for, so that a log can say why it was denied
@@ -86,7 +94,7 @@ async function carriedOut({ rider, trip }, leg, id) {
         const again = trip ?? (standing ? /** @type {Trip} */ ({ ...leg.wish, ...standing, status: "booked" }) : null);
         const reply = await sent(rider, { ...leg.wish, wish, by }, again);
         answers.push({ request: step.request, reply });
-        if (reply.value !== undefined && !isAsSaid(leg.said, reply.value)) keepOffer(reply.value.trip, { said: leg.said, old: trip, counted: false });
+        if (reply.value !== undefined && !isAsSaid(leg.said, reply.value)) keepOffer(reply.value.trip, { said: leg.said, old: trip, counted: false, asking: id });
     }
 }
 
@@ -169,6 +177,7 @@ function afterPlan(leg, step, old) {
         return { ticket, denied: null, wish };
     }
     keepOffer(ticket.trip, { said: leg.said, old, counted: countedRule(leg.said, step) !== null });
+    offeredAt.set(ticket.trip, serverNow());
     return { offer: ticket, denied: null, wish };
 }
 
@@ -208,7 +217,7 @@ export function askerOf(given) {
     const carryOn = async (/** @type {Leg} */ leg, /** @type {() => Promise<Partial<Leg>>} */ act) => {
         if (state().busy) return;
         change({ busy: true });
-        const patch = await act();
+        const patch = { no: undefined, ...await act() };
         if (patch.ticket) losses.drop(state().legs, leg.key);
         if (patch.refused) losses.hold(state().legs, leg.key);
         set(leg.key, patch);
@@ -225,7 +234,7 @@ export function askerOf(given) {
         tellBooked(leg, told.ticket);
         return { ticket: told.ticket, denied: null, other: true };
     });
-    const answer = (/** @type {Leg} */ leg, /** @type {boolean} */ yes) => carryOn(leg, () => afterAnswer(leg, yes, given).finally(() => { if (!yes) booked(); }));
+    const answer = (/** @type {Leg} */ leg, /** @type {boolean} */ yes) => carryOn(leg, () => afterAnswer(leg, yes, given, () => set(leg.key, { no: "looking" })).finally(() => { if (!yes) booked(); }));
     const mark = (/** @type {Leg} */ { key, wish: { day }, said: { mode, minute } }) => {
         if (find(key)?.marked) return;
         const at = momentNow();
@@ -236,8 +245,32 @@ export function askerOf(given) {
     return { rest, tryOthers, answer, mark, leave: losses.tell };
 }
 
-/** @typedef {{ is: "stands" | "gone" | "moved" | "begun" | "left", now: Trip | null }} Now what the desk has of an offer: another clerk may have given it up (gone) or put the
- *   trip to another time (moved), its pickup window may have begun, and the screen may have been left before the answer */
+/** @typedef {{ is: "stands" | "gone" | "moved" | "begun" | "left" | "unsure", now: Trip | null }} Now what the desk has of an offer: another clerk may have given it up (gone) or put the
+ *   trip to another time (moved), its pickup window may have begun, the screen may have been left
+ *   before the answer, and somebody else may have kept it where nobody can look (unsure) */
+
+/** Waits until the site's file has all that was answered before now, for a while at most.
+ * @param {() => void} looking is called where it waits
+ */
+async function heardAnswers(looking) {
+    const since = serverNow(), ends = performance.now() + LONGEST, told = drivers();
+    await told?.again();
+    if (!isNewer(toldMade(), since)) looking();
+    while (told && !isNewer(toldMade(), since) && performance.now() < ends) {
+        await new Promise((go) => { setTimeout(go, LOOKED); });
+        await told.again();
+    }
+}
+
+/** What is looked at before an offer is given up.
+ * @param {number} rider @param {Ticket} offer @param {Trip | null} old @param {() => void} looking @returns {Promise<Now>}
+ */
+export async function offerBeforeNo(rider, offer, old, looking) {
+    const at = offeredAt.get(offer.trip), no = noOf({ age: at === undefined ? null : serverNow() - at, canRead: drivers() !== null });
+    if (no === "look") await heardAnswers(looking);
+    const found = await offerNow(rider, offer, old);
+    return no === "unsure" && found.is === "stands" ? { ...found, is: "unsure" } : found;
+}
 
 /** What the desk has of an offer by now, and the site's log for who may read it: what another clerk kept is not given up by an answer from before.
  * @param {number} rider @param {Ticket} offer @param {Trip | null} old gets what the desk has of a trip that is back @returns {Promise<Now>}
@@ -255,12 +288,13 @@ export async function offerNow(rider, offer, old) {
 }
 
 /** What the record has of a leg once the rider has answered its offer.
- * @param {Leg} leg @param {boolean} yes @param {{ rider: number, trip: Trip | null }} given @returns {Promise<Partial<Leg>>}
+ * @param {Leg} leg @param {boolean} yes @param {{ rider: number, trip: Trip | null }} given @param {() => void} looking @returns {Promise<Partial<Leg>>}
  */
-async function afterAnswer(leg, yes, { rider, trip: old }) {
+async function afterAnswer(leg, yes, { rider, trip: old }, looking) {
     const { offer } = leg;
     if (!offer) return {};
-    const { is, now } = await offerNow(rider, offer, old);
+    const { is, now } = await (yes ? offerNow(rider, offer, old) : offerBeforeNo(rider, offer, old, looking));
+    if (is === "unsure") return { no: "unsure" };
     if (is === "left" || is === "begun") return {};
     if (is === "gone" || is === "moved") return { offer: null, refused: offer, moved: is === "moved" ? now : null };
     // (what another clerk kept for the rider is not cancelled by an answer from before)

@@ -72,8 +72,10 @@ async function questionOf({ rider, trip }, legs) {
     if (!nowhere && !same.length && !meeting.length) return null;
     const list = (/** @type {Trip[]} */ trips) => part("ul", {}, trips.map((it) => part("li", {}, t("booking.same-trip", { trip: it.trip, day: dayInWords(it.day),
         window: windowOf(it), from: placeName(it.from), to: placeName(it.to) }))));
-    return { question: same.length ? t("booking.same-question", { count: same.length, rider: riderLabel(rider) })
-        : t(meeting.length ? "booking.meets-question" : "booking.nowhere-question", { rider: riderLabel(rider), place: placeName(legs[0].wish.from) }),
+    const question = same.length ? t("booking.same-question", { count: same.length, rider: riderLabel(rider) })
+        : t(meeting.length ? "booking.meets-question" : "booking.nowhere-question", { rider: riderLabel(rider), place: placeName(legs[0].wish.from) });
+    // (a rider without a name begins with a word in small letters)
+    return { question: question.charAt(0).toUpperCase() + question.slice(1),
     detail: [nowhere && (same.length > 0 || meeting.length > 0) && part("p", {}, t("booking.nowhere", { place: placeName(legs[0].wish.from) })), same.length > 0 && list(same),
         same.length > 0 && meeting.length > 0 && part("p", {}, t("booking.meets")), meeting.length > 0 && list(meeting)],
     yes: t(trip ? "booking.change-yes" : same.length ? "booking.same-yes" : "booking.all-the-same") };
@@ -123,7 +125,7 @@ function legShown(leg, about, acts, busy) {
     const { rider, trip } = about, { ticket, offer, refused, said, wish, key } = leg, id = `leg-${key}`;
     if (ticket) return part("li", { key }, ticketOf({ rider, ticket, wish, said }, { id,
         heading: t(trip ? "booking.changed-for" : "booking.booked-for", { trip: ticket.trip, rider: riderLabel(rider) }) }));
-    if (offer) return part("li", { key }, offerShown({ trip: { ...wish, ...offer }, said, old: trip, denied: leg.denied, id, busy, answer: (yes) => acts.answer(leg, yes) }));
+    if (offer) return part("li", { key }, offerShown({ trip: { ...wish, ...offer }, said, old: trip, denied: leg.denied, id, busy, no: leg.no, answer: (yes) => acts.answer(leg, yes) }));
     if (refused) return part("li", { key }, part("section", { class: "refused", tabindex: -1, id, "aria-label": refusedWords(trip, leg.moved) },
         part("h3", {}, refusedWords(trip, leg.moved)), part("p", {}, t("booking.offer-counted"))));
     if (leg.denied) return part("li", { key }, deniedShown(leg, about, acts, busy));

@@ -9,7 +9,7 @@ import { keepOffer, openOffer } from "../parts/said.js";
 import { makeScreen } from "../parts/screen.js";
 import { count } from "../parts/tally.js";
 import { t } from "../parts/words.js";
-import { givenUp, hasBegun, offerFields, offerNow, tellBooked } from "./booking-plan.js";
+import { givenUp, hasBegun, offerBeforeNo, offerFields, offerNow, tellBooked } from "./booking-plan.js";
 import { saidWords, windowOf } from "./ticket.js";
 
 /** @typedef {import("../types").Trip} Trip */
@@ -24,18 +24,20 @@ import { saidWords, windowOf } from "./ticket.js";
  * @property {Denied | null} denied why it could not be given up
  * @property {string} id
  * @property {boolean} busy
+ * @property {"looking" | "unsure"} [no] how far a No has come
  * @property {(yes: boolean) => void} answer
  */
 
 /** An offer in one sentence, the whole of it, and its two answers.
  * @param {Shown} shown
  */
-export function offerShown({ trip, said, old, elsewhere, denied, id, busy, answer }) {
+export function offerShown({ trip, said, old, elsewhere, denied, id, busy, no, answer }) {
     const far = trip.window_from - said.minute, time = clock(said.minute), disabled = busy ? "true" : null, isLate = hasBegun(trip);
     const heading = t(far > 0 ? "booking.offer-after" : "booking.offer-before", { offer: clock(trip.window_from), minutes: Math.abs(far), time });
     return part("section", { class: "offer", tabindex: -1, id, "data-offer": trip.trip, "aria-label": heading }, part("h3", {}, heading),
         part("p", {}, t("booking.offer-trip", { trip: trip.trip, day: dayInWords(trip.day), window: windowOf(trip), from: placeName(trip.from), to: placeName(trip.to),
             said: saidWords(said) })), part("p", {}, t(isLate ? "booking.offer-begun" : elsewhere === "change" ? "booking.offer-changed-elsewhere" : old ? "booking.offer-of-change" : "booking.offer-asks")), denied && denialOf(denied, "cancel"),
+        part("p", { role: "status" }, no && t(`booking.offer-${no}`, { trip: trip.trip })),
         !isLate && part("div", { class: "row" }, button(t("booking.offer-yes", { trip: trip.trip }), () => answer(true), { class: "main", "aria-disabled": disabled }),
             elsewhere !== "change" && button(t(old ? "booking.offer-back" : "booking.offer-no", { trip: trip.trip, window: old ? windowOf(old) : "" }), () => answer(false), { "aria-disabled": disabled })));
 }
@@ -49,29 +51,30 @@ export const refusedWords = (old, moved = null) => (moved ? t("booking.offer-mov
  * @param {number} rider @param {() => void} changed what is done once one was answered
  */
 export function offersOf(rider, changed) {
-    const screen = makeScreen({ state: { trips: /** @type {Trip[]} */ ([]), busy: false, denied: /** @type {Record<number, Denied>} */ ({}), told: /** @type {string | null} */ (null) },
-        class: "offers", draw: ({ trips, busy, denied, told }) => [part("div", { role: "status", id: `offers-${rider}`, tabindex: -1 }, told && part("p", { class: "good" }, told)),
+    const screen = makeScreen({ state: { trips: /** @type {Trip[]} */ ([]), busy: false, denied: /** @type {Record<number, Denied>} */ ({}), no: /** @type {Record<number, "looking" | "unsure">} */ ({}), told: /** @type {string | null} */ (null) },
+        class: "offers", draw: ({ trips, busy, denied, no, told }) => [part("div", { role: "status", id: `offers-${rider}`, tabindex: -1 }, told && part("p", { class: "good" }, told)),
             trips.length > 0 && part("section", { class: "card" }, part("h2", {}, t("booking.offers-open", { rider: riderLabel(rider), count: trips.length })),
-                trips.map((trip) => one(trip, busy, denied[trip.trip] ?? null)))] });
-    /** @param {Trip} trip @param {boolean} busy @param {Denied | null} denied */
-    const one = (trip, busy, denied) => {
+                trips.map((trip) => one(trip, busy, denied[trip.trip] ?? null, no[trip.trip])))] });
+    /** @param {Trip} trip @param {boolean} busy @param {Denied | null} denied @param {"looking" | "unsure"} [no] */
+    const one = (trip, busy, denied, no) => {
         const offer = openOffer(trip);
-        return offer && offerShown({ trip, said: offer.said, old: offer.old, elsewhere: offer.elsewhere, denied, id: `offer-${trip.trip}`, busy, answer: (yes) => answer(trip, yes) });
+        return offer && offerShown({ trip, said: offer.said, old: offer.old, elsewhere: offer.elsewhere, denied, id: `offer-${trip.trip}`, busy, no, answer: (yes) => answer(trip, yes) });
     };
     const left = (/** @type {number} */ trip) => screen.state.trips.filter((it) => it.trip !== trip);
     const answer = async (/** @type {Trip} */ trip, /** @type {boolean} */ yes) => {
         const offer = openOffer(trip);
         if (!offer || screen.state.busy) return;
         screen.change({ busy: true });
-        const { is, now } = await offerNow(rider, trip, offer.old);
-        if (is === "left" || is === "begun") {
-            screen.change({ busy: false });
+        const looking = () => screen.change({ no: { [trip.trip]: "looking" } });
+        const { is, now } = await (yes ? offerNow(rider, trip, offer.old) : offerBeforeNo(rider, trip, offer.old, looking));
+        if (is === "left" || is === "begun" || is === "unsure") {
+            screen.change({ busy: false, no: is === "unsure" ? { [trip.trip]: is } : {} });
             return;
         }
         // (another clerk may have answered it meanwhile)
         const kept = is === "stands" && (yes || openOffer(trip) === null), denied = kept || is !== "stands" ? null : await givenUp(trip.trip, offer.old);
         if (kept && yes) tellBooked({ wish: trip, said: offer.said }, trip);
-        screen.change(denied ? { busy: false, denied: { [trip.trip]: denied } } : { busy: false, trips: left(trip.trip),
+        screen.change(denied ? { busy: false, no: {}, denied: { [trip.trip]: denied } } : { busy: false, no: {}, trips: left(trip.trip),
             told: kept ? t("booking.offer-kept", { trip: trip.trip }) : refusedWords(offer.old, is === "moved" ? now : null) }, { focus: denied ? `offer-${trip.trip}` : `offers-${rider}` });
         changed();
     };

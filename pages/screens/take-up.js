@@ -14,7 +14,10 @@ const AGAIN = 15_000;
 
 /** @param {Asking} asking @param {Trip[]} trips */
 function takeOne(asking, trips) {
-    const came = cameOf(asking, trips, { age: Date.now() - asking.since, isKnown: (trip) => saidOf(trip) !== null || offerOf(trip.trip) !== null });
+    const isAnothers = (/** @type {number} */ trip) => offerOf(trip) !== null && offerOf(trip)?.asking !== asking.id;
+    // (a write that this window goes on with may still change what the trip is)
+    if (desk.isWriting()) return;
+    const came = cameOf(asking, trips, { age: Date.now() - asking.since, isKnown: (trip) => saidOf(trip) !== null || isAnothers(trip.trip) });
     if (came.is === "waits") return;
     const isBooking = asking.cancels === undefined;
     if (isBooking && came.is === "booked") tellBooked({ wish: came.trip, said: asking.said }, came.trip);

@@ -105,6 +105,30 @@ def a_no_to_what_another_clerk_has_kept_just_now_cancels_nothing(at):
 
 
 @check
+def a_no_waits_for_what_another_clerk_has_answered_just_before(at):
+    trip = offered(at)
+    kept = {trip["trip"]: {"mode": "not-before", "minute": 540, "from": trip["window_from"], "to": trip["window_to"]}}
+    try:
+        at.town.write_file("staff/today.json", json.dumps({"made": "2020-01-01T00:00:00Z", "bookings": {}, "offers": {}}))
+        # (another window than the one that got the offer)
+        at.browser.reload()
+        begin(at, "1006")
+        at.browser.sees(WAITS)
+        at.browser.requests()
+        at.browser.press(f"No, cancel trip {trip['trip']}")
+        at.browser.sees("Looking whether somebody else has answered")
+        same("the trip", "booked", status_of(at, trip))
+        at.town.write_file("staff/today.json", json.dumps({"made": "2099-01-01T00:00:00Z", "bookings": kept, "offers": {}}))
+        at.browser.sees(f"Trip {trip['trip']} is kept.")
+        asked = at.browser.requests()
+        holds(f"it is cancelled: {asked}", not any("/cancel" in it for it in asked))
+        same("the trip", "booked", status_of(at, trip))
+    finally:
+        at.town.write_file("staff/today.json", None)
+    at.town.post("third clerk", f"/trips/{trip['trip']}/cancel", {})
+
+
+@check
 def an_answer_to_what_was_put_to_another_time_says_so(at):
     for answer in ["Yes, keep", "No, cancel"]:
         trip = offered(at)

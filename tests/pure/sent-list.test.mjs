@@ -1,7 +1,7 @@
 // What came of each trip that was asked for, whatever happens to the page and the line.
 import assert from "node:assert/strict";
 import test from "node:test";
-import { afterAnswer, afterEnding, afterLoading, afterPlanning, afterReading, afterSending, riderOfChange, toBeRead } from "../../pages/parts/sent-list.js";
+import { afterAnswer, afterEnding, afterLoading, afterPlanning, afterReading, afterSending, denialOfGone, riderOfChange, toBeRead } from "../../pages/parts/sent-list.js";
 
 const wish = (day, from = 1, minute = 600) => ({ day, wish: minute, from, to: 9, by: null, attendant: false, companions: 0 });
 const asked = (day, from, minute, trip = null) => ({ rider: 7, trip, wish: wish(day, from, minute) });
@@ -73,4 +73,14 @@ test("after a reload a change that is answered is its rider's, and is told", () 
     assert.deepEqual([riderOfChange(legs, 12), riderOfChange(legs, 13)], [7, 0]);
     const told = afterAnswer(legs, { ...asked("2025-03-11", 1, 600, 12), rider: riderOfChange(legs, 12) }, ticket(12), true);
     assert.deepEqual(states(toBeRead(told, 7)), ["booked"]);
+});
+
+test("a denial that first comes after a reload is counted once, and that of a page that is there is not", () => {
+    const it = asked("2025-03-11"), denial = { denied: "37.125" };
+    const here = afterSending(afterPlanning([], { rider: 7, wanted: [planned(it.wish)] }), it), gone = afterLoading(JSON.parse(JSON.stringify(here)));
+    assert.equal(denialOfGone(here, it, denial), null);
+    assert.deepEqual(denialOfGone(gone, it, denial), { day: "2025-03-11", minute: 600, rule: "37.125", mode: "around" });
+    assert.equal(denialOfGone(afterAnswer(gone, it, denial, true), it, denial), null);
+    // (the rest of its plan was not asked, or no rule denied it)
+    for (const denied of ["no vehicle", "37.131(e)", "desk.key", undefined]) assert.equal(denialOfGone(gone, it, { denied }), null);
 });

@@ -20,7 +20,17 @@ for (const mode of ["around", "not-before", "by"]) test(`${mode}: what the desk 
 
 test("a trip that is not as it was said is an offer", () => {
     const it = said("not-before", 600), trip = tripOf(660, 700);
-    assert.deepEqual(cameOf(booking(it), [trip], soon), { is: "offered", trip });
+    assert.deepEqual(cameOf(booking(it), [trip], late), { is: "offered", trip });
+});
+
+test("a plan is judged by its last reply: what is not as it was said may still become it", () => {
+    const it = said("around", 550), [first, second] = requestsOf(it), asked = booking(it);
+    const early = tripOf(first.wish, 623), nearer = tripOf(second.wish, 516), far = tripOf(second.wish, 480);
+    assert.deepEqual([first.wish, second.wish], [595, 550]);
+    assert.deepEqual(cameOf(asked, [early], soon), { is: "waits" });
+    assert.deepEqual(cameOf(asked, [early], late), { is: "offered", trip: early });
+    for (const known of [soon, late]) assert.deepEqual(cameOf(asked, [nearer], known), { is: "booked", trip: nearer });
+    assert.deepEqual(cameOf(asked, [far], soon), { is: "offered", trip: far }, "nothing nearer is asked for after the last request");
 });
 
 test("another time that the rider has agreed to is booked, and none of the plan's is meant", () => {
@@ -52,7 +62,8 @@ test("a change is what the trip itself has, where anything of it is another", ()
     const moved = tripOf(wish, 600, { trip: 4 }), same = tripOf(wish, 480, { trip: 4 });
     for (const trip of [moved]) assert.deepEqual(cameOf(asked, [trip], { ...soon, isKnown: () => true }), { is: "booked", trip });
     assert.deepEqual(cameOf(booking(it, { old: tripOf(wish, 600, { trip: 4, companions: 1 }) }), [moved], soon), { is: "booked", trip: moved }, "who comes along changed alone");
-    assert.equal(cameOf(asked, [same], soon).is, "offered");
+    assert.equal(cameOf(asked, [same], soon).is, "waits");
+    assert.equal(cameOf(asked, [same], late).is, "offered");
 });
 
 test("a cancellation is what its trip says", () => {

@@ -179,10 +179,11 @@ test("other times: the nearer first, none that was asked, none that comes too la
     for (let minute = 0; minute < DAY; minute += 1) for (const said of saidAt(minute, 15, false)) for (const it of otherRequests(said, "either")) assert.ok(isMinute(it.wish));
 });
 
-test("what was searched is what would have done", () => {
+test("what was searched is all that the plan asked for", () => {
     const said = { mode: "around", minute: 540, by: null, drive: 15, lead: 15, change: false };
     assert.deepEqual(searched(said), [480, 600]);
-    assert.deepEqual(searched({ ...said, mode: "not-before" }), [540, 600]);
+    assert.deepEqual(searched({ ...said, mode: "not-before" }), [540, 660]);
+    assert.deepEqual(searched({ ...said, mode: "not-before", change: true }), [540, 600]);
     assert.deepEqual(searched({ ...said, mode: "not-before", minute: 1430 }), [1430, LAST]);
     assert.deepEqual(searched({ ...said, mode: "by", minute: 600 }), [430, 600]);
 });

@@ -66,7 +66,7 @@ export const words = {
     "cases.on-record": ({ entry }) => `Letter ${entry} as it is on record`,
     "cases.few-reasons": "These reasons are very short. The letter has to say specifically why. (49 CFR 37.125(d))",
     "cases.seen-in-time": ({ arrived, wait }) => `The van was there at ${arrived} and waited ${wait} minutes.`,
-    "cases.seen-late": ({ arrived, late }) => `The van came at ${arrived}, ${late} minutes after the window. Such a trip is the agency's, and no ground for a notice.`,
+    "cases.seen-late": ({ arrived, late }) => `The van came at ${arrived}, ${late} ${late === 1 ? "minute" : "minutes"} after the window. Such a trip is the agency's, and no ground for a notice.`,
     "cases.seen-short": ({ arrived, wait, minutes }) => `The van was there at ${arrived} and waited ${wait} minutes of ${minutes}.`,
     "cases.seen-no-arrival": "The driver entered no arrival.",
     "cases.seen-none": "The driver reported nothing of this trip.",

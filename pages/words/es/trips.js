@@ -14,7 +14,7 @@ export const words = {
     "trips.by-time": ({ by }) => `estar allí a más tardar a las ${by}`,
     "trips.closed": ({ name }) => `Ese día no hay servicio${name && `: ${name}`}. Llame al pasajero.`,
     "trips.closed-rider": ({ name }) => `Ese día no hay servicio${name && `: ${name}`}. La agencia le llamará.`,
-    "trips.today-window": "Recogida entre las",
+    "trips.today-window": "Horario de recogida",
     "trips.today-trip": ({ trip }) => `Viaje ${trip}.`,
     "trips.today-waits": ({ van }) => `${van}, todavía sin noticias`,
     "trips.today-over": ({ van }) => `La hora de recogida ya pasó y no hay noticias de ${van}`,
