@@ -294,6 +294,8 @@ export const words = {
     "dispatcher.need-late-of": ({ vehicle, more }) => `${vehicle}: ${more} minutes late`,
     "dispatcher.need-risk": "Will miss the window",
     "dispatcher.need-risk-of": ({ vehicle, more }) => `${vehicle}: pickup about ${more}, after its window`,
+    "dispatcher.need-passed": "Pickup without update",
+    "dispatcher.need-passed-of": ({ vehicle, more }) => `${vehicle}: no update on the pickup of ${more}, and its window has closed`,
     "dispatcher.need-silent": "No update",
     "dispatcher.need-silent-of": ({ vehicle, more }) => `${vehicle}: no update for ${more}`,
     "dispatcher.need-no-show": "No-shows to confirm",

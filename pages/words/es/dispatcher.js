@@ -294,6 +294,8 @@ export const words = {
     "dispatcher.need-late-of": ({ vehicle, more }) => `${vehicle}: ${more} minutos tarde`,
     "dispatcher.need-risk": "Perderá el horario",
     "dispatcher.need-risk-of": ({ vehicle, more }) => `${vehicle}: recogida hacia ${more}, después de su horario`,
+    "dispatcher.need-passed": "Recogida sin aviso",
+    "dispatcher.need-passed-of": ({ vehicle, more }) => `${vehicle}: sin aviso de la recogida de ${more}, y su horario ya terminó`,
     "dispatcher.need-silent": "Sin aviso",
     "dispatcher.need-silent-of": ({ vehicle, more }) => `${vehicle}: sin aviso desde hace ${more}`,
     "dispatcher.need-no-show": "Ausencias por confirmar",
