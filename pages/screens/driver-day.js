@@ -61,6 +61,13 @@ function elsewhereOf(known, trip, log) {
     return it && (it.minute === null || it.minute < began) ? it : null;
 }
 
+/** What others told of a trip that speaks against a no-show, whenever it was: the rider is aboard or rode. What this phone told itself is not theirs.
+ * @param {Known} known @param {Entry[]} log @param {number | undefined} trip */
+export function othersHave(known, log, trip = 0) {
+    const how = known[trip]?.how ?? "", isMine = log.some(({ tap }) => tap.trip === trip && tap.what === how);
+    return (how === "aboard" || how === "ridden") && !isMine ? how : null;
+}
+
 /** The stops of a day with all that is to be shown of each, and which of them is next (-1: none).
  * @param {Stop[]} stops @param {Entry[]} log of this vehicle and day, in its order @param {Known} [known] */
 export function dayOf(stops, log, known = {}) {

@@ -1,7 +1,7 @@
 import assert from "node:assert/strict";
 import { test } from "node:test";
 
-import { behindBy, choicesAt, dayOf, evidenceOf, leftOpen, minuteOn, skipped } from "../../pages/screens/driver-day.js";
+import { behindBy, choicesAt, dayOf, evidenceOf, leftOpen, minuteOn, othersHave, skipped } from "../../pages/screens/driver-day.js";
 
 const DAY = "2025-03-11";
 const STOPS = [
@@ -45,6 +45,14 @@ test("the wait counts from the window's begin, to the second", () => {
 test("a van that comes after midnight is late, not early", () => {
     assert.equal(minuteOn("2025-03-12T00:05:00", DAY), 1445);
     assert.equal(evidenceOf(pickup([entry("PICK 9", "arrived", "2025-03-12T00:05:00")]), 5, DAY, "2025-03-12T00:12:00").doubt, "late");
+});
+
+test("another phone's aboard speaks against a no-show whenever it was; this phone's own does not", () => {
+    const known = (how) => ({ 9: { how, minute: 530 } }), here = [entry("PICK 9", "arrived", at(500))];
+    for (const how of ["aboard", "ridden"]) assert.equal(othersHave(known(how), here, 9), how);
+    for (const how of ["missed-rider", "missed-operator"]) assert.equal(othersHave(known(how), here, 9), null);
+    assert.equal(othersHave(known("aboard"), [...here, entry("PICK 9", "aboard", at(530))], 9), null);
+    assert.deepEqual([othersHave({}, here, 9), othersHave(known("aboard"), here, 8), othersHave(known("aboard"), here, undefined)], [null, null, null]);
 });
 
 test("at the drop the pickup's window and arrival count", () => {

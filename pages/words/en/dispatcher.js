@@ -233,6 +233,7 @@ export const words = {
     "dispatcher.out-away-question": "Discard the list before everybody has a trip?",
     "dispatcher.out-away-detail": "Riders without a trip are in no list here then. Print it first.",
     "dispatcher.out-away-yes": "Yes, discard it",
+    "dispatcher.ends-later": ({ minutes, window, before, vehicle }) => `The window ends ${minutes} minutes later: ${window} instead of ${before}, in ${vehicle}.`,
     "dispatcher.later": ({ minutes, window, before, vehicle }) => `${minutes} minutes later: ${window} instead of ${before}, in ${vehicle}.`,
     "dispatcher.earlier": ({ minutes, window, before, vehicle }) => `${minutes} minutes earlier: ${window} instead of ${before}, in ${vehicle}.`,
     "dispatcher.other-due": ({ due, before }) => `To pay: ${due} instead of ${before}.`,

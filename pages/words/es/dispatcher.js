@@ -233,6 +233,7 @@ export const words = {
     "dispatcher.out-away-question": "¿Descartar la lista antes de que todos tengan viaje?",
     "dispatcher.out-away-detail": "Los pasajeros sin viaje ya no estarán aquí en ninguna lista. Imprímala primero.",
     "dispatcher.out-away-yes": "Sí, descartarla",
+    "dispatcher.ends-later": ({ minutes, window, before, vehicle }) => `El horario termina ${minutes} minutos más tarde: ${window} en vez de ${before}, en ${vehicle}.`,
     "dispatcher.later": ({ minutes, window, before, vehicle }) => `${minutes} minutos más tarde: ${window} en vez de ${before}, en ${vehicle}.`,
     "dispatcher.earlier": ({ minutes, window, before, vehicle }) => `${minutes} minutos antes: ${window} en vez de ${before}, en ${vehicle}.`,
     "dispatcher.other-due": ({ due, before }) => `A pagar: ${due} en vez de ${before}.`,
