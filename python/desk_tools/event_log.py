@@ -6,6 +6,7 @@ part. A line that can't be read is named and passed over. One that came twice, b
 
 import datetime
 import gzip
+import re
 import zlib
 from collections.abc import Iterable, Iterator
 from dataclasses import dataclass, field
@@ -16,6 +17,10 @@ from desk_tools.events import EVENTS, PREFIX, Value, fields_of
 LONGEST = 4_096
 # Whose keys tell an event: as deploy/desk.nginx writes it.
 TELLERS = ("office", "dispatcher", "vehicle", "other")
+# How the site begins a line.
+START = re.compile(
+    rb"\d{4}-\d\d-\d\dT\d\d:\d\d:\d\d(?:[+-]\d\d:\d\d|Z)\t" + PREFIX.encode("ascii")
+)
 
 
 class UnreadableLog(Exception):
@@ -75,10 +80,11 @@ def read(paths: Iterable[str | Path]) -> Log:
     for at, name in enumerate(names):
         number, known_before = 0, len(found)
         for number, line in enumerate(lines_in(name), 1):
-            try:
-                found.append((at, number, whole_of(line)))
-            except ValueError as error:
-                broken.append((at, number, str(error)))
+            for piece in apart(line):
+                try:
+                    found.append((at, number, whole_of(piece)))
+                except ValueError as error:
+                    broken.append((at, number, str(error)))
         # A log of one line may be that of a machine that lost its power there. More lines than one are another file.
         if number > 1 and len(found) == known_before:
             raise UnreadableLog(
@@ -106,10 +112,21 @@ def lines_in(path: str | Path) -> Iterator[bytes]:
         raise UnreadableLog(f"{path} can't be read: {why}") from None
 
 
+def apart(line: bytes) -> list[bytes]:
+    """The lines that stand in one: where a line was cut off in the middle, the site wrote the next event behind it."""
+    starts = [it.start() for it in START.finditer(line, 1)]
+    return [line[at:end] for at, end in zip([0, *starts], [*starts, len(line)])]
+
+
 def whole_of(line: bytes) -> Told:
     """The event of a line with its end. One that is cut off is none: its last field may be, too."""
-    told = told_of(line.rstrip(b"\r\n"))
-    if not line.endswith(b"\n") and not told.by:
+    if line.endswith(b"\n"):
+        return told_of(line.rstrip(b"\r\n"))
+    try:
+        told = told_of(line)
+    except ValueError as error:
+        raise ValueError(f"it is cut off: {error}") from None
+    if not told.by:
         raise ValueError("it is cut off")
     return told
 

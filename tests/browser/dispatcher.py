@@ -377,7 +377,7 @@ def one_search_finds_by_all_words_and_opens_the_manifest_at_the_stop(at):
 
 def spoken(minute):
     hour = minute // 60
-    return f"{(hour + 11) % 12 + 1}:{minute % 60:02} {'am' if hour < 12 else 'pm'}"
+    return f"{(hour + 11) % 12 + 1}:{minute % 60:02} {'AM' if hour < 12 else 'PM'}"
 
 
 # What drivers told of vans 1 and 2, and a phone of van 9 of a trip on which entries disagree.
