@@ -66,7 +66,9 @@ function elsewhereOf(known, trip, log) {
 /** What others told of a trip that speaks against a no-show, whenever it was: the rider is aboard or rode. What this phone told itself is not theirs.
  * @param {Known} known @param {Entry[]} log @param {number | undefined} trip */
 export function othersHave(known, log, trip = 0) {
-    const how = known[trip]?.how ?? "", isMine = log.some(({ tap }) => tap.trip === trip && tap.what === how);
+    const { how, minute } = known[trip] ?? { how: "", minute: null }, isUndone = (/** @type {{ what: string, at: string }} */ { what, at }) => what === "undone"
+        && minute !== null && Math.floor(secondsOf(at) / MINUTE) >= minute;
+    const isMine = log.some(({ tap }) => tap.trip === trip && (tap.what === how || isUndone(tap)));
     return (how === "aboard" || how === "ridden") && !isMine ? how : null;
 }
 

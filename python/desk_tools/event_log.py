@@ -18,9 +18,7 @@ LONGEST = 4_096
 # Whose keys tell an event: as deploy/desk.nginx writes it.
 TELLERS = ("office", "dispatcher", "vehicle", "other")
 # How the site begins a line.
-START = re.compile(
-    rb"\d{4}-\d\d-\d\dT\d\d:\d\d:\d\d(?:[+-]\d\d:\d\d|Z)\t" + PREFIX.encode("ascii")
-)
+START = re.compile(rb"\d{4}-\d\d-\d\dT\d\d:\d\d:\d\d(?:[+-]\d\d:\d\d|Z)\t" + PREFIX.encode("ascii"))
 
 
 class UnreadableLog(Exception):

@@ -52,6 +52,8 @@ test("another phone's aboard speaks against a no-show whenever it was; this phon
     for (const how of ["aboard", "ridden"]) assert.equal(othersHave(known(how), here, 9), how);
     for (const how of ["missed-rider", "missed-operator"]) assert.equal(othersHave(known(how), here, 9), null);
     assert.equal(othersHave(known("aboard"), [...here, entry("PICK 9", "aboard", at(530))], 9), null);
+    assert.equal(othersHave(known("aboard"), [entry("PICK 9", "undone", at(530))], 9), null);
+    assert.equal(othersHave(known("aboard"), [entry("PICK 9", "undone", at(520))], 9), "aboard");
     assert.deepEqual([othersHave({}, here, 9), othersHave(known("aboard"), here, 8), othersHave(known("aboard"), here, undefined)], [null, null, null]);
 });
 
