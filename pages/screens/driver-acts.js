@@ -9,7 +9,7 @@ import { part, say } from "../parts/element.js";
 import { keep, putAside, takeBack, tellOnce } from "../parts/queue.js";
 import { makeTurns } from "../parts/turns.js";
 import { t } from "../parts/words.js";
-import { choicesAt, evidenceOf, isOutcome, othersHave, skipped } from "./driver-day.js";
+import { choicesAt, doubtWords, evidenceOf, isOutcome, othersHave, skipped } from "./driver-day.js";
 import { evidenceList } from "./driver-evidence.js";
 import { placeNameAt, whoAt } from "./driver-read.js";
 import { LOOSE, logOf, namesOf, sheetName, shownDay } from "./driver-state.js";
@@ -44,10 +44,6 @@ function tapOf(state, stop, what, at) {
     return { sheet: sheetName(state.vehicle, state.day), tap: { stop: name, trip, rider, what, at }, state: write ? "waiting" : "kept", write,
         held: what === "missed-rider" ? HELD : 0, tally: toldOf(state, stop, what, at) };
 }
-
-/** The words for a doubt: that the driver came late is said where an arrival is marked.
- * @param {import("./driver-day.js").Evidence} evidence */
-const doubtWords = ({ doubt, arrived }) => (doubt === "late" && arrived === null ? "late-unmarked" : doubt);
 
 /** What a no-show becomes once the driver has read what makes it doubtful: null where it is not told.
  * @param {State} state @param {Shown} stop @param {string} at @returns {Promise<What | null>} */

@@ -177,6 +177,10 @@ export function evidenceOf({ promise, came, what }, minutes, day, now) {
     return { promise, arrived, waited, doubt };
 }
 
+/** The words for a doubt: that the driver came late is said where an arrival is marked.
+ * @param {Pick<Evidence, "doubt" | "arrived">} evidence */
+export const doubtWords = ({ doubt, arrived }) => (doubt === "late" && arrived === null ? "late-unmarked" : doubt);
+
 /** The earlier stops that count as passed where the driver goes on from a later one: not the drops of riders aboard.
  * @param {Shown[]} stops @param {string} from the later one's name */
 export const skipped = (stops, from) => stops.slice(0, Math.max(0, stops.findIndex(({ name }) => name === from)))

@@ -17,7 +17,8 @@ from desk_tools.events import EVENTS, PREFIX, Value, fields_of
 LONGEST = 4_096
 # Whose keys tell an event: as deploy/desk.nginx writes it.
 TELLERS = ("office", "dispatcher", "vehicle", "other")
-# How the site begins a line.
+# How the site begins a line, and how one begins that was cut off at once.
+BEGUN = re.compile(rb"20|2\d{4}-")
 START = re.compile(rb"\d{4}-\d\d-\d\dT\d\d:\d\d:\d\d(?:[+-]\d\d:\d\d|Z)\t" + PREFIX.encode("ascii"))
 
 
@@ -112,19 +113,15 @@ def lines_in(path: str | Path) -> Iterator[bytes]:
 
 def apart(line: bytes) -> list[bytes]:
     """The lines that stand in one: where a line was cut off in the middle, the site wrote the next event behind it."""
-    starts = [it.start() for it in START.finditer(line, 1)]
+    # (a line that begins otherwise was damaged, and all of it is in doubt)
+    starts = [it.start() for it in START.finditer(line, 1)] if BEGUN.match(line) else []
     return [line[at:end] for at, end in zip([0, *starts], [*starts, len(line)])]
 
 
 def whole_of(line: bytes) -> Told:
     """The event of a line with its end. One that is cut off is none: its last field may be, too."""
-    if line.endswith(b"\n"):
-        return told_of(line.rstrip(b"\r\n"))
-    try:
-        told = told_of(line)
-    except ValueError as error:
-        raise ValueError(f"it is cut off: {error}") from None
-    if not told.by:
+    told = told_of(line.rstrip(b"\r\n"))
+    if not line.endswith(b"\n") and not told.by:
         raise ValueError("it is cut off")
     return told
 

@@ -404,7 +404,7 @@ def what_needs_a_person_stands_on_top_and_leads_to_its_row(at):
     at.browser.press(f"{VAN_1}: 24 minutes late")
     at.browser.sees(f"Manifest, {VAN_1}")
     at.browser.press(f"{VAN_2}: two entries disagree")
-    at.browser.sees("what is right?", "Tapped", f"Aboard at {spoken(late - 29)}, Van 9")
+    at.browser.sees("what is right?", "Tapped", f"Aboard at {spoken(late - 29)}, Vehicle 9")
     offered = at.browser.script("return [...document.querySelectorAll('dialog button')].map((it) => it.textContent)")
     same("the first answer", "The rider rode", offered[0])
     at.browser.press("Decide later")

@@ -1,7 +1,7 @@
 import assert from "node:assert/strict";
 import { test } from "node:test";
 
-import { behindBy, choicesAt, dayOf, evidenceOf, leftOpen, minuteOn, othersHave, skipped } from "../../pages/screens/driver-day.js";
+import { behindBy, choicesAt, dayOf, doubtWords, evidenceOf, leftOpen, minuteOn, othersHave, skipped } from "../../pages/screens/driver-day.js";
 
 const DAY = "2025-03-11";
 const STOPS = [
@@ -31,6 +31,10 @@ test("each minute of an arrival and of a no-show has its doubt", () => {
 
 test("without an arrival it is always doubtful", () => {
     for (let now = 480; now <= 600; now += 1) assert.equal(doubt(null, now), now > 525 ? "late" : now < 510 ? "early" : "not-arrived");
+});
+
+test("that the driver came late is said where the arrival is marked", () => {
+    assert.deepEqual([doubtWords({ doubt: "late", arrived: 530 }), doubtWords({ doubt: "late", arrived: null }), doubtWords({ doubt: "wait", arrived: 515 })], ["late", "late-unmarked", "wait"]);
 });
 
 test("the wait counts from the window's begin, to the second", () => {
