@@ -4,6 +4,7 @@
 import { meantOf } from "./address-meant.js";
 import { placeName } from "./agency.js";
 import * as desk from "./desk.js";
+import { whenSignedOut } from "./leaving.js";
 import { searchable } from "./roster.js";
 import { t } from "./words.js";
 
@@ -48,10 +49,10 @@ export async function loadOwnAddresses(rider) {
 }
 
 /** Nothing of addresses stays once somebody has signed out. */
-export function forgetAddresses() {
+whenSignedOut(() => {
     served = new Map();
     own = new Map();
-}
+});
 
 const all = () => [...served.values(), ...own.values()];
 

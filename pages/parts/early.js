@@ -2,6 +2,7 @@
 // will be shown, and what a driver's phone will read.
 
 import { keptText } from "./kept.js";
+import { patiently } from "./loading.js";
 import { dropAhead, readAhead } from "./read-ahead.js";
 import { SCREENS } from "./screens.js";
 
@@ -13,6 +14,8 @@ function link(rel, href) {
     const it = document.createElement("link");
     it.rel = rel;
     it.href = href;
+    // (a style that did not come is asked for again with its screen)
+    it.addEventListener("error", () => it.remove());
     document.head.append(it);
 }
 
@@ -54,7 +57,7 @@ const dayOf = (moment, zone) => new Intl.DateTimeFormat("en-CA", { timeZone: zon
  * @param {string} key @param {string} van
  */
 async function readManifest(key, van) {
-    for (const name of ["places.json", "roster.csv", "outcomes.json"]) readAhead(`/drivers/${van}/${name}`, key);
+    for (const name of ["places.json", "roster.csv", "outcomes.json", "addresses.json"]) readAhead(`/drivers/${van}/${name}`, key);
     const reply = await first, day = reply?.ok ? dayOf(reply.headers.get("date"), (await reply.clone().json()).zone) : "";
     if (day) for (const path of [`/vehicles/${van}/manifest/${day}`, `/days/${day}/trips.csv`]) readAhead(path, key);
     // (what nobody took by then is old)
@@ -65,4 +68,6 @@ const key = keptText("session", "desk.key"), van = keptText("session", "desk.sub
 const screen = key === null && keptText("local", "desk.stay") === null ? "signing" : location.hash.slice(1).split("/")[0] || keptText("local", "desk.screen") || "";
 askWords(WORDS);
 askAhead(screen);
+// (of what main.js takes something may not come: then it is asked for again)
+patiently(() => import("./main.js")).catch(() => {});
 if (key !== null && screen === "driver" && /^[1-9]\d*$/.test(van)) readManifest(key, van).catch(() => {});

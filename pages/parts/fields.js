@@ -210,7 +210,6 @@ export function radioField(name, legend, pairs, options = {}) {
 export const yesNoField = (name, legend, options = {}) => radioField(name, legend, [[true, t("common.yes")], [false, t("common.no")]],
     { wants: t("fields.yes-no"), ...options });
 
-export { placeField } from "./place-field.js";
 export { denialOf } from "./denials.js";
 
 // Forms.

@@ -1,6 +1,5 @@
 // Signing in and out, and which screen is shown. An address holds a screen and its part, never a key.
 
-import { forgetAddresses, loadAddresses } from "./addresses.js";
 import { agency, forgetPlaces, hasAgency, loadAgency, loadPlaces, troubles } from "./agency.js";
 import { asked } from "./ask.js";
 import { plus, today } from "./clock.js";
@@ -12,6 +11,7 @@ import { askAhead } from "./early.js";
 import { forgetAll } from "./leaving.js";
 import { dropNames, keepText, keptText, namesKept, whenNotKept } from "./kept.js";
 import * as line from "./line.js";
+import { patiently, styleOf } from "./loading.js";
 import { clearNotes, dropNote, keepNotes, note, sayNotesAgain } from "./notes.js";
 import { takePaperAway } from "./paper.js";
 import { forgetHere, maySignOut } from "./queue.js";
@@ -129,19 +129,23 @@ function tellCounts() {
 // Loading.
 
 /** @param {string} name */
-function useStyles(name) {
-    const href = `css/${name}.css`;
-    if (document.querySelector(`link[href="${href}"]`)) return Promise.resolve();
-    return new Promise((go) => {
-        document.head.append(make("link", { rel: "stylesheet", href, on: { load: go, error: go } }));
-    });
+function styled(name) {
+    const href = `css/${name}.css`, there = document.querySelector(`link[href="${href}"]`), link = /** @type {HTMLLinkElement} */ (there ?? make("link", { rel: "stylesheet", href }));
+    const style = styleOf(link);
+    if (!there) document.head.append(link);
+    return style;
 }
+
+/** A screen without one of its styles can still be used.
+ * @param {string} name
+ */
+const useStyles = (name) => patiently(() => styled(name)).catch(console.error);
 
 /** @param {Screen} screen */
 async function partsOf(screen) {
     const known = loaded.get(screen.id);
     if (known) return known;
-    const [module] = await Promise.all([screen.load(), useWords(...screen.words), ...screen.styles.map(useStyles)]);
+    const [module] = await Promise.all([patiently(screen.load), useWords(...screen.words), ...screen.styles.map(useStyles)]);
     const parts = module[screen.id]();
     loaded.set(screen.id, parts);
     return parts;
@@ -149,13 +153,18 @@ async function partsOf(screen) {
 
 const inHurry = (/** @type {Promise<any>} */ it) => Promise.race([it, new Promise((go) => { setTimeout(go, HURRY); })]);
 
+/** The addresses come with the first screen, since who signs in needs none.
+ * @param {string} screen
+ */
+const askAddresses = (screen) => import("./addresses.js").then(({ loadAddresses }) => loadAddresses(screen)).catch(() => false);
+
 /** Asks for the names that this key may see; whether the site answered.
  * @param {Screen} screen
  */
 async function askNames(screen) {
     const staff = STAFF.includes(screen.id), whose = `${desk.digest()} ${staff}`;
     if (loadedFor === whose) return true;
-    const answers = await inHurry(Promise.all([loadPlaces(screen.id), staff ? loadRoster() : true, loadAddresses(screen.id)]));
+    const answers = await inHurry(Promise.all([loadPlaces(screen.id), staff ? loadRoster() : true, askAddresses(screen.id)]));
     const answered = answers?.every(Boolean) ?? false;
     if (answered) loadedFor = whose;
     return answered;
@@ -214,7 +223,7 @@ async function showSignIn(mine) {
     showFrame();
     drawInto(found("parts"), []);
     /** @type {{ signIn?: typeof import("./signing.js").signIn }} */
-    const { signIn } = await Promise.all([import("./signing.js"), moreWords()]).then(([it]) => it).catch(notLoaded);
+    const { signIn } = await Promise.all([patiently(() => import("./signing.js")), moreWords()]).then(([it]) => it).catch((error) => notLoaded(error, mine));
     if (mine !== shows || !signIn) return;
     const first = wanted().screen?.id ?? keptText("local", SCREEN) ?? "rider";
     // (while the key is typed)
@@ -235,13 +244,28 @@ async function loadAgain() {
     else await show();
 }
 
-/** Says that files of a screen did not come, once.
- * @param {unknown} error @returns {any}
+/** Says instead of a screen why it is not shown.
+ * @param {string} words
  */
-function notLoaded(error) {
+const sayInstead = (words) => drawInto(found("main"), part("div", { class: "note row", role: "alert" }, part("p", {}, words), button(t("common.load-again"), loadAgain)));
+
+/** Says that files of a screen did not come, and goes on asking for them. What was left meanwhile says nothing.
+ * @param {unknown} error @param {number} mine @returns {any}
+ */
+function notLoaded(error, mine) {
     console.error(error);
-    drawInto(found("main"), part("div", { class: "note row", role: "alert" }, part("p", {}, t("common.not-loaded")), button(t("common.load-again"), loadAgain)));
+    if (mine !== shows) return {};
+    sayInstead(t("common.not-loaded"));
+    setTimeout(() => { if (mine === shows) show({ again: true }); }, HURRY);
     return {};
+}
+
+/** Says that a screen has a fault of its own: waiting would not mend it.
+ * @param {unknown} error
+ */
+function notDrawn(error) {
+    console.error(error);
+    sayInstead(t("common.not-drawn"));
 }
 
 /** @param {Screen} screen @param {number} mine */
@@ -253,9 +277,14 @@ async function showScreen(screen, mine) {
         if (screen.id === DRIVER) firstSight().then(() => mine === shows && desk.signedIn() && drawWith(Promise.all([loadNames(screen), moreWords()])));
         [parts] = await Promise.all([partsOf(screen), ...(screen.id === DRIVER ? [] : [loadNames(screen), moreWords()])]);
     } catch (error) {
-        return notLoaded(error);
+        return notLoaded(error, mine);
     }
-    if (mine !== shows) return undefined;
+    if (mine === shows) drawScreen(screen, parts);
+    return undefined;
+}
+
+/** @param {Screen} screen @param {ScreenPart[]} parts */
+function drawScreen(screen, parts) {
     const { partId } = wanted(), it = parts.find((one) => one.id === partId) ?? parts[0];
     if (location.hash !== addressOf(screen.id, it.id)) history.replaceState(null, "", addressOf(screen.id, it.id));
     keepText("local", SCREEN, screen.id);
@@ -263,8 +292,11 @@ async function showScreen(screen, mine) {
     showFrame();
     showParts(screen, parts, it.id);
     showTroubles(screen.id);
-    found("main").replaceChildren(make("h1", {}, it.name), make("div", { class: "stack" }, it.draw()));
-    return undefined;
+    try {
+        found("main").replaceChildren(make("h1", {}, it.name), make("div", { class: "stack" }, it.draw()));
+    } catch (error) {
+        notDrawn(error);
+    }
 }
 
 /** A question that nobody has answered is answered no once another screen is shown, and tells whom it was about no more. */
@@ -335,7 +367,6 @@ async function signOut(words, byHand = false) {
     answerNo();
     if (digest) await forgetHere(digest);
     forgetPlaces();
-    forgetAddresses();
     forgetRoster();
     loadedFor = "";
     dropNames("local", (name) => name.startsWith("desk.") && !STAYS.includes(name) && !OF_KEYS.some((it) => name.startsWith(it)));

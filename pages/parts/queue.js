@@ -99,11 +99,11 @@ async function unheld(order) {
 }
 
 /** Drops an entry, unless it is being sent at this moment; whether it is gone.
- * @param {number} order @returns {Promise<boolean>} */
-export async function takeBack(order) {
+ * @param {number} order @param {(entry: Entry) => Entry | null} [instead] what stays in its place @returns {Promise<boolean>} */
+export async function takeBack(order, instead = () => null) {
     const gone = await unheld(order) || await desk.inTurn(async (has) => {
         let left = false;
-        if (has) await changed(order, (entry) => (left = entry.state !== "kept" && entry.state !== "waiting") ? entry : null);
+        if (has) await changed(order, (entry) => (left = entry.state !== "kept" && entry.state !== "waiting") ? entry : instead(entry));
         return has && !left;
     }, { only: true });
     tell();
@@ -140,9 +140,10 @@ async function marked(entry, patch) {
     return { ...entry, ...patch };
 }
 
-/** Milliseconds for which an entry is still held here.
+/** Milliseconds for which an entry is still held here. (The clock of the window in which it was tapped may be ahead of this one's: what is not to
+ * be held goes out in its order all the same.)
  * @param {Entry} entry */
-export const heldFor = ({ state, held = 0, since }) => (state === "waiting" ? Math.max(0, since + held - serverNow()) : 0);
+export const heldFor = ({ state, held = 0, since }) => (state === "waiting" && held ? Math.max(0, since + held - serverNow()) : 0);
 
 /** What waits, as far as this page knows.
  * @returns {Promise<(Entry & { write: Write })[]>} */

@@ -2,6 +2,7 @@
 // language has each key.
 
 import { keepText, keptText } from "./kept.js";
+import { patiently } from "./loading.js";
 
 export const LANGUAGES = ["en", "es"];
 /** The names of languages in themselves. */
@@ -31,7 +32,7 @@ export async function useWords(...names) {
 
 /** @param {string} it @param {string} name */
 async function load(it, name) {
-    const { words, smooth } = await import(`../words/${it}/${name}.js`);
+    const { words, smooth } = await patiently(() => import(`../words/${it}/${name}.js`));
     Object.assign(texts[it], words);
     if (smooth) smoothing[it] = smooth;
 }

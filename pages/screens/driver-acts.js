@@ -87,6 +87,10 @@ async function decided(state, stop, what, at) {
     return await sure(state, stop, meant, momentOf(what, at)) ? meant : null;
 }
 
+/** What stays of a tap that was taken back: that this phone was in use by then. The site's log may have been told of the tap, and nobody else tapped it.
+ * @param {Entry} entry @returns {Entry | null} */
+const markOf = (entry) => (entry.tap.what === "note" ? null : { ...entry, state: "kept", write: null, tally: null, tap: { ...entry.tap, what: "undone" } });
+
 /** Where this phone has no room: a tap is remembered while the page lives, and an outcome is sent at once or not told at all.
  * @param {Screen} screen @param {string} stop @param {Tapped} tap */
 async function loosely(screen, stop, tap) {
@@ -157,7 +161,7 @@ export function actsOf(screen, relog, refresh) {
         if (entry.order >= LOOSE) screen.change({ loose: screen.state.loose.filter((it) => it !== entry) });
         else {
             if (entry.write?.tries && !await asked({ question: t("driver.back-question"), detail: t("driver.back-detail"), yes: t("driver.back-yes") })) return;
-            const isGone = await takeBack(entry.order).catch(() => false);
+            const isGone = await takeBack(entry.order, markOf).catch(() => false);
             await relog();
             if (!isGone) return say(t("driver.back-too-late"));
         }

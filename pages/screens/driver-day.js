@@ -12,8 +12,8 @@ import { lateOf } from "../parts/lateness.js";
  * @typedef {{ at: number, what: "DEPOT" | "PICK" | "DROP", place: number, load: number, chairs?: number, trip?: number, rider?: number,
  *     window?: [number, number] }} Stop
  * @typedef {"arrived" | "aboard" | "ridden" | "missed-rider" | "missed-operator" | "left" | "note"} What
- * @typedef {{ stop: string, trip: number, rider: number, what: What, at: string, seen?: boolean, text?: string, onRecord?: string }} Tap at is the
- *     moment, YYYY-MM-DDTHH:MM:SS; onRecord is the outcome that the desk has where it is another one
+ * @typedef {{ stop: string, trip: number, rider: number, what: What | "undone", at: string, seen?: boolean, text?: string, onRecord?: string }} Tap at is the
+ *     moment, YYYY-MM-DDTHH:MM:SS; undone: a tap was taken back, which the site's log may have; onRecord is the outcome that the desk has where it is another
  * @typedef {Stop & { name: string, done: boolean, isNext: boolean, party: { people: number, chairs: number }, promise: Window | null,
  *     arrived: Entry | null, came: Entry | null, aboard: Entry | null, outcome: Entry | null, denied: Entry | null, taps: Entry[], elsewhere: string | null,
  *     isOnRecord: boolean }} Shown promise and came are the window of the trip's pickup and the arrival there, at its drop as well; elsewhere is what
@@ -76,7 +76,7 @@ export function othersHave(known, log, trip = 0) {
  * @param {Stop[]} stops @param {Entry[]} log of this vehicle and day, in its order @param {Known} [known] */
 export function dayOf(stops, log, known = {}) {
     const shown = stops.map((stop, at) => {
-        const name = nameOf(stop, at, stops.length - 1), mine = log.filter(({ tap }) => tap.stop === name);
+        const name = nameOf(stop, at, stops.length - 1), mine = log.filter(({ tap }) => tap.stop === name && tap.what !== "undone");
         const ofTrip = log.filter(({ tap }) => stop.trip !== undefined && tap.trip === stop.trip);
         const told = lastOf(ofTrip, ({ what }) => isOutcome(what)), aboard = lastOf(ofTrip, ({ what }) => what === "aboard");
         const outcome = told?.state === "denied" ? null : told, passed = mine.some(({ tap }) => tap.what === "left");

@@ -118,18 +118,23 @@ async function addressesOf(vehicle) {
     }
 }
 
+/** The names of a day's copy: the site's files for the driver no longer have those of a day that is over.
+ * @param {number} vehicle @param {string} day @returns {Promise<Names>} */
+const keptNames = async (vehicle, day) => (await keptDay(vehicle, day))?.names ?? NO_NAMES;
+
 /** Reads a day once, and keeps a copy of it: what was read, or why not.
- * @param {number} vehicle @param {string} day @param {Names} before names that are known already
+ * @param {number} vehicle @param {string} day @param {Names} shown names that are known already
  * @returns {Promise<(Read & { records: Records }) | { denied: string } | { silent: string }>} */
-export async function readDay(vehicle, day, before) {
+export async function readDay(vehicle, day, shown) {
     // (all at once: on a phone's line each answer takes its time)
     const reading = desk.readOnce(`/vehicles/${vehicle}/manifest/${day}`);
-    const files = Promise.all([allPlaces(vehicle), ridersOf(vehicle), exportOf(day), recordsOf(vehicle), addressesOf(vehicle)]);
+    const files = Promise.all([allPlaces(vehicle), ridersOf(vehicle), exportOf(day), recordsOf(vehicle), addressesOf(vehicle),
+        shown === NO_NAMES ? keptNames(vehicle, day) : shown]);
     files.catch(() => {});
     const reply = await reading;
     if (reply.silent) return { silent: reply.silent };
     if (reply.denied) return { denied: reply.denied };
-    const stops = stopsIn(reply.value), [places, riders, { fares, records: exported }, { outcomes, taps }, addresses] = await files, records = { ...outcomes, ...exported };
+    const stops = stopsIn(reply.value), [places, riders, { fares, records: exported }, { outcomes, taps }, addresses, before] = await files, records = { ...outcomes, ...exported };
     const names = { places: { ...before.places, ...placesOf(stops, places) }, riders: { ...before.riders, ...riders }, fares: { ...before.fares, ...fares },
         addresses: { ...before.addresses, ...addresses } };
     const read = { text: reply.value, readAt: momentNow(), names, known: knownOf(records, day === today() ? taps : {}) };

@@ -8,6 +8,7 @@ from booking import BOOK, begin
 from browser import pause
 from checks import check, holds, same
 from database import until
+from late_files import given
 from middle import CROWDED, HALF, LOST, NO_MEMORY, NO_STORE, NONSENSE, UNHEARD
 
 VANS = 1
@@ -388,3 +389,77 @@ def files_that_were_missed_are_asked_for_again(at):
     at.browser.fill("Rider number", "")
     at.browser.find("field", "Rider number").send_keys("alva")
     at.browser.find("option", re.compile("Rosa Álvarez"))
+
+
+# The files of the pages.
+
+FILES = ["/screens/admin-names.js", "/screens/admin.js", "/words/en/admin.js", "/parts/addresses.js", "/parts/main.js"]
+NOT_LOADED, NOT_DRAWN = "This screen could not be loaded", "This part could not be shown."
+STYLED = "return [...document.querySelectorAll('link[rel=stylesheet]')].every((it) => it.sheet) && Boolean(document.querySelector('link[href=\"css/admin.css\"]'))"
+NOTES = "window.notes = 0; new MutationObserver(() => { if (document.querySelector('main > [role=alert]')) window.notes += 1; }).observe(document.querySelector('main'), { childList: true })"
+
+
+def opened(at):
+    """Signs in as the admin, and watches whether the screen is said not to come."""
+    at.browser.fresh()
+    at.browser.fill("Key", at.keys["admin"])
+    at.browser.script(NOTES)
+    at.browser.fill("Screen", "admin")
+    at.browser.press("Sign in")
+    at.browser.shown("admin")
+    return at.browser.script("return window.notes")
+
+
+@check
+def a_file_that_the_site_refuses_once_is_asked_for_again(at):
+    for path in FILES:
+        with given(at.town, path, refusals=1) as answers:
+            same(f"how often {path} is said not to come", 0, opened(at))
+            until(lambda: f"{path} is asked for {answers.asked} times", lambda: answers.asked >= 2)
+            until("a style is missing", lambda: at.browser.script(STYLED))
+
+
+@check
+def a_file_that_takes_twelve_seconds_is_waited_for(at):
+    for path in ["/screens/admin.js", "/css/admin.css"]:
+        with given(at.town, path, seconds=12) as answers:
+            same(f"how often {path} is said not to come", 0, opened(at))
+            same(f"how often {path} is asked for", 1, answers.asked)
+
+
+@check
+def a_screen_that_does_not_come_is_said_and_comes_by_itself(at):
+    with given(at.town, "/screens/admin.js", refusals=7):
+        holds("nothing is said", opened(at) > 0)
+        at.browser.sees_no(NOT_LOADED)
+    at.browser.forget_errors()
+
+
+@check
+def a_screen_that_was_left_says_nothing_of_its_files(at):
+    with given(at.town, "/screens/admin.js", refusals=1000) as answers:
+        at.browser.fresh()
+        at.browser.fill("Key", at.keys["admin"])
+        at.browser.fill("Screen", "admin")
+        at.browser.press("Sign in")
+        until("the screen is asked for", lambda: answers.asked)
+        at.browser.script("location.hash = '#rider'")
+        at.browser.shown("rider")
+        until("no try is the last one", lambda: answers.asked >= 5)
+        pause(0.5)
+        at.browser.sees_no(NOT_LOADED)
+        at.browser.shown("rider")
+    at.browser.forget_errors()
+
+
+@check
+def a_screen_that_cannot_be_drawn_says_so(at):
+    broken = 'export const admin = () => [{ id: "names", name: "Names", draw() { throw new Error("planned"); } }];\n'
+    with given(at.town, "/screens/admin.js", content=broken):
+        at.browser.fresh()
+        at.browser.fill("Key", at.keys["admin"])
+        at.browser.fill("Screen", "admin")
+        at.browser.press("Sign in")
+        at.browser.sees(NOT_DRAWN)
+        holds("the form to sign in stays", not at.browser.is_there("field", "Key"))
+    at.browser.forget_errors()

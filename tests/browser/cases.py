@@ -23,6 +23,32 @@ def focused_id(at):
     return at.browser.script("return document.activeElement.id")
 
 
+UNTIL = "2026-02-28"
+LINE_1 = "You told us that you ride Line 1 each day."
+
+
+def newcomer(at, rider):
+    """A rider whom no other check knows; what enters into the case."""
+    at.town.post("clerk", "/riders", {"id": rider, "kind": "resident", "attendant": False, "wheelchair": False})
+    return lambda holder, entry, **fields: at.town.post(holder, f"/riders/{rider}/entries", {"entry": entry, **fields})
+
+
+def refused(at, rider, reasons=LINE_1):
+    """A newcomer whose application is refused by letter 1."""
+    enter = newcomer(at, rider)
+    enter("clerk", "complete")
+    enter("examiner", "refuse", reasons=reasons)
+    return enter
+
+
+def granted_in_part(at, rider):
+    """A newcomer whose application is granted in part: letter 1 refuses, and letter 3 grants."""
+    enter = refused(at, rider, f"Granted in part through {UNTIL} for farther:2640. Not granted: {LINE_1}")
+    enter("clerk", "complete")
+    enter("examiner", "grant", until=UNTIL, conditions=["farther:2640"])
+    return rider
+
+
 @check
 def a_case_is_shown_of_the_number_in_the_field_and_of_no_other(at):
     show(at, "examiner", "examiner", 1009)
@@ -62,16 +88,17 @@ def a_refusal_names_the_rider_and_is_asked_once(at):
 
 @check
 def a_letter_on_paper_has_head_text_and_the_right_of_appeal(at):
-    show(at, "examiner", "examiner", 1009)
+    refused(at, 1031)
+    show(at, "examiner", "examiner", 1031)
     at.browser.sees("The case of")
-    paper = at.browser.print_by("Print letter 1 of rider 1009")
+    paper = at.browser.print_by("Print letter 1 of rider 1031")
     plain = " ".join(paper.text.split())
     for words in ["1 Market Street", "555-0100", "Monday, March 10, 2025", "DECISION refused", "The Appeals Officer",
                   "You may appeal until Friday, May 9, 2025", "555-0199", "You have the right to a hearing", "no part in this decision"]:
         holds(f"{words!r} is not on the paper: {plain}", words in plain)
     holds(f"small print: {paper.smallest()}", paper.smallest()[0] >= 9.9)
     at.browser.fill("Print in", "Español")
-    paper = at.browser.print_by("Large print of letter 1 of rider 1009")
+    paper = at.browser.print_by("Large print of letter 1 of rider 1031")
     plain = " ".join(paper.text.split())
     for words in ["Usted puede apelar hasta el viernes 9 de mayo de 2025", "DECISION refused", "Tiene derecho a una audiencia"]:
         holds(f"{words!r} is not on the paper: {plain}", words in plain)
@@ -93,21 +120,23 @@ def a_rider_reads_of_the_own_right_in_the_second_person(at):
 
 @check
 def an_appeal_is_a_button_below_its_letter(at):
+    refused(at, 1032)
     at.browser.sign_in(at.keys["clerk"], "clerk", "file")
-    at.browser.fill("Rider number", "1009")
+    at.browser.fill("Rider number", "1032")
     at.browser.press("Show")
-    at.browser.press("Enter rider 1009's appeal against letter 1")
-    at.browser.press("Yes, enter the appeal of rider 1009")
+    at.browser.press("Enter rider 1032's appeal against letter 1")
+    at.browser.press("Yes, enter the appeal of rider 1032")
     at.browser.sees("is on record. An officer has to hold a hearing.")
     same("the focus", "answer-letter-1", focused_id(at))
 
 
 @check
 def an_officer_denies_an_appeal_and_is_asked(at):
-    show(at, "officer", "officer", 1009, "appeals")
+    refused(at, 1033)("clerk", "appeal", against=1)
+    show(at, "officer", "officer", 1033, "appeals")
     at.browser.sees("The case of")
     holds("an officer is offered to appeal", not at.browser.is_there("button", re.compile("appeal against")))
-    for at_kind, do in [("heard", "Rider 1009's appeal was heard"), ("appeal-denied", "Deny rider 1009's appeal")]:
+    for at_kind, do in [("heard", "Rider 1033's appeal was heard"), ("appeal-denied", "Deny rider 1033's appeal")]:
         opened_entry(at, at_kind)
         if at_kind == "appeal-denied":
             field = at.browser.find("field", "Reasons, as they stand in the letter")
@@ -115,13 +144,13 @@ def an_officer_denies_an_appeal_and_is_asked(at):
         at.browser.press(do)
         at.browser.press(f"Yes: {do[0].lower()}{do[1:]}")
         at.browser.sees("on record" if at_kind == "heard" else "is denied. The letter is above.")
-        until(f"the focus is on {focused_id(at)!r}", lambda: focused_id(at) == "appeals-1009")
+        until(f"the focus is on {focused_id(at)!r}", lambda: focused_id(at) == "appeals-1033")
     at.browser.sees("has denied the appeal. It was decided by a person who had no part", "No decision of this rider can be appealed")
     holds("what was decided can be decided again", not at.browser.is_there("button", re.compile("appeal$|appeal was heard")))
 
 
 APPEALS = """<main><section id=appeals><h2>Appeals to decide</h2><table><thead><tr><th>Rider<th>Name<th>Against<th>Filed on<th>Heard on<tbody>
-<tr><td>1041<td>?<td>refuse (entry 1)<td>2025-03-10<td>{heard}</table></section>"""
+<tr><td>1034<td>?<td>refuse (entry 1)<td>2025-03-10<td>{heard}</table></section>"""
 
 
 def entries_of_appeals(at):
@@ -133,17 +162,15 @@ def of_an_appeal_an_officer_is_offered_what_fits_and_reads_since_when_it_waits(a
     show(at, "officer", "officer", 1001, "appeals")
     at.browser.sees("No decision of this rider can be appealed: there is no refusal and no suspension that no appeal has answered.")
     same("forms for a rider whom nobody refused", [], entries_of_appeals(at))
-    enter = newcomer(at, 1041)
-    enter("clerk", "complete")
-    enter("examiner", "refuse", reasons="rides the bus to work alone each day, and says so")
-    show(at, "officer", "officer", 1041, "appeals")
+    refused(at, 1034)
+    show(at, "officer", "officer", 1034, "appeals")
     at.browser.sees("No appeal is known here.", "the decision of Monday, March 10, 2025")
     same("folded forms, and none that lifts a suspension", [["heard", False], ["appeal-granted", False], ["appeal-denied", False]], entries_of_appeals(at))
     try:
         for heard, state, forms in [("not heard", "An appeal has waited since Mon, Mar 10. It has not been heard.", [["heard", True], ["appeal-granted", False], ["appeal-denied", False]]),
                                     ("2025-03-10", "An appeal has waited since Mon, Mar 10. It was heard on Mon, Mar 10.", [["appeal-granted", False], ["appeal-denied", False]])]:
             at.town.write_file(WORKLIST, APPEALS.format(heard=heard))
-            show(at, "officer", "officer", 1041, "appeals")
+            show(at, "officer", "officer", 1034, "appeals")
             at.browser.sees(state)
             same(f"forms where it was {heard}", forms, entries_of_appeals(at))
     finally:
@@ -152,33 +179,33 @@ def of_an_appeal_an_officer_is_offered_what_fits_and_reads_since_when_it_waits(a
 
 @check
 def reasons_that_say_nothing_are_asked_about_and_go_once_they_are_sent(at):
-    newcomer(at, 1042)("clerk", "complete")
-    show(at, "examiner", "examiner", 1042)
+    newcomer(at, 1035)("clerk", "complete")
+    show(at, "examiner", "examiner", 1035)
     at.browser.sees("The case of")
     opened_entry(at, "refuse")
     at.browser.fill(REASONS, "no")
-    at.browser.press("Refuse rider 1042's application")
+    at.browser.press("Refuse rider 1035's application")
     at.browser.sees("These reasons are very short. The letter has to say specifically why. (49 CFR 37.125(d))")
     at.browser.press("No, go back")
     at.browser.fill(REASONS, "takes the bus to work alone five days a week, and climbs its steps")
-    at.browser.press("Refuse rider 1042's application")
+    at.browser.press("Refuse rider 1035's application")
     holds("enough is asked about", "These reasons are very short" not in at.browser.text())
-    at.browser.press("Yes: refuse rider 1042's application")
+    at.browser.press("Yes: refuse rider 1035's application")
     at.browser.sees("is refused. The letter is above.")
     same("what was typed for it", "", at.browser.value(REASONS))
 
 
 @check
 def the_second_of_two_examiners_reads_the_first_ones_letter(at):
-    enter = newcomer(at, 1043)
+    enter = newcomer(at, 1036)
     enter("clerk", "complete")
-    show(at, "examiner", "examiner", 1043)
+    show(at, "examiner", "examiner", 1036)
     at.browser.sees("There is no letter yet.")
     opened_entry(at, "refuse")
     at.browser.fill(REASONS, "takes the bus to work alone five days a week")
     enter("examiner", "grant", until="2026-02-28", conditions=["always"])
-    at.browser.press("Refuse rider 1043's application")
-    at.browser.press("Yes: refuse rider 1043's application")
+    at.browser.press("Refuse rider 1036's application")
+    at.browser.press("Yes: refuse rider 1036's application")
     at.browser.sees("Read the letters of this case.")
     at.browser.sees_no("There is no letter yet.")
     at.browser.sees("Letter 1 as it is on record")
@@ -372,12 +399,7 @@ def the_notice_on_paper_says_what_is_proposed_why_and_how_to_be_heard(at):
 # A grant in part, and each letter on paper.
 
 REASONS = "Reasons, as they stand in the letter"
-IN_PART, UNTIL = 1040, "2026-02-28"
-
-
-def newcomer(at, rider, kind="resident"):
-    at.town.post("clerk", "/riders", {"id": rider, "kind": kind, "attendant": False, "wheelchair": False})
-    return lambda holder, entry, **fields: at.town.post(holder, f"/riders/{rider}/entries", {"entry": entry, **fields})
+IN_PART = 1040
 
 
 def told_today(at):
@@ -462,14 +484,12 @@ def a_grant_in_part_out_of_order_is_denied_and_what_is_left_undone_still_waits(a
     at.browser.fill("Last day of the grant", UNTIL, form)
     at.browser.fill(re.compile("^Trips with one end more"), "2640", form)
     at.browser.fill("Why no more is granted, as it stands in the letter", "You told us that you ride Line 1 from the stop at your corner.", form)
-    enter("examiner", "refuse", reasons="You told us that you ride Line 1 each day.")
+    enter("examiner", "refuse", reasons=LINE_1)
     at.browser.press(f"Grant rider {rider}'s application in part")
     at.browser.press(f"Yes: grant rider {rider}'s application in part")
     at.browser.sees(out_of_turn)
     same("what is on record after the second examiner", 404, first_letter_text(at, rider, 2)[0])
-    enter = newcomer(at, waiting)
-    enter("clerk", "complete")
-    enter("examiner", "refuse", reasons=f"Granted in part through {UNTIL} for farther:2640. Not granted: you told us that you ride Line 1 each day.")
+    refused(at, waiting, f"Granted in part through {UNTIL} for farther:2640. Not granted: {LINE_1}")
     show(at, "examiner", "examiner", waiting)
     at.browser.sees("The grant that goes with this refusal is not entered yet.")
     at.browser.press(f"Grant rider {waiting}'s new application with its conditions")
@@ -508,23 +528,22 @@ def each_letter_on_paper_has_what_the_regulation_asks_in_english_and_spanish(at)
     appeal = ["You may appeal until Friday, May 9, 2025, which is 60 days after Monday, March 10, 2025.", "The Appeals Officer", "You have the right to a hearing.",
               "present information and arguments", "a person who had no part in this decision", "decision and its reasons in writing"]
     apelar = ["Usted puede apelar hasta el viernes 9 de mayo de 2025", "The Appeals Officer", "Tiene derecho a una audiencia.", "no participó en esta decisión", "sus razones por escrito"]
-    show(at, "examiner", "examiner", IN_PART)
+    partly = granted_in_part(at, 1048)
+    show(at, "examiner", "examiner", partly)
     at.browser.sees("The case of")
-    both(at, f"Print letter 3 of rider {IN_PART}",
+    both(at, f"Print letter 3 of rider {partly}",
          [*agency, "granted in part", "ADA Paratransit Eligible at Example Town Transit until Saturday, February 28, 2026", "more than 2,640 feet",
           "No personal care attendant", "What is not granted, and why", "Reasons: You told us that you ride Line 1", *appeal, "You keep what is granted"],
          [*call, "aprobada en parte", "(ADA Paratransit Eligible)", "más de 2,640 pies", "Las razones están escritas en inglés", *apelar])
     grant = newcomer(at, 1041)
     grant("clerk", "complete")
     grant("examiner", "grant", until="2025-05-31", conditions=["always"])
-    granted, refused = newcomer(at, 1042), newcomer(at, 1043)
-    for enter in (granted, refused):
-        enter("clerk", "complete")
-        enter("examiner", "refuse", reasons="You told us that you ride Line 1 each day.")
+    granted, denied = refused(at, 1042), refused(at, 1043)
+    for enter in (granted, denied):
         enter("clerk", "appeal", against=1)
         enter("officer", "heard")
     granted("officer", "appeal-granted", until="2026-02-28", conditions=["always"])
-    refused("officer", "appeal-denied", reasons="At the hearing you said that nothing keeps you from the bus.")
+    denied("officer", "appeal-denied", reasons="At the hearing you said that nothing keeps you from the bus.")
     for rider, letter, english, spanish in [
             (1041, 1, [*agency, "Name: ____", "Rider 1041 is ADA Paratransit Eligible at Example Town Transit until Saturday, May 31, 2025.", "for every trip", "No personal care attendant",
                        "apply again before it"], [*call, "hasta el sábado 31 de mayo de 2025", "todos los viajes", "presente otra solicitud antes"]),
@@ -540,9 +559,7 @@ def each_letter_on_paper_has_what_the_regulation_asks_in_english_and_spanish(at)
 
 @check
 def on_paper_of_any_width_numbers_and_addresses_stay_together(at):
-    enter = newcomer(at, 1049)
-    enter("clerk", "complete")
-    enter("examiner", "refuse", reasons="You told us that you ride Line 1 each day.")
+    refused(at, 1049)
     show(at, "examiner", "examiner", 1049)
     at.browser.sees("The case of")
     for own in "English", "Español":
@@ -559,9 +576,7 @@ def on_paper_of_any_width_numbers_and_addresses_stay_together(at):
 def what_rests_on_no_decision_has_a_letter_too(at):
     enter = newcomer(at, 1044)
     enter("clerk", "complete")
-    filed = newcomer(at, 1045)
-    filed("clerk", "complete")
-    filed("examiner", "refuse", reasons="You told us that you ride Line 1 each day.")
+    refused(at, 1045)
     at.browser.sign_in(at.keys["clerk"], "clerk", "file")
     at.browser.fill("Rider number", "1045")
     at.browser.press("Show")
@@ -616,24 +631,24 @@ def a_rider_prints_the_own_letter_with_the_own_name(at):
 @check
 def the_program_for_letters_says_what_the_page_says(at):
     """The text that a page saves is that of bin/letters, which asks the desk."""
-    folder = at.town.folder
+    folder, partly = at.town.folder, granted_in_part(at, 1050)
     with open(f"{folder}/key-of-letters", "w", encoding="ascii") as file:
         file.write(at.keys["examiner"])
     words = [f"{ROOT}/bin/letters", "text", f"{folder}/letter.txt", "--url", f"http://127.0.0.1:{at.town.desk.port}", "--key", f"{folder}/key-of-letters",
              "--agency", f"{folder}/source-agency.json", "--roster", f"{folder}/source-roster.csv", "--rider"]
-    made = subprocess.run([*words, str(IN_PART)], capture_output=True, text=True)
+    made = subprocess.run([*words, str(partly)], capture_output=True, text=True)
     same("bin/letters", (0, ""), (made.returncode, made.stderr))
-    show(at, "examiner", "examiner", IN_PART)
+    show(at, "examiner", "examiner", partly)
     at.browser.sees("The case of")
     at.browser.fill("Print in", "English")
     at.browser.script("""window.saved = [];
         const before = URL.createObjectURL;
         URL.createObjectURL = (blob) => { blob.text().then((text) => window.saved.push(text)); return before(new Blob(['x'])); };""")
-    at.browser.press(f"Text for e-mail of letter 3 of rider {IN_PART}")
+    at.browser.press(f"Text for e-mail of letter 3 of rider {partly}")
     saved = until("no text is saved", lambda: at.browser.script("return window.saved[0]"))
     with open(f"{folder}/letter.txt", encoding="utf-8") as file:
         same("the text of the letter", file.read(), saved)
-    for rider, entry, said in [("9999", None, "the desk has no letter to rider 9999"), (str(IN_PART), "7", "the desk has no letter 7 to rider 1040, but 1, 3")]:
+    for rider, entry, said in [("9999", None, "the desk has no letter to rider 9999"), (str(partly), "7", "the desk has no letter 7 to rider 1050, but 1, 3")]:
         os.remove(f"{folder}/letter.txt") if os.path.exists(f"{folder}/letter.txt") else None
         made = subprocess.run([*words, rider, *(["--entry", entry] if entry else [])], capture_output=True, text=True)
         same("a letter that is not there", (1, f"bin/letters: {said}\n"), (made.returncode, made.stderr))

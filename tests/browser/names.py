@@ -54,6 +54,11 @@ def as_bytes(content):
     return content if content is None or isinstance(content, bytes) else json.dumps(content).encode()
 
 
+def named(file, content):
+    """A file with the end of what was in it: records begin with the places, which are mostly right."""
+    return f"{file} …{as_bytes(content)[-120:]!r}" if content is not None else f"{file}, which is missing"
+
+
 def faults_of(at, file, wrong):
     """What is not as it should be, of each wrong content of a file, where a clerk looks at a rider's trips."""
     faults, right = [], at.town.file(file)
@@ -68,9 +73,9 @@ def faults_of(at, file, wrong):
             at.browser.no_errors()
             note = at.browser.script("return document.getElementById('notes')?.innerText ?? ''")
             if said and said not in note:
-                faults.append(f"{file} {as_bytes(content)}: nothing says {said!r}, but {note!r}"[-400:])
+                faults.append(f"{named(file, content)}: nothing says {said!r}, but {note!r}")
         except Exception as trouble:
-            faults.append(f"{file} {as_bytes(content)}: {trouble}"[:400])
+            faults.append(f"{named(file, content)}: {str(trouble)[:400]}")
             at.browser.forget_errors()
     at.town.write_file(file, right)
     return faults

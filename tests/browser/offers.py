@@ -2,9 +2,9 @@
 import json
 import re
 
-from booking import BOOK, LATE_VAN, LATER, begin, clock, counted_in, last_trip, wish
+from booking import BOOK, LATE_VAN, LATER, begin, clock, last_trip, wish
 from checks import check, holds, same
-from counted import lines
+from counted import lines, waiting
 from database import until
 from left_open import write_file_of_the_day
 from people import EVERY_DAY, TODAY
@@ -12,6 +12,8 @@ from people import EVERY_DAY, TODAY
 VANS = 1
 WAITS = "An offer waits for an answer of Ana María Núñez (1006)"
 BEFORE_IT = "2025-03-21"
+# Found and pressed in one step: a page that reads by itself may draw between two.
+PRESS_NO = "[...document.querySelectorAll('button')].find((it) => it.textContent === arguments[0])?.click()"
 
 
 def offered(at):
@@ -20,12 +22,17 @@ def offered(at):
                                              "closes": 1320, "duration": 960, "chairs": 1})
     begin(at, "1006")
     wish(at, start="library", goal="senior", day=LATER, wish="9 am", matters="not-before")
-    at.browser.requests()
     at.browser.press(BOOK)
     at.browser.sees("The desk offers 10:", "minutes after 9:00 AM")
     trip = last_trip(at, 1006)
-    counted_in(at, "denials", "rule=no", f"trip={trip['trip']}")
+    # (what the site has counts, and not what this browser's own log still knows of)
+    until(lambda: f"the site's log has no denial of trip {trip['trip']}; the browser keeps {waiting(at)}", lambda: denials_of(at, trip))
     return trip
+
+
+def denials_of(at, trip):
+    named = re.compile(rf"/tally/denials\?.*\brule=no\b.*\btrip={trip['trip']}\b")
+    return [it for it in lines(at, "/tally/denials") if named.search(it)]
 
 
 def status_of(at, trip):
@@ -124,8 +131,7 @@ def once_its_pickup_window_has_begun_an_offer_takes_no_answer(at):
         at.town.set_clock(LATER, clock24(trip["window_from"] + 1))
         at.browser.requests()
         # (a page that has read by itself meanwhile has no button any more)
-        for button in at.browser.all("button", f"No, cancel trip {trip['trip']}"):
-            button.click()
+        at.browser.script(PRESS_NO, f"No, cancel trip {trip['trip']}")
         at.browser.sees("Its pickup window has begun, so it cannot be answered any more. Call the rider and dispatch.")
         same("answers", [0, 0], answers(at, trip))
         holds("something is cancelled", not any("/cancel" in it for it in at.browser.requests()))

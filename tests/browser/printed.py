@@ -30,7 +30,7 @@ def faults_of(at, screen):
         paper = at.browser.printed()
         for fault in [*faults_of_paper(paper),
                       None if heading in " ".join(paper.text.split()) else f"the heading {heading!r} is not printed",
-                      "what only a screen needs is printed" if re.search("Sign out|Skip to", paper.text) else None,
+                      "what only a screen needs is printed" if re.search("Sign out|Skip to|Print in", paper.text) else None,
                       f"boxes are cut: {cut_boxes(at)}" if cut_boxes(at) else None]:
             if fault:
                 yield f"{address}: {fault}"
@@ -63,6 +63,32 @@ def the_riders_screen_is_printed_whole(at):
 def the_examiners_and_the_officers_screens_are_printed_whole(at):
     is_printed_whole(at, "examiner")
     is_printed_whole(at, "officer")
+
+
+MORE_THAN_A_PAGE = 1200  # pixels
+
+
+def first_longer_paper(at):
+    """The paper of what is shown, pushed down by the first pixel that makes it a page longer."""
+    def pushed(pixels):
+        at.browser.script("document.querySelector('main').style.paddingTop = `${arguments[0]}px`", pixels)
+        return at.browser.printed()
+    fits, longer = 0, MORE_THAN_A_PAGE
+    pages = pushed(fits).pages
+    while longer - fits > 1:
+        middle = (fits + longer) // 2
+        fits, longer = (middle, longer) if pushed(middle).pages == pages else (fits, middle)
+    return pushed(longer)
+
+
+@check
+def what_just_fits_a_page_has_no_empty_page_after_it(at):
+    at.browser.sign_in(at.keys["officer"], "officer")
+    at.browser.keep_subjects()
+    at.browser.go("#officer/appeals")
+    at.browser.sees("No decision of this rider can be appealed")
+    paper = first_longer_paper(at)
+    holds(f"the last of {paper.pages} pages is empty", paper.page_texts[-1].strip())
 
 
 @check

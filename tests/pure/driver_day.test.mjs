@@ -119,4 +119,6 @@ test("a tap of another phone counts where it came before the first one here, and
     assert.deepEqual(choicesAt(first.stops[2], true), ["ridden", "missed-rider", "missed-operator", "left"]);
     // (it may be one of this phone's own that was undone)
     assert.equal(dayOf(STOPS, [entry("out", "left", at(480))], aboard).stops[1].done, false);
+    const undone = dayOf(STOPS, [entry("PICK 9", "undone", at(516))], aboard).stops[1];
+    assert.deepEqual([undone.done, undone.elsewhere, undone.taps], [false, null, []]);
 });

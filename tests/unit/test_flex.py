@@ -2,6 +2,7 @@
 
 import datetime
 import json
+import math
 import random
 from collections.abc import Callable
 
@@ -47,8 +48,9 @@ def inside(lines: list[Line], at: tuple[float, float]) -> float:
 
 @settings(max_examples=25)
 @given(some.lists(LINE, min_size=1, max_size=3), some.integers(0, 1_000))
-def test_a_zone_is_the_corridor_to_some_feet(lines: list[Line], seed: int) -> None:
+def test_a_zone_is_the_corridor_to_half_a_cell(lines: list[Line], seed: int) -> None:
     polygons, chance = outline.polygons_of(lines), random.Random(seed)
+    bound = 60 if len(lines) == 1 and len(lines[0].points) == 2 else outline.CELL * math.sqrt(2) / 2
     for _ in range(60):
         at = chance.uniform(-40_000, 40_000), chance.uniform(-40_000, 40_000)
         away = inside(lines, at)
@@ -56,7 +58,7 @@ def test_a_zone_is_the_corridor_to_some_feet(lines: list[Line], seed: int) -> No
             outline.holds(it[0], at) and not any(outline.holds(hole, at) for hole in it[1:])
             for it in polygons
         )
-        assert abs(away) < 60 or is_in == (away < 0)
+        assert abs(away) < bound or is_in == (away < 0)
     assert all(ring[0] == ring[-1] and len(ring) > 3 for it in polygons for ring in it)
     assert all(
         outline.area(it[0]) > 0 and all(outline.area(hole) < 0 for hole in it[1:])

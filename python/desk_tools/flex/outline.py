@@ -1,7 +1,8 @@
 """The outline of corridors: what lies within a width of lines, as rings of points in feet.
 
 The distance to the lines is taken at the points of a net, and the outline runs where it is the width. So a ring never
-crosses itself, whatever the lines do. Between the points of the net it is off by some feet at most.
+crosses itself, whatever the lines do. Between the points of the net it is off by some feet along a line, and by half a
+cell's diagonal at most where corridors meet.
 """
 
 import math

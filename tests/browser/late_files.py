@@ -1,0 +1,67 @@
+"""A file of the pages that the site gives late, refuses some times, or gives with another content."""
+import contextlib
+import http.server
+import threading
+import time
+
+from database import Trouble
+from town import PAGES
+
+KINDS = {"js": "application/javascript", "css": "text/css"}
+BEFORE = "    location / {\n        limit_conn desk_pages_at_once"
+
+
+class Answers(http.server.ThreadingHTTPServer):
+    """What stands in for one file: `refusals` times 503, then after `seconds` the `content`. `asked` counts all."""
+
+    daemon_threads = True
+
+    def __init__(self, path, content=None, refusals=0, seconds=0):
+        super().__init__(("127.0.0.1", 0), Answer)
+        with open(f"{PAGES}{path}", "rb") as file:
+            self.content = file.read() if content is None else content.encode()
+        self.kind, self.refusals, self.seconds, self.asked = KINDS[path.rpartition(".")[2]], refusals, seconds, 0
+        threading.Thread(target=self.serve_forever, daemon=True).start()
+
+
+class Answer(http.server.BaseHTTPRequestHandler):
+    def do_GET(self):
+        site = self.server
+        site.asked += 1
+        if site.asked <= site.refusals:
+            self.send_error(503)
+            return
+        time.sleep(site.seconds)
+        self.send_response(200)
+        self.send_header("Content-Type", site.kind)
+        self.send_header("Content-Length", str(len(site.content)))
+        self.end_headers()
+        self.wfile.write(site.content)
+
+    def log_message(self, *_):
+        """Nothing is said of a request."""
+
+
+@contextlib.contextmanager
+def given(town, path, **how):
+    """Meanwhile the site gives this file of the pages as Answers has it."""
+    conf = f"{town.folder}/nginx.conf"
+    with open(conf, encoding="utf-8") as text:
+        plain = text.read()
+    if plain.count(BEFORE) != 1:
+        raise Trouble("the site's file has another form than late_files.py knows")
+    with Answers(path, **how) as answers:
+        passed = f"    location = {path} {{\n        proxy_pass http://127.0.0.1:{answers.server_port};\n    }}\n"
+        try:
+            use(town, conf, plain.replace(BEFORE, passed + BEFORE))
+            yield answers
+        finally:
+            use(town, conf, plain)
+            answers.shutdown()
+
+
+def use(town, conf, text):
+    town.stop_site()
+    with open(conf, "w", encoding="utf-8") as file:
+        file.write(text)
+    town.start_site()
