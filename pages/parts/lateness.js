@@ -1,13 +1,16 @@
 // How late the vans are, by what drivers told: their taps of the day, and the outcomes that the desk has. Nothing here is the desk's own, and a van
 // whose driver tells nothing is not late: it has no update.
 
+import { aboardAt } from "./texts.js";
+
 /** @typedef {import("./texts.js").Manifest} Manifest */
 /** @typedef {import("./texts.js").Stop} Stop */
 /** @typedef {import("./texts.js").Doing} Doing */
 /** @typedef {{ trip: number, kind: string, minute: number }} Tap */
 /** @typedef {{ trip: number, rider: number, vehicle: number, window: [number, number], due: number, past: number }} Risk due is when the van comes by its delay, past how long after
  *   the window */
-/** @typedef {{ vehicle: number, last: Tap | null, delay: number, silent: number, risks: Risk[] }} Late minutes; silent is for how long there should have been an update */
+/** @typedef {{ vehicle: number, last: Tap | null, delay: number, silent: number, risks: Risk[], passed: Risk[] }} Late minutes; silent is for how long there should have been
+ *   an update, risks are pickups to come, passed those behind the van of whose end nobody told */
 /** @typedef {{ day: string, trip: number, vehicle: number, from: number, to: number, arrived: number | null, wait: number, minute: number }} NoShow */
 /** @typedef {{ day: string, trip: number, vehicle: number, record: string, told: string, minute: number }} Disagreement */
 /** @typedef {{ vehicle: number, trip: number, text: string, minute: number }} Note */
@@ -54,14 +57,47 @@ const stopOf = (stops, { trip, kind }) => stops.findIndex((stop) => stop.trip ==
  */
 const isEnded = ({ trip }, doings) => ENDED.includes(doings.get(Number(trip))?.state ?? "");
 
-/** Riders whom a van has passed by: a later stop was reached, nobody told of the pickup, and its window has closed. Only where the driver taps at
- * pickups: of another van nobody knows who is aboard.
- * @param {Stop[]} trips @param {number} far the furthest stop that was reached @param {Tap[]} taps @param {Map<number, Doing>} doings @param {number} now @returns {Stop[]}
+/** What tells how a pickup ended. */
+const TOLD = ["aboard", "dropped", "no-show", "missed"];
+
+/** The pickups of which nobody told an end, by tap or outcome.
+ * @param {Stop[]} trips @param {Tap[]} taps @param {Map<number, Doing>} doings
  */
-function passedBy(trips, far, taps, doings, now) {
-    const told = new Set(taps.filter(({ kind }) => kind !== "skipped").map(({ trip }) => trip)), isTold = taps.some(({ kind }) => kind === "arrived" || kind === "aboard");
-    const isOpen = (/** @type {Stop} */ stop) => !told.has(Number(stop.trip)) && !isEnded(stop, doings) && doings.get(Number(stop.trip))?.state !== "cancelled";
-    return isTold ? trips.slice(0, far + 1).filter((stop) => stop.what === "PICK" && stop.window && now > stop.window[1] && isOpen(stop)) : [];
+function openPickups(trips, taps, doings) {
+    const told = new Set(taps.filter(({ kind }) => TOLD.includes(kind)).map(({ trip }) => trip));
+    return trips.filter((stop) => stop.what === "PICK" && !told.has(Number(stop.trip)) && !isEnded(stop, doings) && doings.get(Number(stop.trip))?.state !== "cancelled");
+}
+
+/** Riders whom a van has passed by: a later stop was reached, nobody told of the pickup's end, and its window has closed. Only where the driver taps at
+ * pickups: of another van nobody knows who is aboard.
+ * @param {Stop[]} trips @param {number} far the furthest stop that was reached @param {Tap[]} taps @param {Stop[]} open @param {number} now @param {Stop | null} here where the van stands
+ */
+function passedBy(trips, far, taps, open, now, here) {
+    const isTold = taps.some(({ kind }) => kind === "arrived" || kind === "aboard");
+    return isTold ? trips.slice(0, far + 1).filter((stop) => open.includes(stop) && stop !== here && stop.window && now > stop.window[1]) : [];
+}
+
+/** How late the van was by its taps. A tap at a stop shows it. What is told from afar never lowers it: a stop that is skipped, a pickup that is given up, a
+ * rider dropped off while the end of an earlier arrival is open.
+ * @param {Stop[]} trips @param {Tap[]} taps in their order @param {Stop[]} open
+ */
+function toldDelay(trips, taps, open) {
+    const waiting = taps.filter(({ kind }) => kind === "arrived").map((tap) => trips[stopOf(trips, tap)]).filter((stop) => open.includes(stop));
+    return taps.reduce((delay, tap) => {
+        const stop = trips[stopOf(trips, tap)], late = Math.max(0, tap.minute - stop.at);
+        const isShown = tap.kind === "dropped" ? !waiting.some((it) => trips.indexOf(it) < trips.indexOf(stop)) : tap.kind !== "skipped" && tap.kind !== "missed";
+        return isShown ? late : Math.max(delay, late);
+    }, 0);
+}
+
+/** What is left of a delay at a later stop. An empty van makes up the planned time between two stops, less the longest way that it drives with riders
+ * that day, since the way to the next stop takes its time too.
+ * @param {Stop[]} trips @param {number} from @param {number} to @param {number} delay
+ */
+export function carried(trips, from, to, delay) {
+    const ways = trips.slice(1).map((next, at) => next.at - trips[at].at), isEmpty = (/** @type {number} */ at) => aboardAt(trips[at]) === 0;
+    const longest = Math.max(0, ...ways.filter((_, at) => !isEmpty(at)));
+    return ways.slice(from, to).reduce((left, way, at) => (isEmpty(from + at) ? Math.max(0, left - Math.max(0, way - longest)) : left), delay);
 }
 
 /** How late one van is.
@@ -69,18 +105,16 @@ function passedBy(trips, far, taps, doings, now) {
  */
 export function lateOf({ vehicle, stops }, taps, doings, now) {
     const trips = stops.filter(({ what }) => what !== "DEPOT"), known = [...taps].sort((a, b) => a.minute - b.minute).filter((tap) => stopOf(trips, tap) >= 0);
-    const last = known.at(-1) ?? null, reached = last ? stopOf(trips, last) : -1, isThere = last?.kind === "arrived";
-    const ended = trips.reduce((most, stop, at) => (isEnded(stop, doings) ? at : most), -1);
-    const next = trips.find((stop, at) => at > Math.max(reached, ended) || (at === reached && isThere && !isEnded(stop, doings)));
-    const overdue = next && !(isThere && trips[reached] === next) ? Math.max(0, now - next.at) : 0, told = last && reached >= ended ? Math.max(0, last.minute - trips[reached].at) : 0;
-    const isSilent = overdue > SILENT && (!last || now - last.minute > SILENT), delay = isSilent ? 0 : Math.max(overdue, next ? told : 0);
-    const risks = delay ? trips.slice(Math.max(reached, ended) + 1).flatMap((stop) => {
-        const { window, trip, rider, at, what } = stop, due = Math.max(now, at + delay);
-        return what === "PICK" && window && due > window[1] && !isEnded(stop, doings) ? [{ trip: Number(trip), rider: Number(rider), vehicle, window, due, past: due - window[1] }] : [];
-    }) : [];
-    const passed = passedBy(trips, Math.max(reached, ended), known, doings, now).flatMap(({ window, trip, rider }) => (window ? [{ trip: Number(trip), rider: Number(rider), vehicle,
-        window, due: now, past: now - window[1] }] : []));
-    return { vehicle, last, delay, silent: isSilent ? overdue : 0, risks: [...passed, ...risks] };
+    const last = known.at(-1) ?? null, reached = last ? stopOf(trips, last) : -1, open = openPickups(trips, known, doings);
+    const ended = trips.reduce((most, stop, at) => (isEnded(stop, doings) ? at : most), -1), far = Math.max(reached, ended);
+    const here = last?.kind === "arrived" && far === reached && !isEnded(trips[reached], doings) ? trips[reached] : null, next = here ? reached : far + 1;
+    const overdue = trips[next] && !here ? Math.max(0, now - trips[next].at) : 0, told = trips[next] && last ? carried(trips, reached, next, toldDelay(trips, known, open)) : 0;
+    const isSilent = overdue > SILENT && (!last || now - last.minute > SILENT), delay = isSilent ? 0 : Math.max(overdue, told);
+    const missed = (/** @type {Stop} */ { window, trip, rider }, /** @type {number} */ due) => (window && due > window[1] ? [{ trip: Number(trip), rider: Number(rider), vehicle, window, due,
+        past: due - window[1] }] : []);
+    const risks = delay ? trips.flatMap((stop, at) => (at > far && open.includes(stop)
+        ? missed(stop, Math.max(now, stop.at + carried(trips, next, at, delay))) : [])) : [];
+    return { vehicle, last, delay, silent: isSilent ? overdue : 0, risks, passed: passedBy(trips, far, known, open, now, here).flatMap((stop) => missed(stop, now)) };
 }
 
 /** Each trip on which entries disagree, once.
@@ -99,6 +133,7 @@ const undisputed = (noShows, disagreements) => noShows.filter(({ day, trip }) =>
 export function attentionOf(lates, told, doings, manifests) {
     const open = new Map(manifests.map(({ vehicle, stops }) => [vehicle, stops.filter(({ what, trip }) => what === "PICK" && doings.get(Number(trip))?.state === "no-word").length]));
     return { late: lates.filter(({ delay }) => delay >= LEAST_LATE).sort((a, b) => b.delay - a.delay), risk: lates.flatMap(({ risks }) => risks).sort((a, b) => a.due - b.due),
+        passed: lates.flatMap(({ passed }) => passed).sort((a, b) => b.past - a.past),
         silent: lates.filter(({ silent }) => silent > 0).sort((a, b) => b.silent - a.silent), noShows: undisputed(told?.noShows ?? [], told?.disagreements ?? []),
         disagreements: onceEach(told?.disagreements ?? []), open: [...open].flatMap(([vehicle, count]) => (count ? [{ vehicle, count }] : [])) };
 }

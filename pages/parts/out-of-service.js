@@ -84,10 +84,15 @@ export function triesOf(item) {
     return [...pinned.filter((it) => it.wish !== first.wish || it.by !== first.by), first];
 }
 
-/** How many minutes the new window begins after the old one; it is negative where it begins before.
+/** Whether the window that was promised holds: the new one is the same, or within it.
  * @param {Item} item
  */
-export const movedBy = ({ old, ticket }) => (ticket ? ticket.window_from - old.window_from : 0);
+export const isSameWindow = ({ old, ticket }) => !ticket || (ticket.window_from >= old.window_from && ticket.window_to <= old.window_to);
+
+/** How many minutes a window that does not hold begins after the old one, negative where it begins before; where it begins with it, how many it ends later.
+ * @param {Item} item
+ */
+export const movedBy = (item) => (isSameWindow(item) || !item.ticket ? 0 : item.ticket.window_from - item.old.window_from || item.ticket.window_to - item.old.window_to);
 
 /** Whether a new window begins more than an hour from what the rider asked for.
  * @param {Item} item

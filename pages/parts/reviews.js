@@ -4,17 +4,46 @@
 /** @typedef {import("./lateness.js").NoShow} NoShow */
 /** @typedef {import("./lateness.js").Disagreement} Disagreement */
 /** @typedef {"ridden" | "missed-rider" | "missed-operator"} Outcome */
-/** @typedef {"late" | "not-arrived" | "early" | "wait"} Doubt */
+/** @typedef {import("./lateness.js").Tap & { vehicle: number }} Tapped */
+/** @typedef {"aboard" | "late" | "not-arrived" | "early" | "wait"} Doubt */
 
 export const OUTCOMES = /** @type {const} */ (["missed-rider", "missed-operator", "ridden"]);
 const COLUMNS = ["trip", "outcome", "who", "why"];
 /** How long a name or a reason of a line may be. */
 export const MOST = 200;
 
-/** What makes a no-show doubtful: the van came after the window, nobody tapped the arrival, it was told before the window began, or the wait was short.
- * @param {Pick<NoShow, "from" | "to" | "arrived" | "wait" | "minute">} noShow @param {number} minutes the agency's wait @returns {Doubt | null}
+/** What every phone tapped of a trip, in the order in which it was.
+ * @param {Map<number, import("./lateness.js").Tap[]>} vehicles @param {number} trip @returns {Tapped[]}
  */
-export function doubtOf({ from, to, arrived, wait, minute }, minutes) {
+export const tapsOn = (vehicles, trip) => [...vehicles].flatMap(([vehicle, taps]) => taps.filter((it) => it.trip === trip).map((it) => ({ ...it, vehicle })))
+    .sort((a, b) => a.minute - b.minute);
+
+/** Whether somebody tapped that the rider is aboard, or was.
+ * @param {Tapped[]} taps
+ */
+const wasAboard = (taps) => taps.some(({ kind }) => kind === "aboard" || kind === "dropped");
+
+/** A no-show with the arrival that another phone tapped, where the one that told it has none.
+ * @template {Pick<NoShow, "from" | "arrived" | "wait" | "minute">} T @param {T} noShow @param {Tapped[]} taps @returns {T}
+ */
+export function withArrival(noShow, taps) {
+    const arrived = taps.find(({ kind }) => kind === "arrived")?.minute;
+    if (noShow.arrived !== null || arrived === undefined) return noShow;
+    return { ...noShow, arrived, wait: Math.max(0, noShow.minute - Math.max(arrived, noShow.from)) };
+}
+
+/** The outcomes in the order in which they are offered: a no-show is last where somebody tapped aboard.
+ * @param {Tapped[]} taps @returns {readonly Outcome[]}
+ */
+export const outcomesBy = (taps) => (wasAboard(taps) ? [...OUTCOMES].reverse() : OUTCOMES);
+
+/** What makes a no-show doubtful: somebody tapped aboard, the van came after the window, nobody tapped the arrival, it was told before the window began, or the wait was short.
+ * @param {Pick<NoShow, "from" | "to" | "arrived" | "wait" | "minute">} noShow @param {number} minutes the agency's wait @param {Tapped[]} [taps]
+ * @returns {Doubt | null}
+ */
+export function doubtOf(noShow, minutes, taps = []) {
+    const { from, to, arrived, wait, minute } = withArrival(noShow, taps);
+    if (wasAboard(taps)) return "aboard";
     if (arrived === null) return "not-arrived";
     if (arrived > to) return "late";
     if (minute < from) return "early";

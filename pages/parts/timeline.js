@@ -226,7 +226,7 @@ const rows = new Map();
 
 /** @param {Manifest} manifest @param {[number, number]} hours @param {Across} across @param {number} width @param {number} most @param {Options} options */
 function row(manifest, hours, across, width, most, options) {
-    const { selected, now, doings, lates, duty } = options, { vehicle } = manifest, risks = new Set(lates?.get(vehicle)?.risks.map(({ trip }) => trip)), head = headWords(manifest, options);
+    const { selected, now, doings, lates, duty } = options, { vehicle } = manifest, late = lates?.get(vehicle), risks = new Set([...late?.risks ?? [], ...late?.passed ?? []].map(({ trip }) => trip)), head = headWords(manifest, options);
     const lane = laneOf(manifest, hours, across, width, most, doings, risks), words = rowWords(manifest, doings);
     const from = [lane, now !== null && across(now), vehicle === selected, vehicleName(vehicle), duty?.(vehicle) ?? "", words, JSON.stringify(head)], last = rows.get(vehicle);
     if (last && last.from.every((it, at) => it === from[at])) return last.made;

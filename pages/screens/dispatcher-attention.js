@@ -1,4 +1,4 @@
-// What needs a person, on top of a day: late vans, pickups at risk, vans without update, no-shows to confirm, entries that disagree, riders who were
+// What needs a person, on top of a day: late vans, pickups at risk, pickups that a van has passed without a word, vans without update, no-shows to confirm, entries that disagree, riders who were
 // not placed. It is what drivers told; each leads to its row.
 
 import { vehicleName } from "../parts/agency.js";
@@ -37,19 +37,20 @@ export function attention(manifests, told, doings, now, isToday) {
 /** The vans that need somebody today.
  * @param {Attention} needs
  */
-export function vansIn({ late, risk, silent, noShows, disagreements, open }) {
+export function vansIn({ late, risk, passed, silent, noShows, disagreements, open }) {
     const ofToday = (/** @type {{ day: string }} */ { day }) => day === today();
-    return new Set([late, risk, silent, noShows.filter(ofToday), disagreements.filter(ofToday), open].flatMap((all) => all.map(({ vehicle }) => vehicle)));
+    return new Set([late, risk, passed, silent, noShows.filter(ofToday), disagreements.filter(ofToday), open].flatMap((all) => all.map(({ vehicle }) => vehicle)));
 }
 
 /** @param {Attention} needs @param {Go} go @param {Review} review @returns {[string, Chip[]][]} */
-function groupsOf({ late, risk, silent, noShows, disagreements, open }, go, review) {
+function groupsOf({ late, risk, passed, silent, noShows, disagreements, open }, go, review) {
     const chip = (/** @type {string} */ key, /** @type {number} */ vehicle, /** @type {string} */ more, /** @type {number} */ trip = 0) => ({ key: `${key}-${vehicle}-${trip}`,
         words: `${vehicleName(vehicle)} ${more}`.trim(), label: t(`dispatcher.need-${key}-of`, { vehicle: vehicleName(vehicle), more }), act: () => go(vehicle, trip || undefined) });
     const toReview = (/** @type {string} */ key, /** @type {any[]} */ rows) => rows.filter(isOpen).map((row) => ({ ...chip(key, row.vehicle, row.day === today() ? "" : dayShort(row.day), row.trip),
         key: `${key}-${row.trip}-${row.minute}`, act: () => review(row) }));
     return [["late", late.map((it) => chip("late", it.vehicle, String(it.delay)))],
         ["risk", risk.map((it) => chip("risk", it.vehicle, `${clock(it.due)} ${riderLabel(it.rider)}`, it.trip))],
+        ["passed", passed.map((it) => chip("passed", it.vehicle, riderLabel(it.rider), it.trip))],
         ["silent", silent.map((it) => chip("silent", it.vehicle, longTime(it.silent)))],
         ["no-show", toReview("no-show", noShows)], ["disagree", toReview("disagree", disagreements)],
         ["open", open.map((it) => chip("open", it.vehicle, String(it.count)))]];

@@ -114,7 +114,7 @@ function againWords(item) {
     const day = /** @type {Partial<import("../types").Trip>} */ (ticket).day;
     if (day && day !== old.day) return t("dispatcher.changed-since", { other: tripWords(/** @type {any} */ (ticket)) });
     const said = later === 0 ? t("dispatcher.same-window", { vehicle: where, window: windowOf(ticket) })
-        : t(later > 0 ? "dispatcher.later" : "dispatcher.earlier", { minutes: Math.abs(later), window: windowOf(ticket), before: windowOf(old), vehicle: where });
+        : t(`dispatcher.${ticket.window_from === old.window_from ? "ends-later" : later > 0 ? "later" : "earlier"}`, { minutes: Math.abs(later), window: windowOf(ticket), before: windowOf(old), vehicle: where });
     return [said, isFar(item) && t("dispatcher.too-far", { wish: clock(saidOf(item).wish) }), ticket.due !== old.due
         && t("dispatcher.other-due", { due: dollars(ticket.due), before: dollars(old.due) })].filter(Boolean).join(" ");
 }

@@ -7,7 +7,7 @@ import { between, clock, dayShort } from "../parts/clock.js";
 import * as desk from "../parts/desk.js";
 import { inWords } from "../parts/denials.js";
 import { button, fresh, make, part, save, say } from "../parts/element.js";
-import { correctionFile, correctionLine, doubtOf, MOST, nextOf, OUTCOMES, rowKey } from "../parts/reviews.js";
+import { correctionFile, correctionLine, doubtOf, MOST, nextOf, outcomesBy, rowKey, tapsOn, withArrival } from "../parts/reviews.js";
 import { riderLabel } from "../parts/roster.js";
 import { count } from "../parts/tally.js";
 import { rowsIn } from "../parts/texts.js";
@@ -18,6 +18,7 @@ import { statusOf, windowOf } from "./booking.js";
 /** @typedef {import("../parts/lateness.js").Disagreement} Disagreement */
 /** @typedef {import("../parts/lateness.js").Told} Told */
 /** @typedef {import("../parts/reviews.js").Outcome} Outcome */
+/** @typedef {import("../parts/reviews.js").Tapped} Tapped */
 /** @typedef {import("../parts/texts.js").Row} Row */
 
 /** The rows that somebody has looked at in this window: the file of the day follows some seconds later.
@@ -31,9 +32,9 @@ export const isOpen = (row) => !seen.has(rowKey(row));
 /** @param {string} label @param {import("../types").Given} value @param {import("../types").Given} [more] */
 const line = (label, value, more = null) => part("div", {}, part("dt", {}, label), part("dd", {}, value, more && [" ", part("strong", {}, more)]));
 
-/** @param {NoShow} noShow */
-function noShowLines(noShow) {
-    const { from, to, arrived, wait, minute, vehicle } = noShow, doubt = doubtOf(noShow, agency().wait_minutes), late = arrived === null ? 0 : arrived - to;
+/** @param {NoShow} noShow @param {Tapped[]} taps */
+function noShowLines(noShow, taps) {
+    const { from, to, arrived, wait, minute, vehicle } = withArrival(noShow, taps), doubt = doubtOf(noShow, agency().wait_minutes, taps), late = arrived === null ? 0 : arrived - to;
     return [part("dl", { class: "evidence" }, line(t("dispatcher.head-promised"), between(from, to)),
         line(t("dispatcher.review-arrived"), arrived === null ? t("dispatcher.review-no-arrival") : clock(arrived), late > 0 && t("dispatcher.review-after", { minutes: late })),
         line(t("dispatcher.review-waited"), t("dispatcher.review-minutes", { wait, minutes: agency().wait_minutes })),
@@ -45,11 +46,17 @@ function noShowLines(noShow) {
 const disagreementLine = ({ record, told, minute, vehicle }) => part("p", { class: "note" }, t("dispatcher.review-disagree", { vehicle: vehicleName(vehicle), time: clock(minute),
     told: t(`dispatcher.told-${told}`), record: record === "unknown" ? "" : statusOf(record) }));
 
-/** What is known of the trip, for the one who decides.
- * @param {{ noShows: NoShow[], disagreements: Disagreement[] }} known @param {Row | undefined} row
+/** What was tapped of the trip on every phone.
+ * @param {Tapped[]} taps
  */
-const detailOf = ({ noShows, disagreements }, row) => [row && part("p", {}, t("dispatcher.review-trip", { window: windowOf(row), status: statusOf(row.status) })),
-    noShows.map(noShowLines), disagreements.map(disagreementLine)];
+const tapLines = (taps) => taps.length > 0 && part("dl", { class: "evidence" }, line(t("dispatcher.review-taps"), taps.map(({ kind, minute, vehicle }) => part("div", {},
+    t("dispatcher.review-tap", { what: t(`dispatcher.tap-${kind}`), time: clock(minute), vehicle: vehicleName(vehicle) })))));
+
+/** What is known of the trip, for the one who decides.
+ * @param {{ noShows: NoShow[], disagreements: Disagreement[], taps: Tapped[] }} known @param {Row | undefined} row
+ */
+const detailOf = ({ noShows, disagreements, taps }, row) => [tapLines(taps), row && part("p", {}, t("dispatcher.review-trip", { window: windowOf(row), status: statusOf(row.status) })),
+    noShows.map((it) => noShowLines(it, taps)), disagreements.map(disagreementLine)];
 
 /** Asks who corrects and why, and gives the line for the file; whether it is on record.
  * @param {number} trip @param {Outcome} right @returns {Promise<boolean>}
@@ -103,11 +110,11 @@ async function settle(trip, right, record) {
  */
 export async function review(about, told) {
     const { trip, day, vehicle } = about, mine = (/** @type {{ trip: number }} */ it) => it.trip === trip;
-    const known = { noShows: told.noShows.filter(mine), disagreements: told.disagreements.filter(mine) }, csv = await desk.tripsOn(day);
+    const known = { noShows: told.noShows.filter(mine), disagreements: told.disagreements.filter(mine), taps: told.day === day ? tapsOn(told.vehicles, trip) : [] }, csv = await desk.tripsOn(day);
     if (csv.denied !== undefined) return null;
     const row = rowsIn(csv.value).find(mine), rider = row ? riderLabel(row.rider) : "";
     /** @type {[Outcome | "show", string][]} */
-    const choices = [...OUTCOMES.map((it) => /** @type {[Outcome, string]} */ ([it, t(`dispatcher.review-${it}`)])), ["show", t("dispatcher.review-show")]];
+    const choices = [...outcomesBy(known.taps).map((it) => /** @type {[Outcome, string]} */ ([it, t(`dispatcher.review-${it}`)])), ["show", t("dispatcher.review-show")]];
     const answer = await choose({ question: t("dispatcher.review-question", { trip, rider, vehicle: vehicleName(vehicle), day: dayShort(day) }), detail: detailOf(known, row), careful: true,
         choices, none: t("dispatcher.review-later") });
     if (answer === "show" || answer === null) return answer;

@@ -1,7 +1,7 @@
 // A vehicle from a day on.
 
 import { placePairs, vehicleName, vehicles as named } from "../parts/agency.js";
-import { dayInWords, today } from "../parts/clock.js";
+import { clock, dayInWords, today } from "../parts/clock.js";
 import * as desk from "../parts/desk.js";
 import { button, part } from "../parts/element.js";
 import { choiceField, dayField, form, numberField, timeField, weekdaysField } from "../parts/fields.js";
@@ -13,13 +13,15 @@ import { t } from "../parts/words.js";
 import { keepSettings, settingsOn } from "./dispatcher-settings.js";
 import { listsIn, worklistRead } from "./worklist.js";
 
+const HOUR = 60;
+
 /** The fields of what a vehicle has, with what is known of it.
  * @param {Partial<Omit<import("../parts/out-of-service.js").Settings, "depot">> & { depot?: number | null }} known
  */
 export const settingsFields = ({ days, depot, capacity, chairs, opens, closes, duration } = {}) => [weekdaysField("days", t("dispatcher.on-duty"), days),
     choiceField("depot", t("dispatcher.depot-place"), placePairs(), { empty: t("dispatcher.choose-one"), value: depot ?? undefined }),
     numberField("capacity", t("dispatcher.seats"), 1, MOST_SEATS, { value: capacity }), numberField("chairs", t("dispatcher.chairs"), 0, MOST_CHAIRS, { value: chairs ?? 0 }),
-    timeField("opens", t("dispatcher.opens"), { hint: t("dispatcher.opens-hint"), wants: t("dispatcher.opens-wants"), value: opens }),
+    timeField("opens", t("dispatcher.opens"), { hint: t("dispatcher.opens-hint", { time: clock(8 * HOUR) }), wants: t("dispatcher.opens-wants", { time: clock(9 * HOUR + 15) }), value: opens }),
     timeField("closes", t("dispatcher.closes"), { value: closes }), numberField("duration", t("dispatcher.duration"), 1, MOST_DURATION, { value: duration })];
 
 /** The number is the pages' own only where the agency's file has no name for it, and then the page says who gives one.
@@ -57,7 +59,7 @@ export function vehicles() {
     const vehicle = vehicleField("id", t("dispatcher.vehicle-field"), { chosen });
     const whole = form({ name: t("dispatcher.vehicle-form"), action: t("dispatcher.put-vehicle"), purpose: "vehicle", class: "vehicle",
         fields: [vehicle, dayField("from_day", t("dispatcher.holds-from"), { value: today() }), ...settings], begun: () => screen?.change({ done: null, booked: null }),
-        check: ({ opens, closes }) => (opens > closes ? { field: "opens", fault: t("dispatcher.opens-wants") } : null),
+        check: ({ opens, closes }) => (opens > closes ? { field: "opens", fault: t("dispatcher.opens-wants", { time: clock(9 * HOUR + 15) }) } : null),
         send: async (values) => {
             const reply = await desk.putVehicle(values);
             if (reply.denied === "desk.booked") screen?.change({ booked: values.id });

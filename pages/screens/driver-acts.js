@@ -9,11 +9,11 @@ import { part, say } from "../parts/element.js";
 import { keep, putAside, takeBack, tellOnce } from "../parts/queue.js";
 import { makeTurns } from "../parts/turns.js";
 import { t } from "../parts/words.js";
-import { choicesAt, evidenceOf, isOutcome, skipped } from "./driver-day.js";
+import { choicesAt, doubtWords, evidenceOf, isOutcome, othersHave, skipped } from "./driver-day.js";
 import { evidenceList } from "./driver-evidence.js";
 import { placeNameAt, whoAt } from "./driver-read.js";
-import { LOOSE, namesOf, sheetName, shownDay } from "./driver-state.js";
-import { didWords, stopWords, TITLE } from "./driver-stop.js";
+import { LOOSE, logOf, namesOf, sheetName, shownDay } from "./driver-state.js";
+import { didWords, elsewhereWords, stopWords, TITLE } from "./driver-stop.js";
 import { noShowTold, noteTold, stopTold } from "./driver-told.js";
 
 /** @typedef {import("../parts/queue.js").Entry} Entry */
@@ -25,6 +25,8 @@ import { noShowTold, noteTold, stopTold } from "./driver-told.js";
 
 /** Milliseconds for which a no-show stays on this phone, so that it can be undone. */
 const HELD = 60_000;
+/** For so long a no-show waits for what others tapped meanwhile. */
+const ASKED = 3000;
 
 /** What the site's log is told of a tap. One that was told later than it happened is no time of a drop.
  * @param {State} state @param {Shown} stop @param {What} what @param {string} at */
@@ -52,7 +54,16 @@ async function weighed(state, stop, at) {
     const choices = [["missed-rider", t("driver.no-show-still")]];
     if (doubt === "late") choices.unshift(["missed-operator", t("driver.missed-operator")]);
     return choose({ question: t("driver.question-missed-rider", { who: whoAt(Number(stop.rider), namesOf(state)) }), careful: true,
-        detail: [evidenceList(evidence, minutes), part("p", { class: "note" }, t(`driver.doubt-${doubt}`, { minutes }))], choices, none: t("driver.keep-waiting") });
+        detail: [evidenceList(evidence, minutes), part("p", { class: "note" }, t(`driver.doubt-${doubtWords(evidence)}`, { minutes }))], choices, none: t("driver.keep-waiting") });
+}
+
+/** Whether a no-show is still meant, though another phone has the rider aboard by now: this is read once more after the yes, as long as it takes little.
+ * @param {Screen} screen @param {Shown} stop @param {() => Promise<void>} refresh */
+async function isStillMeant(screen, stop, refresh) {
+    await Promise.race([refresh().catch(() => {}), new Promise((done) => { setTimeout(done, ASKED); })]);
+    const { state } = screen, how = othersHave(state.read?.known ?? {}, logOf(state), stop.trip);
+    return !how || asked({ question: t("driver.elsewhere-question", { who: whoAt(Number(stop.rider), namesOf(state)), what: elsewhereWords(how) }), detail: t("driver.elsewhere-detail"),
+        yes: t("driver.no-show-still") });
 }
 
 /** Asks before an outcome, which cannot be taken back once the desk has it.
@@ -64,12 +75,16 @@ function sure(state, stop, what, at) {
             t(what === "missed-rider" ? "driver.final-later" : "driver.final"))], yes: t(`driver.yes-${what}`) });
 }
 
+/** The moment of a tap. That of a no-show is the yes: the van waits while the question is open.
+ * @param {What} what @param {string} at */
+const momentOf = (what, at) => (what === "missed-rider" ? momentNow() : at);
+
 /** What is told of a tap after all questions: null where nothing is.
  * @param {State} state @param {Shown} stop @param {What} what @param {string} at @returns {Promise<What | null>} */
 async function decided(state, stop, what, at) {
     const meant = what === "missed-rider" ? await weighed(state, stop, at) : what;
     if (meant === null || !isOutcome(meant)) return meant;
-    return await sure(state, stop, meant, at) ? meant : null;
+    return await sure(state, stop, meant, momentOf(what, at)) ? meant : null;
 }
 
 /** What stays of a tap that was taken back: that this phone was in use by then. The site's log may have been told of the tap, and nobody else tapped it.
@@ -101,8 +116,8 @@ function moved(screen, stop) {
 }
 
 /** What is kept by this phone: taps, and notes of the day.
- * @param {Screen} screen @param {() => Promise<void>} relog @param {ReturnType<typeof makeTurns>} turn */
-function tapsOf(screen, relog, turn) {
+ * @param {Screen} screen @param {() => Promise<void>} relog @param {() => Promise<void>} refresh @param {ReturnType<typeof makeTurns>} turn */
+function tapsOf(screen, relog, refresh, turn) {
     /** @param {Shown} tapped @param {What} what */
     const tap = (tapped, what) => {
         const at = momentNow(), { day } = screen.state;
@@ -112,7 +127,8 @@ function tapsOf(screen, relog, turn) {
             if (!choicesAt(stop, state.day <= state.today).includes(what)) return;
             const told = await decided(state, stop, what, at);
             if (told === null) return;
-            const it = tapOf({ ...state, day }, stop, told, at);
+            const it = tapOf({ ...state, day }, stop, told, momentOf(what, at));
+            if (told === "missed-rider" && !await isStillMeant(screen, stop, refresh)) return;
             if (!await keep(it).then(() => true, () => loosely(screen, stop.name, it))) return;
             await relog();
             moved(screen, stop);
@@ -136,8 +152,8 @@ function tapsOf(screen, relog, turn) {
     return { tap, note };
 }
 
-/** @param {Screen} screen @param {() => Promise<void>} relog reads the log anew */
-export function actsOf(screen, relog) {
+/** @param {Screen} screen @param {() => Promise<void>} relog reads the log anew @param {() => Promise<void>} refresh reads the day anew */
+export function actsOf(screen, relog, refresh) {
     const turn = makeTurns(), next = () => screen.change({ opened: null }, { focus: TITLE });
 
     /** @param {Entry} entry */
@@ -178,6 +194,6 @@ export function actsOf(screen, relog) {
         screen.change({}, { focus: TITLE });
     });
 
-    return { ...tapsOf(screen, relog, turn), takeBack: takenBack, startHere, aside, toNext: next,
+    return { ...tapsOf(screen, relog, refresh, turn), takeBack: takenBack, startHere, aside, toNext: next,
         seenGone: () => screen.change({ gone: "" }, { focus: TITLE }), open: (/** @type {string} */ name) => screen.change({ opened: name }, { focus: TITLE }) };
 }

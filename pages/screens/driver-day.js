@@ -4,6 +4,8 @@
 // the driver went on without either, the stop is passed, but never the drop of a rider aboard: that is next, in its order. An outcome that
 // the desk denied takes nobody back to its stop: the driver is elsewhere by then, and reads the denial there.
 
+import { lateOf } from "../parts/lateness.js";
+
 /** @typedef {import("../parts/queue.js").Entry} Entry */
 /**
  * @typedef {[number, number]} Window minutes of the day
@@ -59,6 +61,15 @@ function pickupOf(stops, ofTrip, trip) {
 function elsewhereOf(known, trip, log) {
     const it = trip === undefined ? undefined : known[trip], began = Math.min(...log.map(({ tap }) => Math.floor(secondsOf(tap.at) / MINUTE)));
     return it && (it.minute === null || it.minute < began) ? it : null;
+}
+
+/** What others told of a trip that speaks against a no-show, whenever it was: the rider is aboard or rode. What this phone told itself is not theirs.
+ * @param {Known} known @param {Entry[]} log @param {number | undefined} trip */
+export function othersHave(known, log, trip = 0) {
+    const { how, minute } = known[trip] ?? { how: "", minute: null }, isUndone = (/** @type {{ what: string, at: string }} */ { what, at }) => what === "undone"
+        && minute !== null && Math.floor(secondsOf(at) / MINUTE) >= minute;
+    const isMine = log.some(({ tap }) => tap.trip === trip && (tap.what === how || isUndone(tap)));
+    return (how === "aboard" || how === "ridden") && !isMine ? how : null;
 }
 
 /** The stops of a day with all that is to be shown of each, and which of them is next (-1: none).
@@ -131,13 +142,16 @@ export const minuteOn = (moment, day) => Math.round((Date.parse(moment.slice(0, 
  * @param {Stop} stop @param {string} day @param {string} now */
 export const minutesUntil = (stop, day, now) => stop.at - minuteOn(now, day);
 
-/** By how many minutes the van is behind its plan: by the last stop that was tapped, or by the next one, whose time is past. 0: it is not.
- * @param {Shown[]} stops @param {Entry[]} log @param {string} day @param {string} now */
+/** A tap's name in what the site tells of the day.
+ * @type {Record<string, string>} */
+const KINDS = { arrived: "arrived", aboard: "aboard", ridden: "dropped", left: "skipped", "missed-rider": "no-show", "missed-operator": "missed" };
+
+/** By how many minutes the van is behind its plan, counted as the dispatcher's board counts it: by stops of trips, from this phone's taps. 0: it is not.
+ * @param {Stop[]} stops @param {Entry[]} log @param {string} day @param {string} now */
 export function behindBy(stops, log, day, now) {
-    const next = stops.find(({ isNext }) => isNext), was = log.filter(({ tap }) => ["arrived", "aboard", "ridden"].includes(tap.what)).at(-1)?.tap;
-    if (!next) return 0;
-    const last = was && stops.find(({ name }) => name === was.stop), told = last && was ? minuteOn(was.at, day) - last.at : 0;
-    return Math.max(0, told, -minutesUntil(next, day, now));
+    const taps = log.flatMap(({ tap }) => (tap.trip && KINDS[tap.what] ? [{ trip: tap.trip, kind: KINDS[tap.what], minute: minuteOn(tap.at, day) }] : []));
+    const { delay, silent } = lateOf(/** @type {any} */ ({ vehicle: 0, stops }), taps, new Map(), minuteOn(now, day));
+    return delay || silent;
 }
 
 /** The wait at a pickup, from the arrival on, but not before the promised window begins: a rider need not be ready earlier.
@@ -162,6 +176,10 @@ export function evidenceOf({ promise, came, what }, minutes, day, now) {
     const doubt = isLate ? "late" : promise && minute < promise[0] ? "early" : arrived === null ? "not-arrived" : waited < minutes * MINUTE ? "wait" : null;
     return { promise, arrived, waited, doubt };
 }
+
+/** The words for a doubt: that the driver came late is said where an arrival is marked.
+ * @param {Pick<Evidence, "doubt" | "arrived">} evidence */
+export const doubtWords = ({ doubt, arrived }) => (doubt === "late" && arrived === null ? "late-unmarked" : doubt);
 
 /** The earlier stops that count as passed where the driver goes on from a later one: not the drops of riders aboard.
  * @param {Shown[]} stops @param {string} from the later one's name */

@@ -203,7 +203,7 @@ function manifestOf(vehicle) {
     /** @type {ReturnType<typeof makeScreen<State>>} */
     const screen = makeScreen({ state: stateOf(vehicle, today()), draw: (state) => (acts ? drawn(state, acts) : []) });
     const lock = lockOfPhone(), reader = readerOf(screen, lock);
-    acts = { ...actsOf(screen, reader.relog), show: (day) => reader.show(day), pull: (pull) => void enterReading(screen.state, pull, reader.relog) };
+    acts = { ...actsOf(screen, reader.relog, reader.refresh), show: (day) => reader.show(day), pull: (pull) => void enterReading(screen.state, pull, reader.relog) };
     screen.every(TICK, clockOf(screen, reader, lock));
     screen.every(RENEWED, () => reader.refresh());
     screen.every(AGAIN, () => screen.state.silent && reader.refresh());

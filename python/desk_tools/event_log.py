@@ -6,6 +6,7 @@ part. A line that can't be read is named and passed over. One that came twice, b
 
 import datetime
 import gzip
+import re
 import zlib
 from collections.abc import Iterable, Iterator
 from dataclasses import dataclass, field
@@ -16,6 +17,9 @@ from desk_tools.events import EVENTS, PREFIX, Value, fields_of
 LONGEST = 4_096
 # Whose keys tell an event: as deploy/desk.nginx writes it.
 TELLERS = ("office", "dispatcher", "vehicle", "other")
+# How the site begins a line, and how one begins that was cut off at once.
+BEGUN = re.compile(rb"20|2\d{4}-")
+START = re.compile(rb"\d{4}-\d\d-\d\dT\d\d:\d\d:\d\d(?:[+-]\d\d:\d\d|Z)\t" + PREFIX.encode("ascii"))
 
 
 class UnreadableLog(Exception):
@@ -75,10 +79,11 @@ def read(paths: Iterable[str | Path]) -> Log:
     for at, name in enumerate(names):
         number, known_before = 0, len(found)
         for number, line in enumerate(lines_in(name), 1):
-            try:
-                found.append((at, number, whole_of(line)))
-            except ValueError as error:
-                broken.append((at, number, str(error)))
+            for piece in apart(line):
+                try:
+                    found.append((at, number, whole_of(piece)))
+                except ValueError as error:
+                    broken.append((at, number, str(error)))
         # A log of one line may be that of a machine that lost its power there. More lines than one are another file.
         if number > 1 and len(found) == known_before:
             raise UnreadableLog(
@@ -104,6 +109,13 @@ def lines_in(path: str | Path) -> Iterator[bytes]:
     except (OSError, EOFError, zlib.error) as error:
         why = getattr(error, "strerror", None) or error
         raise UnreadableLog(f"{path} can't be read: {why}") from None
+
+
+def apart(line: bytes) -> list[bytes]:
+    """The lines that stand in one: where a line was cut off in the middle, the site wrote the next event behind it."""
+    # (a line that begins otherwise was damaged, and all of it is in doubt)
+    starts = [it.start() for it in START.finditer(line, 1)] if BEGUN.match(line) else []
+    return [line[at:end] for at, end in zip([0, *starts], [*starts, len(line)])]
 
 
 def whole_of(line: bytes) -> Told:

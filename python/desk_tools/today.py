@@ -155,7 +155,7 @@ class Known:
         oldest, count = self.first.isoformat().encode(), len(self.events)
         oldest_tap = self.first_tap.isoformat().encode()
         oldest_no_show = self.first_no_show.isoformat().encode()
-        for line in lines:
+        for line in (piece for it in lines for piece in event_log.apart(it)):
             first = oldest
             if b"\t/tally/stops\t" in line:
                 first = oldest_tap

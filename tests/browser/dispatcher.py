@@ -375,10 +375,15 @@ def one_search_finds_by_all_words_and_opens_the_manifest_at_the_stop(at):
     sign_in(at, DAY, "23:00", "trips")
 
 
-# What drivers told of vans 1 and 2.
+def spoken(minute):
+    hour = minute // 60
+    return f"{(hour + 11) % 12 + 1}:{minute % 60:02} {'AM' if hour < 12 else 'PM'}"
+
+
+# What drivers told of vans 1 and 2, and a phone of van 9 of a trip on which entries disagree.
 def told_file(at, minute, taps):
     made = at.town.get("dispatcher", f"/days/{DAY}/sheet") and json.dumps({
-        "day": DAY, "made": f"{DAY}T{minute // 60 + 4:02}:{minute % 60:02}:00Z", "vehicles": {"1": {"taps": taps}}, "notes": [],
+        "day": DAY, "made": f"{DAY}T{minute // 60 + 4:02}:{minute % 60:02}:00Z", "vehicles": {"1": {"taps": taps}, "9": {"taps": [{"trip": 1, "kind": "aboard", "minute": minute - 30}]}}, "notes": [],
         "bookings": {}, "no_shows": [], "calls": {}, "unreviewed": {"no_shows": [], "disagreements": [
             {"day": DAY, "trip": 1, "vehicle": 2, "record": "ridden", "told": "missed-rider", "minute": minute}]}})
     at.town.write_file("staff/today.json", made)
@@ -398,6 +403,11 @@ def what_needs_a_person_stands_on_top_and_leads_to_its_row(at):
     at.browser.sees("Late, min", "24 min late", "Entries that disagree")
     at.browser.press(f"{VAN_1}: 24 minutes late")
     at.browser.sees(f"Manifest, {VAN_1}")
+    at.browser.press(f"{VAN_2}: two entries disagree")
+    at.browser.sees("what is right?", "Tapped", f"Aboard at {spoken(late - 29)}, Vehicle 9")
+    offered = at.browser.script("return [...document.querySelectorAll('dialog button')].map((it) => it.textContent)")
+    same("the first answer", "The rider rode", offered[0])
+    at.browser.press("Decide later")
     at.browser.fill("Only vans that need a person", True)
     first = at.browser.script("return document.querySelector('.lane-row').dataset.row")
     same("the first row", "1", first)

@@ -160,7 +160,8 @@ def each_rider_keeps_the_window_where_a_van_can(at):
     after = {row["rider"]: row for row in booked_on(at, LATER)}
     kept = 0
     for row in before:
-        moved = int(after[row["rider"]]["window_from"]) - int(row["window_from"])
+        start, end = (int(after[row["rider"]][it]) - int(row[it]) for it in ("window_from", "window_to"))
+        moved = 0 if start >= 0 >= end else start or end
         at.browser.sees(f"{abs(moved)} minutes {'later' if moved > 0 else 'earlier'}" if moved else "Same window,")
         kept += moved == 0
     holds(f"{kept} of {len(before)} windows are kept", kept * 5 >= len(before) * 3)

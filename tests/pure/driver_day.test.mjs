@@ -1,7 +1,7 @@
 import assert from "node:assert/strict";
 import { test } from "node:test";
 
-import { behindBy, choicesAt, dayOf, evidenceOf, leftOpen, minuteOn, skipped } from "../../pages/screens/driver-day.js";
+import { behindBy, choicesAt, dayOf, doubtWords, evidenceOf, leftOpen, minuteOn, othersHave, skipped } from "../../pages/screens/driver-day.js";
 
 const DAY = "2025-03-11";
 const STOPS = [
@@ -33,6 +33,10 @@ test("without an arrival it is always doubtful", () => {
     for (let now = 480; now <= 600; now += 1) assert.equal(doubt(null, now), now > 525 ? "late" : now < 510 ? "early" : "not-arrived");
 });
 
+test("that the driver came late is said where the arrival is marked", () => {
+    assert.deepEqual([doubtWords({ doubt: "late", arrived: 530 }), doubtWords({ doubt: "late", arrived: null }), doubtWords({ doubt: "wait", arrived: 515 })], ["late", "late-unmarked", "wait"]);
+});
+
 test("the wait counts from the window's begin, to the second", () => {
     const log = [entry("PICK 9", "arrived", at(500, 30))];
     assert.equal(evidenceOf(pickup(log), 5, DAY, at(514, 59)).doubt, "wait");
@@ -45,6 +49,16 @@ test("the wait counts from the window's begin, to the second", () => {
 test("a van that comes after midnight is late, not early", () => {
     assert.equal(minuteOn("2025-03-12T00:05:00", DAY), 1445);
     assert.equal(evidenceOf(pickup([entry("PICK 9", "arrived", "2025-03-12T00:05:00")]), 5, DAY, "2025-03-12T00:12:00").doubt, "late");
+});
+
+test("another phone's aboard speaks against a no-show whenever it was; this phone's own does not", () => {
+    const known = (how) => ({ 9: { how, minute: 530 } }), here = [entry("PICK 9", "arrived", at(500))];
+    for (const how of ["aboard", "ridden"]) assert.equal(othersHave(known(how), here, 9), how);
+    for (const how of ["missed-rider", "missed-operator"]) assert.equal(othersHave(known(how), here, 9), null);
+    assert.equal(othersHave(known("aboard"), [...here, entry("PICK 9", "aboard", at(530))], 9), null);
+    assert.equal(othersHave(known("aboard"), [entry("PICK 9", "undone", at(530))], 9), null);
+    assert.equal(othersHave(known("aboard"), [entry("PICK 9", "undone", at(520))], 9), "aboard");
+    assert.deepEqual([othersHave({}, here, 9), othersHave(known("aboard"), here, 8), othersHave(known("aboard"), here, undefined)], [null, null, null]);
 });
 
 test("at the drop the pickup's window and arrival count", () => {
@@ -62,10 +76,10 @@ test("where the van came late, the agency's fault comes first, and nothing is ta
     }
 });
 
-test("how far the van is behind is told by the last tap, or by the next stop's time", () => {
+test("how far the van is behind is counted as on the dispatcher's board, by stops of trips", () => {
     const told = (log, now) => behindBy(dayOf(STOPS, log).stops, log, DAY, at(now));
     assert.equal(told([], 470), 0);
-    assert.equal(told([], 491), 11);
+    assert.deepEqual([told([], 491), told([], 529), told([], 540)], [0, 14, 25]);
     const log = [entry("out", "left", at(480)), entry("PICK 9", "arrived", at(526)), entry("PICK 9", "aboard", at(528))];
     assert.equal(told(log, 529), 13);
     assert.equal(told(log, 560), 20);

@@ -25,7 +25,7 @@ test("a tap tells the delay, which is carried on to the coming windows", () => {
     assert.equal(it.delay, 24);
     assert.deepEqual(it.risks.map(({ trip, due, past }) => [trip, due, past]), []);
     const worse = late([tap(1, "aboard", 575)], 576);
-    assert.deepEqual([worse.delay, worse.risks.map(({ trip, due, past }) => [trip, due, past])], [35, [[2, 615, 10], [3, 695, 10]]]);
+    assert.deepEqual([worse.delay, worse.risks.map(({ trip, due, past }) => [trip, due, past])], [35, [[2, 615, 10]]]);
 });
 
 test("a van that caught up is not late", () => {
@@ -47,15 +47,52 @@ test("taps of other trips, and taps out of order, change nothing", () => {
     assert.equal(late([tap(1, "dropped", 562), tap(1, "aboard", 541)], 563).delay, 2);
 });
 
-test("a rider whom the van has passed by is at risk once the window has closed, until somebody tells of the trip", () => {
+test("a rider whom the van has passed by is without update once the window has closed, until somebody tells of the trip", () => {
     const both = { ...VAN, stops: [depot(500), pick(1, 540), pick(2, 545), drop(1, 560), drop(2, 600), pick(3, 660), drop(3, 680), depot(700)] }, ridden = new Map([[1, { state: "ridden", minutes: 0 }]]);
-    const risks = (taps, now, doings = ridden) => lateOf(both, taps, doings, now).risks.map(({ trip, due, past }) => [trip, due, past]), begun = [tap(1, "aboard", 541)];
+    const risks = (taps, now, doings = ridden) => lateOf(both, taps, doings, now).passed.map(({ trip, due, past }) => [trip, due, past]), begun = [tap(1, "aboard", 541)];
     assert.deepEqual(risks(begun, 571), [[2, 571, 1]]);
     assert.deepEqual(risks([...begun, tap(2, "skipped", 546)], 571), [[2, 571, 1]]);
     assert.deepEqual(risks(begun, 570), []);
-    for (const kind of ["arrived", "aboard", "no-show", "missed", "dropped"]) assert.deepEqual(risks([...begun, tap(2, kind, 546)], 571), []);
+    assert.deepEqual(risks([...begun, tap(2, "arrived", 546)], 571, new Map()), []);
+    assert.deepEqual(risks([...begun, tap(2, "arrived", 546)], 571), [[2, 571, 1]]);
+    for (const kind of ["aboard", "no-show", "missed", "dropped"]) assert.deepEqual(risks([...begun, tap(2, kind, 546)], 571), []);
     for (const state of ["ridden", "missed-rider", "missed-operator", "cancelled"]) assert.deepEqual(risks(begun, 571, new Map([...ridden, [2, { state, minutes: 0 }]])), []);
     assert.deepEqual(risks([], 571), []);
+});
+
+// Van 6 of a day: two pickups close together, then their drops.
+const CLOSE = { ...VAN, stops: [depot(590), { ...pick(73, 607), load: 1 }, { ...pick(57, 610), load: 2 }, { ...drop(73, 631), load: 1 }, drop(57, 650), pick(80, 660), drop(80, 690), depot(700)] };
+const FAITHFUL = [tap(73, "aboard", 623), tap(57, "arrived", 625)];
+
+test("an outcome without a tap keeps the delay, and the pickup where the van arrived before is without update", () => {
+    const it = lateOf(CLOSE, FAITHFUL, new Map([[73, { state: "ridden", minutes: 0 }]]), 626);
+    assert.deepEqual([it.delay, it.silent, it.risks.map(({ trip, due }) => [trip, due])], [15, 0, []]);
+    const later = lateOf(CLOSE, FAITHFUL, new Map([[73, { state: "ridden", minutes: 0 }]]), 641);
+    assert.deepEqual([later.delay, later.passed.map(({ trip }) => trip)], [15, [57]]);
+    const tapped = lateOf(CLOSE, [...FAITHFUL, tap(73, "dropped", 626)], new Map([[73, { state: "ridden", minutes: 0 }]]), 641);
+    assert.deepEqual([tapped.delay, tapped.passed.map(({ trip }) => trip)], [15, [57]]);
+    const two = { ...VAN, stops: [pick(1, 601), { ...drop(39, 616), load: 1 }, drop(1, 628), depot(700)] };
+    assert.equal(lateOf(two, [tap(1, "aboard", 636)], new Map([[39, { state: "ridden", minutes: 0 }]]), 637).delay, 35);
+});
+
+test("what is told from afar raises a delay and never lowers it", () => {
+    for (const kind of ["skipped", "missed"]) assert.equal(late([tap(1, "aboard", 560), tap(2, kind, 561)], 562).delay, 20);
+    assert.equal(late([tap(1, "aboard", 560), tap(1, "dropped", 561)], 562).delay, 1);
+});
+
+test("only pickups to come will miss their windows; one behind the van is without update", () => {
+    const it = lateOf(CLOSE, [tap(73, "aboard", 623), tap(73, "dropped", 660)], new Map([[73, { state: "ridden", minutes: 0 }]]), 664);
+    assert.deepEqual([it.risks.map(({ trip }) => trip), it.passed.map(({ trip }) => trip)], [[80], [57]]);
+    const needs = attentionOf([it], null, new Map(), []);
+    assert.deepEqual([needs.risk.map(({ trip }) => trip), needs.passed.map(({ trip }) => trip)], [[80], [57]]);
+});
+
+test("a van that stands empty makes up its delay in the planned time between two stops, less its longest way with riders", () => {
+    const gap = (/** @type {number} */ minutes) => ({ ...VAN, stops: [pick(1, 540), drop(1, 560), pick(2, 560 + minutes), drop(2, 580 + minutes)] }), taps = [tap(1, "aboard", 570), tap(1, "dropped", 590)];
+    for (const [minutes, delay] of [[20, 30], [30, 20], [50, 0], [180, 0]]) assert.equal(lateOf(gap(minutes), taps, new Map(), 560).delay, delay, `${minutes}`);
+    assert.deepEqual(lateOf(gap(180), taps, new Map(), 595).risks, []);
+    const loaded = { ...VAN, stops: [pick(1, 540), { ...pick(2, 700), load: 2 }, drop(2, 720), drop(1, 730)] };
+    assert.equal(lateOf(loaded, [tap(1, "aboard", 570)], new Map(), 571).delay, 30);
 });
 
 test("a file that is old, of another day, or broken is none", () => {
@@ -68,8 +105,8 @@ test("a file that is old, of another day, or broken is none", () => {
 });
 
 test("what needs a person has the worst first", () => {
-    const lates = [{ vehicle: 1, delay: 8, silent: 0, risks: [], last: null }, { vehicle: 2, delay: 24, silent: 0, risks: [], last: null }, { vehicle: 3, delay: 0, silent: 46, risks: [], last: null },
-        { vehicle: 4, delay: 4, silent: 0, risks: [], last: null }];
+    const lates = [{ vehicle: 1, delay: 8, silent: 0, risks: [], passed: [], last: null }, { vehicle: 2, delay: 24, silent: 0, risks: [], passed: [], last: null }, { vehicle: 3, delay: 0, silent: 46, risks: [], passed: [], last: null },
+        { vehicle: 4, delay: 4, silent: 0, risks: [], passed: [], last: null }];
     const doings = new Map([[1, { state: "no-word", minutes: 20 }], [2, { state: "missed-rider", minutes: 0 }]]);
     const told = { day: "2026-03-10", vehicles: new Map(), notes: [], noShows: [{ trip: 1 }, { trip: 2 }], disagreements: [{ trip: 3 }], late: [] };
     const it = attentionOf(lates, told, doings, [VAN]);

@@ -82,6 +82,13 @@ test("each rider is booked again, whose pickup is nearest first, in the old wind
     assert.deepEqual(desk.all().filter((it) => it.trip > 12).sort((a, b) => a.trip - b.trip).map((it) => it.rider), [2, 3, 1]);
 });
 
+test("a window holds where the new one is the same or within it; else it is said by how much it differs", () => {
+    const moved = (from, to) => plans.movedBy({ old: { window_from: 785, window_to: 808 }, ticket: { window_from: from, window_to: to } });
+    assert.deepEqual([moved(785, 808), moved(790, 808), moved(785, 800)], [0, 0, 0]);
+    assert.deepEqual([moved(785, 815), moved(788, 818), moved(780, 810), moved(780, 800)], [7, 3, -5, -5]);
+    assert.equal(plans.movedBy({ old: { window_from: 785, window_to: 808 }, ticket: null }), 0);
+});
+
 test("the wishes pin the old window, and the last one is what the rider said", () => {
     const tries = plans.triesOf({ old: trip(1, 1, 600, { by: null }), drop: 650 });
     assert.deepEqual(tries, [{ wish: 660, by: 660 }, { wish: 660, by: 675 }, { wish: 660, by: 695 }, { wish: 595, by: null }]);

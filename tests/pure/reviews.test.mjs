@@ -3,7 +3,7 @@
 import assert from "node:assert/strict";
 import { test } from "node:test";
 
-import { correctionLine, doubtOf, nextOf, OUTCOMES, rowKey } from "../../pages/parts/reviews.js";
+import { correctionLine, doubtOf, nextOf, OUTCOMES, outcomesBy, rowKey, tapsOn, withArrival } from "../../pages/parts/reviews.js";
 
 const WINDOW = { from: 545, to: 560 };
 
@@ -16,6 +16,19 @@ test("each arrival, wait and moment has its doubt", () => {
     }
     assert.equal(doubtOf({ ...WINDOW, arrived: null, wait: 0, minute: 559 }, 5), "not-arrived");
     assert.equal(doubtOf({ ...WINDOW, arrived: 530, wait: 0, minute: 540 }, 0), "early");
+});
+
+test("what another phone tapped counts: aboard above all, and its arrival where this one has none", () => {
+    const tap = (kind, minute, trip = 5) => ({ trip, kind, minute }), silent = { ...WINDOW, arrived: null, wait: 0, minute: 556 };
+    const taps = tapsOn(new Map([[1, [tap("no-show", 556), tap("aboard", 540, 6)]], [2, [tap("arrived", 550), tap("aboard", 551)]]]), 5);
+    assert.deepEqual(taps.map(({ kind, minute, vehicle }) => [kind, minute, vehicle]), [["arrived", 550, 2], ["aboard", 551, 2], ["no-show", 556, 1]]);
+    assert.equal(doubtOf(silent, 5, taps), "aboard");
+    assert.deepEqual(outcomesBy(taps), ["ridden", "missed-operator", "missed-rider"]);
+    const arrived = taps.filter(({ kind }) => kind === "arrived");
+    assert.deepEqual([doubtOf(silent, 5, arrived), doubtOf({ ...silent, minute: 552 }, 5, arrived), doubtOf(silent, 5, [])], [null, "wait", "not-arrived"]);
+    assert.deepEqual(withArrival(silent, arrived), { ...silent, arrived: 550, wait: 6 });
+    assert.equal(withArrival({ ...silent, arrived: 548 }, arrived).arrived, 548);
+    assert.deepEqual(outcomesBy(arrived), OUTCOMES);
 });
 
 test("a line has four columns, whatever somebody types", () => {

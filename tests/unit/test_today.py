@@ -320,6 +320,26 @@ def trips(told: dict[str, Any]) -> list[int]:
     return [tap["trip"] for it in told["vehicles"].values() for tap in it["taps"]]
 
 
+def test_an_event_behind_a_line_that_was_cut_off_counts(tmp_path: Path) -> None:
+    first, second = stop(1, trip=1), stop(2, trip=2)
+    path = tmp_path / "tally.log"
+    for cut in range(1, len(first)):
+        path.write_bytes(first[:cut] + second + stop(3, trip=3))
+        found = read([path])
+        # (the last field of a line without its end is whole where it is one that a line may have)
+        is_whole = first[:cut].endswith(b"\toffice")
+        assert [it.number("trip") for it in found.events] == [1, 2, 3][0 if is_whole else 1 :], cut
+        assert is_whole or found.broken[0].startswith(f"{path}, line 1: "), cut
+    work = work_in(tmp_path)
+    path.write_bytes(first[:40])
+    work.begin(NOON)
+    assert trips(step(work)) == []
+    with open(path, "ab") as file:
+        file.write(second)
+    assert trips(step(work)) == [2]
+    assert work.known.broken == 1
+
+
 def test_a_log_is_followed_over_torn_lines_rotation_and_cuts(tmp_path: Path) -> None:
     work, path = work_in(tmp_path), tmp_path / "tally.log"
     work.begin(NOON)
