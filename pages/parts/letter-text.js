@@ -14,6 +14,8 @@ import { fromWords, windowWords } from "../words/on-record.js";
 
 const APPEALABLE = ["refused", "suspended"], DAY = 86_400_000;
 const TIME = String.raw`(\d{1,2}:\d{2} [AP]M)`;
+/** A missed trip on record: its day, the window as 0905-0935 and the place; and the longer words of older notices. */
+const SHORT = /^(\d{4}-\d{2}-\d{2}) (\d{2})(\d{2})-(\d{2})(\d{2})(?: (.+))?$/;
 const MISSED = new RegExp(`^(\\d{4}-\\d{2}-\\d{2}), ${windowWords(TIME, TIME)}(?:${fromWords("(.+)")})?$`);
 
 /** The desk's text of a letter by its lines.
@@ -63,13 +65,27 @@ export function conditionIn(own, text) {
     return kind === "always" || kind === "nolift" ? textOf(own, `condition-${kind}`) : text;
 }
 
+/** "9:05 AM" of 09 and 05.
+ * @param {string} hours @param {string} minutes
+ */
+const timeOf = (hours, minutes) => `${Number(hours) % 12 || 12}:${minutes} ${Number(hours) < 12 ? "AM" : "PM"}`;
+
+/** The day of a missed trip, its window and its place, or null where the words are others.
+ * @param {string} missed @returns {string[] | null}
+ */
+function missedParts(missed) {
+    const short = SHORT.exec(missed), found = MISSED.exec(missed);
+    if (short) return [short[1], timeOf(short[2], short[3]), timeOf(short[4], short[5]), short[6]];
+    return found && found.slice(1);
+}
+
 /** A missed trip of a notice, which is on record in English, in the reader's language.
  * @param {string} own @param {string} missed
  */
 function missedIn(own, missed) {
-    const found = MISSED.exec(missed), clock = (/** @type {string} */ time) => time.replace(/[AP]M$/, (half) => SENTENCES[own].half[half]);
+    const found = missedParts(missed), clock = (/** @type {string} */ time) => time.replace(/[AP]M$/, (half) => SENTENCES[own].half[half]);
     if (!found) return missed;
-    const [, day, from, to, place] = found;
+    const [day, from, to, place] = found;
     return textOf(own, "missed-trip", { day: dayIn(own, day), from: clock(from), to: clock(to) }) + (place ? textOf(own, "missed-from", { place }) : "");
 }
 
