@@ -2,6 +2,7 @@
 // what goes onto paper, and the plain text of an e-mail. bin/letters makes the same of the same table. Nothing here knows of a page.
 
 import { PLANS, SENTENCES } from "../words/letter-sentences.js";
+import { PRESUMED_DAYS } from "./limits.js";
 import { noticeIn } from "./notices.js";
 import { pairOf, partOf } from "./partial.js";
 import { fromWords, windowWords } from "../words/on-record.js";
@@ -120,7 +121,7 @@ function factsOf(letter, about) {
         planned: (part?.conditions ?? []).map((it) => conditionIn(own, it)), missed: (notice?.missed ?? []).map((it) => missedIn(own, it)) };
     const values = { who: name || textOf(own, "rider", { rider }), whose: name ? textOf(own, "whose", { name }) : textOf(own, "whose-rider", { rider }), agency: agency.name, call, rider, days: appealDays, until: dayIn(own, kind === "refused-in-part" ? part?.until ?? "" : main.lines.get("UNTIL") ?? ""),
         from: dayIn(own, first), to: dayIn(own, last), date: dayIn(own, refusal.date), day: dayIn(own, more.day ?? plus(refusal.date, appealDays)),
-        hearing: dayIn(own, plus(main.date, hearingDays)), since: dayIn(own, more.since ?? ""), against: dayIn(own, more.against ?? ""), decision: more.decision ? titleIn(own, more.decision) : "" };
+        hearing: dayIn(own, plus(main.date, hearingDays)), since: dayIn(own, more.since ?? ""), by: dayIn(own, plus(more.since ?? "", PRESUMED_DAYS)), against: dayIn(own, more.against ?? ""), decision: more.decision ? titleIn(own, more.decision) : "" };
     const flags = Object.entries({ every: conditions.includes("always"), attendant: main.lines.get("ATTENDANT") === "yes", foreign: own !== "en" && (notice ? notice.more : reasons) !== "", reasons: reasons !== "" && !notice,
         days: first !== "", missed: lists.missed.length > 0, more: Boolean(notice?.more), basis: main.decision === "notice" && !notice,
         suspension: more.suspension === "yes" || (main.decision === "appeal denied" && first !== "") }).filter(([, holds]) => holds).map(([flag]) => flag);

@@ -11,7 +11,7 @@ from dataclasses import dataclass, field
 from desk_tools.letters.on_record import Notice, Part, missed_in, notice_in, part_in
 from desk_tools.letters.sentences import TEXTS, Step, plan_of
 
-APPEAL_DAYS, HEARING_DAYS = 60, 15
+APPEAL_DAYS, HEARING_DAYS, PRESUMED_DAYS = 60, 15, 21
 _APPEALABLE = ("refused", "suspended")
 _DECISIONS = ("granted", "refused")
 _PLACEHOLDER = re.compile(r"\{(\w+)\}")
@@ -240,6 +240,7 @@ def _facts_of(letter: Letter, about: About) -> _Facts:
         "day": day_in(own, more.get("day") or _plus(kind.refusal.date, APPEAL_DAYS)),
         "hearing": day_in(own, _plus(kind.main.date, HEARING_DAYS)),
         "since": day_in(own, more.get("since", "")),
+        "by": day_in(own, _plus(more.get("since", ""), PRESUMED_DAYS)),
         "against": day_in(own, more.get("against", "")),
         "decision": title_in(own, more["decision"]) if more.get("decision") else "",
     }
