@@ -2,7 +2,7 @@
 // decision, which begins with those days.
 
 import { agency, placeName } from "../parts/agency.js";
-import { clock, dayInWords, dayShort, plus, today } from "../parts/clock.js";
+import { between, clock, dayInWords, dayShort, plus, today } from "../parts/clock.js";
 import * as desk from "../parts/desk.js";
 import { denialOf } from "../parts/denials.js";
 import { element, part } from "../parts/element.js";
@@ -84,11 +84,22 @@ const seenWords = (evidence) => `${isGround(evidence) ? "" : "⚠ "}${t(`cases.s
 /** @param {import("../parts/no-shows.js").File} file @param {Trip} trip */
 const seenOf = (file, { trip, day }) => evidenceOf(file, trip, day, agency().wait_minutes);
 
+const OF_THE_LIST = /^Missed by the rider on (\d{4}-\d{2}-\d{2}): trip (\d+) /;
+
+/** A sentence of the night's list with the names of places and the agency's clock, where it is of a trip that was missed.
+ * @param {string} sentence
+ */
+export function namedIn(sentence) {
+    if (!OF_THE_LIST.test(sentence)) return sentence;
+    const minute = (/** @type {string} */ time) => Number(time.slice(0, 2)) * 60 + Number(time.slice(3));
+    return sentence.replace(/\bplace (\d+)/g, (_, place) => placeName(Number(place))).replace(/(\d\d:\d\d) to (\d\d:\d\d)/, (_, from, to) => between(minute(from), minute(to)));
+}
+
 /** What an officer reads of each trip of a sentence of the night's list, which names it.
  * @param {string} sentence @returns {import("../types").Given}
  */
 export function seenIn(sentence) {
-    const file = noShowsIn(noShowsRead().reply()), found = /^Missed by the rider on (\d{4}-\d{2}-\d{2}): trip (\d+) /.exec(sentence);
+    const file = noShowsIn(noShowsRead().reply()), found = OF_THE_LIST.exec(sentence);
     return file && found && part("span", { class: "seen" }, " ", seenWords(evidenceOf(file, Number(found[2]), found[1], agency().wait_minutes)));
 }
 
