@@ -84,7 +84,7 @@ def what_waits_is_said_with_its_day_and_an_application_has_its_receipt(at):
 TRIPS = [{"trip": 900 + at, "day": f"2025-03-0{1 + at % 9}", "window_from": 545, "window_to": 575, "from": 1, "to": 2, "status": "missed-rider", "wish": 545, "by": None,
           "attendant": False, "companions": 0, "vehicle": 1, "fare": 0, "due": 0} for at in range(12)]
 READS_TRIPS = """const before = window.fetch, trips = arguments[0];
-    window.fetch = (path, how) => (/riders\\/1001\\/trips/.test(String(path)) ? Promise.resolve(new Response(JSON.stringify({ trips }), { status: 200 })) : before(path, how));"""
+    window.fetch = (path, how) => (/riders\\/1001\\/trips/.test(String(path)) ? Promise.resolve(new Response(JSON.stringify({ trips }), { headers: { "Content-Type": "application/json" } })) : before(path, how));"""
 
 
 @check
