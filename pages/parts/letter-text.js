@@ -2,6 +2,7 @@
 // what goes onto paper, and the plain text of an e-mail. bin/letters makes the same of the same table. Nothing here knows of a page.
 
 import { PLANS, SENTENCES } from "../words/letter-sentences.js";
+import { PRESUMED_DAYS } from "./limits.js";
 import { noticeIn } from "./notices.js";
 import { pairOf, partOf } from "./partial.js";
 import { fromWords, windowWords } from "../words/on-record.js";
@@ -14,6 +15,8 @@ import { fromWords, windowWords } from "../words/on-record.js";
 
 const APPEALABLE = ["refused", "suspended"], DAY = 86_400_000;
 const TIME = String.raw`(\d{1,2}:\d{2} [AP]M)`;
+/** A missed trip on record: its day, the window as 0905-0935 and the place; and the longer words of older notices. */
+const SHORT = /^(\d{4}-\d{2}-\d{2}) (\d{2})(\d{2})-(\d{2})(\d{2})(?: (.+))?$/;
 const MISSED = new RegExp(`^(\\d{4}-\\d{2}-\\d{2}), ${windowWords(TIME, TIME)}(?:${fromWords("(.+)")})?$`);
 
 /** The desk's text of a letter by its lines.
@@ -63,13 +66,27 @@ export function conditionIn(own, text) {
     return kind === "always" || kind === "nolift" ? textOf(own, `condition-${kind}`) : text;
 }
 
+/** "9:05 AM" of 09 and 05.
+ * @param {string} hours @param {string} minutes
+ */
+const timeOf = (hours, minutes) => `${Number(hours) % 12 || 12}:${minutes} ${Number(hours) < 12 ? "AM" : "PM"}`;
+
+/** The day of a missed trip, its window and its place, or null where the words are others.
+ * @param {string} missed @returns {string[] | null}
+ */
+function missedParts(missed) {
+    const short = SHORT.exec(missed), found = MISSED.exec(missed);
+    if (short) return [short[1], timeOf(short[2], short[3]), timeOf(short[4], short[5]), short[6]];
+    return found && found.slice(1);
+}
+
 /** A missed trip of a notice, which is on record in English, in the reader's language.
  * @param {string} own @param {string} missed
  */
 function missedIn(own, missed) {
-    const found = MISSED.exec(missed), clock = (/** @type {string} */ time) => time.replace(/[AP]M$/, (half) => SENTENCES[own].half[half]);
+    const found = missedParts(missed), clock = (/** @type {string} */ time) => time.replace(/[AP]M$/, (half) => SENTENCES[own].half[half]);
     if (!found) return missed;
-    const [, day, from, to, place] = found;
+    const [day, from, to, place] = found;
     return textOf(own, "missed-trip", { day: dayIn(own, day), from: clock(from), to: clock(to) }) + (place ? textOf(own, "missed-from", { place }) : "");
 }
 
@@ -104,7 +121,7 @@ function factsOf(letter, about) {
         planned: (part?.conditions ?? []).map((it) => conditionIn(own, it)), missed: (notice?.missed ?? []).map((it) => missedIn(own, it)) };
     const values = { who: name || textOf(own, "rider", { rider }), whose: name ? textOf(own, "whose", { name }) : textOf(own, "whose-rider", { rider }), agency: agency.name, call, rider, days: appealDays, until: dayIn(own, kind === "refused-in-part" ? part?.until ?? "" : main.lines.get("UNTIL") ?? ""),
         from: dayIn(own, first), to: dayIn(own, last), date: dayIn(own, refusal.date), day: dayIn(own, more.day ?? plus(refusal.date, appealDays)),
-        hearing: dayIn(own, plus(main.date, hearingDays)), since: dayIn(own, more.since ?? ""), against: dayIn(own, more.against ?? ""), decision: more.decision ? titleIn(own, more.decision) : "" };
+        hearing: dayIn(own, plus(main.date, hearingDays)), since: dayIn(own, more.since ?? ""), by: dayIn(own, plus(more.since ?? "", PRESUMED_DAYS)), against: dayIn(own, more.against ?? ""), decision: more.decision ? titleIn(own, more.decision) : "" };
     const flags = Object.entries({ every: conditions.includes("always"), attendant: main.lines.get("ATTENDANT") === "yes", foreign: own !== "en" && (notice ? notice.more : reasons) !== "", reasons: reasons !== "" && !notice,
         days: first !== "", missed: lists.missed.length > 0, more: Boolean(notice?.more), basis: main.decision === "notice" && !notice,
         suspension: more.suspension === "yes" || (main.decision === "appeal denied" && first !== "") }).filter(([, holds]) => holds).map(([flag]) => flag);

@@ -1,6 +1,6 @@
 // Each limit of the desk and of the regulation, once.
 
-export const DAYS_AHEAD = 14, SUSPENSION_DAYS = 30, APPEAL_DAYS = 60;
+export const DAYS_AHEAD = 14, SUSPENSION_DAYS = 30, APPEAL_DAYS = 60, PRESUMED_DAYS = 21;
 /** Of our own: so long a rider has to ask for a hearing, and between a decision to suspend and its first day; and below so many characters reasons are hardly any. */
 export const HEARING_DAYS = 15, FEW_REASONS = 40;
 /** Fewer no-shows than these are no pattern or practice. */

@@ -4,7 +4,7 @@
 import { agency, placeName, placeNote, vehicleName } from "./agency.js";
 import { between, clock, dayInWords } from "./clock.js";
 import { drawInto, found, part } from "./element.js";
-import { printParts } from "./paper.js";
+import { printParts, trialMark } from "./paper.js";
 import { pagesOf } from "./paper-pages.js";
 import { riderLabel, riderOf } from "./roster.js";
 import { stopNote, stopWhere } from "./stop-where.js";
@@ -90,7 +90,7 @@ function manifestPage(manifest, dues, { notes = () => [], duty = () => "" }, { f
     const label = duty(manifest.vehicle), title = part("h2", {}, t("dispatcher.manifest-of", { vehicle: vehicleName(manifest.vehicle), day: dayInWords(manifest.day) }),
         label && part("small", {}, ` ${label}`));
     const blanks = ["driver", "signature", "odometer-out", "odometer-in", "fares"].map((name) => [blank(`dispatcher.fill-${name}`), " "]), ofVan = notes(manifest.vehicle, 0);
-    return part("section", { class: "van" }, part("p", { class: "own-head" }, part("span", {}, [agency().name, agency().telephone].filter(Boolean).join(", ")),
+    return part("section", { class: "van" }, trialMark(), part("p", { class: "own-head" }, part("span", {}, [agency().name, agency().telephone].filter(Boolean).join(", ")),
         part("span", { class: "page-of" }, t("dispatcher.page-of", { page, pages }))), title,
     page === 1 && part("div", { class: "first" }, part("p", { class: "signatures" }, blanks), ofVan.length > 0 && part("p", {}, notesWords(ofVan))),
     part("table", { class: "manifest" }, part("colgroup", {}, heads.map(() => part("col"))), part("thead", {}, part("tr", {}, heads)),
@@ -120,7 +120,7 @@ function measured(manifests, draw) {
  */
 export function printManifests(manifests, dues, options = {}) {
     const draw = (/** @type {Manifest} */ manifest, /** @type {Page} */ page) => manifestPage(manifest, dues, options, page), pages = measured(manifests, draw);
-    printParts("", [manifests.map((manifest, at) => pages[at].map((page) => draw(manifest, page))), options.original && ownPages(manifests.map(({ text }) => text))], { class: "manifests" });
+    printParts("", [manifests.map((manifest, at) => pages[at].map((page) => draw(manifest, page))), options.original && ownPages(manifests.map(({ text }) => text))], { class: "manifests", marked: true });
 }
 
 // The day sheet.

@@ -13,13 +13,18 @@ export function takePaperAway() {
     document.body.classList.remove("papered");
 }
 
-/** Puts these parts on paper, alone.
- * @param {string} title @param {Given} parts @param {{ class?: string }} options
+/** What stands on the paper of a trial program.
+ * @returns {Given}
  */
-export function printParts(title, parts, { class: kind = "" } = {}) {
+export const trialMark = () => agency().unproved && part("p", { class: "unproved" }, t("common.unproved"));
+
+/** Puts these parts on paper, alone. Where they are marked, each has the mark of a trial program itself.
+ * @param {string} title @param {Given} parts @param {{ class?: string, marked?: boolean }} options
+ */
+export function printParts(title, parts, { class: kind = "", marked = false } = {}) {
     const before = document.title;
     found("paper").className = kind;
-    drawInto(found("paper"), [agency().unproved && part("p", { class: "unproved" }, t("common.unproved")), title && part("h1", {}, title), heldTogether(parts)]);
+    drawInto(found("paper"), [!marked && trialMark(), title && part("h1", {}, title), heldTogether(parts)]);
     document.body.classList.add("papered");
     window.addEventListener("afterprint", () => {
         takePaperAway();

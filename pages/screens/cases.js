@@ -13,7 +13,7 @@ import { reading } from "../parts/reads.js";
 import { riderLabel } from "../parts/roster.js";
 import { makeScreen } from "../parts/screen.js";
 import { anyOf, t } from "../parts/words.js";
-import { conditionInWords, isOwn, lastDay, lettersRead, madeLetter, mayAppeal, purposeOf } from "./letters.js";
+import { conditionInWords, isOwn, languageChoice, lastDay, lettersRead, madeLetter, mayAppeal, purposeOf } from "./letters.js";
 
 export { conditionInWords, lettersFor } from "./letters.js";
 
@@ -48,7 +48,7 @@ function standingWords(rider, day, { standing, suspended, until, conditions }, l
         suspended && suspendedWords(day, letters),
         part("p", {}, t(suspended ? "cases.else" : "cases.reason", { why: [why, last].filter(Boolean).join(" ") }), ` (${SECTIONS[standing]})`),
         conditions && part("p", {}, t("cases.for", { conditions: anyOf(conditions.map((it) => conditionInWords(it))) }), " (49 CFR 37.123(b))"),
-        !suspended && WITH_LETTER.includes(standing) && madeLetter(standing, rider, { day }));
+        !suspended && WITH_LETTER.includes(standing) && [languageChoice(rider, "standing"), madeLetter(standing, rider, { day })]);
 }
 
 /** @param {number} rider */

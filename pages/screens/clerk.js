@@ -11,6 +11,7 @@ import { lookAtSent, sentFor } from "../parts/sent.js";
 import { keepSubject, subjectOf, withSubject } from "../parts/subject.js";
 import { counted, t } from "../parts/words.js";
 import { bookingFor } from "./booking.js";
+import { waitingFor } from "./case-waits.js";
 import { entryForms, lettersFor, ofResident, standingOf } from "./cases.js";
 import { formsCard } from "./forms.js";
 import { applicationOf } from "./in-part.js";
@@ -100,9 +101,9 @@ const forRider = (draw, focus) => () => {
 
 /** @param {number} rider */
 const file = (rider) => ofResident(rider, () => {
-    const standing = standingOf(rider), letters = lettersFor(rider);
-    const entered = () => Promise.all([standing.refresh(), letters.refresh()]);
-    return [standing.element, applicationOf(rider, entered), ...entryForms(rider, ["appeal"], entered), noticeFor(rider, entered), letters.element, element(formsCard({ both: true }))];
+    const standing = standingOf(rider), waiting = waitingFor(rider), letters = lettersFor(rider);
+    const entered = () => Promise.all([standing.refresh(), letters.refresh(), waiting.refresh()]);
+    return [standing.element, waiting.element, applicationOf(rider, entered), ...entryForms(rider, ["appeal"], entered), noticeFor(rider, entered), letters.element, element(formsCard({ both: true }))];
 });
 
 /** @param {number} rider */

@@ -14,7 +14,7 @@ import { pairOf, partWaiting } from "../parts/partial.js";
 import { printParts } from "../parts/paper.js";
 import { reading } from "../parts/reads.js";
 import { riderLabel, riderName, riderOf } from "../parts/roster.js";
-import { makeScreen } from "../parts/screen.js";
+import { drawAllAgain, makeScreen } from "../parts/screen.js";
 import { language, LANGUAGE_NAMES, t } from "../parts/words.js";
 
 /** @typedef {import("../types").Given} Given */
@@ -148,11 +148,11 @@ function buttonsOf(letter, rider, how) {
         button(t("cases.large-letter", { entry, rider }), () => print(letter, rider, { ...how, large: true })), button(t("cases.text-letter", { entry, rider }), () => saveText(letter, rider, how)));
 }
 
-/** The same buttons for a letter that is not of the desk: an appeal that came, a standing that nobody decided.
+/** The same buttons for a letter that is not of the desk: an application or an appeal that came, a standing that nobody decided.
  * @param {string} decision as words/letter-sentences.js has it @param {number} rider @param {Record<string, string>} more
  */
 export function madeLetter(decision, rider, more = {}) {
-    const letter = { entry: -1, text: "", date: today(), decision, lines: new Map() }, how = { own: firstLanguage(rider), letters: [], more };
+    const letter = { entry: -1, text: "", date: today(), decision, lines: new Map() }, how = { own: languageOf(rider), letters: [], more };
     return part("div", { class: "row" }, button(t("cases.print-made"), () => print(letter, rider, how)), button(t("cases.large-made"), () => print(letter, rider, { ...how, large: true })),
         button(t("cases.text-made"), () => saveText(letter, rider, how)));
 }
@@ -165,12 +165,29 @@ function firstLanguage(rider) {
     return own in LANGUAGE_NAMES ? own : language();
 }
 
-/** @param {string} own @param {(patch: { own: string }) => void} change */
-function howPrinted(own, change) {
-    const languages = [...Object.entries(LANGUAGE_NAMES), ["both", t("cases.both")]];
-    return [part("div", { class: "row how tools" }, part("label", { for: "letter-language" }, t("cases.print-language")),
-        part("select", { id: "letter-language", value: own, on: { change: (event) => change({ own: event.target.value }) } },
-            languages.map(([value, text]) => part("option", { value }, text)))), !isOwn() && part("p", { class: "hint" }, t("cases.other-forms"))];
+/** The language in which all letters to a rider print, as it was chosen here.
+ * @type {Map<number, string>}
+ */
+const chosen = new Map();
+
+/** The language, or both, in which all letters to a rider print.
+ * @param {number} rider
+ */
+const languageOf = (rider) => chosen.get(rider) ?? firstLanguage(rider);
+
+/** @param {number} rider @param {string} own */
+function choose(rider, own) {
+    chosen.set(rider, own);
+    drawAllAgain();
+}
+
+/** The one choice of language for all letters to a rider. It stands wherever one of them prints, and is the same in each place.
+ * @param {number} rider @param {string} place its name among those of the page
+ */
+export function languageChoice(rider, place) {
+    const languages = [...Object.entries(LANGUAGE_NAMES), ["both", t("cases.both")]], id = `letter-language-${place}`;
+    return part("div", { class: "row how tools" }, part("label", { for: id }, t("cases.print-language")),
+        part("select", { id, value: languageOf(rider), on: { change: (event) => choose(rider, event.target.value) } }, languages.map(([value, text]) => part("option", { value }, text))));
 }
 
 /** @param {Letter} letter @param {Letter[]} letters */
@@ -205,15 +222,15 @@ function bodyShown(letter, rider, own, letters) {
 export function lettersFor(rider, { appeals = true } = {}) {
     const who = riderLabel(rider), read = lettersRead(rider);
     const screen = makeScreen({
-        state: { ready: false, entered: /** @type {import("../parts/entered.js").Entered[]} */ ([]), own: firstLanguage(rider), answerAt: -1,
+        state: { ready: false, entered: /** @type {import("../parts/entered.js").Entered[]} */ ([]), answerAt: -1,
             answer: /** @type {Given} */ (null) },
         class: "card",
-        draw: ({ ready, entered, own, answerAt, answer }, { change }) => {
-            const reply = ready ? read.reply() : null, denied = reply?.denied !== undefined, letters = /** @type {Letter[]} */ (reply?.value ?? []);
+        draw: ({ ready, entered, answerAt, answer }) => {
+            const own = languageOf(rider), reply = ready ? read.reply() : null, denied = reply?.denied !== undefined, letters = /** @type {Letter[]} */ (reply?.value ?? []);
             return [part("h2", {}, isOwn() ? t("cases.letters-own") : t("cases.letters", { who })), read.age(),
                 part("div", { role: "status" }, !reply && t("cases.letters-reading"), denied && denialOf(reply, purposeOf("standing")),
                     reply && !letters.length && !denied && t("cases.letters-none")),
-                letters.length > 0 && howPrinted(own, change),
+                letters.length > 0 && [languageChoice(rider, "letters"), !isOwn() && part("p", { class: "hint" }, t("cases.other-forms"))],
                 letters.length > 0 && part("ol", { class: "letters" }, letters.map((letter) => part("li", { key: letter.entry },
                     part("h3", {}, `${dayIn(language(), letter.date)}: ${titleOf(language(), letter, letters)}`), bodyShown(letter, rider, own, letters),
                     part("details", {}, part("summary", {}, t("cases.on-record", { entry: letter.entry })),

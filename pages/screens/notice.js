@@ -2,15 +2,15 @@
 // decision, which begins with those days.
 
 import { agency, placeName } from "../parts/agency.js";
-import { clock, dayInWords, dayShort, plus, today } from "../parts/clock.js";
+import { between, clock, dayInWords, dayShort, plus, today } from "../parts/clock.js";
 import * as desk from "../parts/desk.js";
 import { denialOf } from "../parts/denials.js";
 import { element, part } from "../parts/element.js";
 import { dayField, reasonsField, ticksField } from "../parts/fields.js";
 import { HEARING_DAYS, MOST_REASONS } from "../parts/limits.js";
 import { evidenceOf, fileIn, isGround } from "../parts/no-shows.js";
-import { basisOf, noticeIn } from "../parts/notices.js";
-import { bytesOf, plainOf } from "../parts/plain.js";
+import { fittingBasis, noticeIn } from "../parts/notices.js";
+import { plainOf } from "../parts/plain.js";
 import { fileAt, reading } from "../parts/reads.js";
 import { makeScreen } from "../parts/screen.js";
 import { listed, t } from "../parts/words.js";
@@ -19,22 +19,48 @@ import { lettersRead } from "./letters.js";
 import { windowOf } from "./ticket.js";
 
 /** @typedef {import("../types").Trip} Trip */
+/** @typedef {import("../types").Field} Field */
 
-// A rider may have missed many; the letter holds some six.
+// A rider may have missed many; the letter holds some nine.
 const MOST_OFFERED = 12, DAYS_TICKED = 30;
 
 /** @param {Trip} trip */
 const missedOf = ({ day, window_from: from, window_to: to, from: place }) => ({ day, from, to, place: plainOf(placeName(place)).text });
 
-/** What goes to the desk: the trips, the days and what else was written, as one text.
+/** What goes to the desk: the trips, the days and what else was written, as one text; and the trips that it has no room for.
  * @param {Trip[]} trips @param {any} values
  */
-const basisIn = (trips, { missed, starts, ends, more }) => basisOf({ missed: trips.filter(({ trip }) => missed.includes(trip)).map(missedOf), first: starts, last: ends, more: more ?? "" });
+function textIn(trips, { missed, starts, ends, more }) {
+    const chosen = trips.filter(({ trip }) => missed.includes(trip));
+    const made = fittingBasis({ missed: chosen.map(missedOf), first: starts, last: ends, more: more ?? "" }, MOST_REASONS);
+    return { ...made, left: chosen.slice(made.named) };
+}
 
 /** @param {Trip[]} trips @param {any} values */
 function faultIn(trips, values) {
-    const length = bytesOf(basisIn(trips, values));
+    const { length } = textIn(trips, values);
     return faultOfDays(values) ?? (length > MOST_REASONS ? { field: "missed", fault: t("cases.basis-long", { length, most: MOST_REASONS }) } : null);
+}
+
+/** Which trips the text has no room for, where there is no room.
+ * @param {Trip[]} trips @param {any} values
+ */
+function leftIn(trips, values) {
+    const { left } = textIn(trips, values);
+    return left.length > 0 && part("p", { class: "note" }, t("cases.basis-left", { trips: listed(left.map(({ trip }) => String(trip))), count: left.length }));
+}
+
+/** How long the text is, and which trips it leaves out, while trips are checked and words are typed.
+ * @param {Trip[]} trips @param {Field[]} fields @returns {HTMLElement}
+ */
+function counterOf(trips, fields) {
+    const first = plus(today(), HEARING_DAYS), screen = makeScreen({ state: {}, class: "basis-count", draw: () => {
+        const values = Object.fromEntries(fields.map(({ name, read }) => [name, read().value]));
+        const known = { missed: values.missed ?? [], starts: values.starts || first, ends: values.ends || first, more: values.more };
+        return [part("p", { class: "hint" }, t("cases.basis-count", { length: textIn(trips, known).length, most: MOST_REASONS })), part("div", { role: "status" }, leftIn(trips, known))];
+    } });
+    for (const { element: field } of fields) for (const kind of ["input", "change"]) field.addEventListener(kind, () => screen.change({}));
+    return screen.element;
 }
 
 /** A text that may be left empty, in the desk's plain signs. */
@@ -58,11 +84,22 @@ const seenWords = (evidence) => `${isGround(evidence) ? "" : "⚠ "}${t(`cases.s
 /** @param {import("../parts/no-shows.js").File} file @param {Trip} trip */
 const seenOf = (file, { trip, day }) => evidenceOf(file, trip, day, agency().wait_minutes);
 
+const OF_THE_LIST = /^Missed by the rider on (\d{4}-\d{2}-\d{2}): trip (\d+) /;
+
+/** A sentence of the night's list with the names of places and the agency's clock, where it is of a trip that was missed.
+ * @param {string} sentence
+ */
+export function namedIn(sentence) {
+    if (!OF_THE_LIST.test(sentence)) return sentence;
+    const minute = (/** @type {string} */ time) => Number(time.slice(0, 2)) * 60 + Number(time.slice(3));
+    return sentence.replace(/\bplace (\d+)/g, (_, place) => placeName(Number(place))).replace(/(\d\d:\d\d) to (\d\d:\d\d)/, (_, from, to) => between(minute(from), minute(to)));
+}
+
 /** What an officer reads of each trip of a sentence of the night's list, which names it.
  * @param {string} sentence @returns {import("../types").Given}
  */
 export function seenIn(sentence) {
-    const file = noShowsIn(noShowsRead().reply()), found = /^Missed by the rider on (\d{4}-\d{2}-\d{2}): trip (\d+) /.exec(sentence);
+    const file = noShowsIn(noShowsRead().reply()), found = OF_THE_LIST.exec(sentence);
     return file && found && part("span", { class: "seen" }, " ", seenWords(evidenceOf(file, Number(found[2]), found[1], agency().wait_minutes)));
 }
 
@@ -79,17 +116,24 @@ function doubts(trips, file, missed) {
     return doubted.length > 0 && part("p", { class: "note" }, t("cases.seen-doubt", { trips: listed(doubted.map(({ trip }) => String(trip))) }));
 }
 
+/** The no-shows to choose from. Those of late for which something speaks are checked: the others are for who knows more of them.
+ * @param {Trip[]} offered @param {import("../parts/no-shows.js").File | null} file
+ */
+function missedField(offered, file) {
+    const isChecked = (/** @type {Trip} */ it) => it.day >= plus(today(), -DAYS_TICKED) && file !== null && isGround(seenOf(file, it));
+    const words = (/** @type {Trip} */ it) => t("cases.basis-trip", { trip: it.trip, day: dayShort(it.day), window: windowOf(it), place: placeName(it.from) }) + (file ? `. ${seenWords(seenOf(file, it))}` : "");
+    return ticksField("missed", t("cases.basis"), offered.map((it) => /** @type {[number, string]} */ ([it.trip, words(it)])), offered.filter(isChecked).map(({ trip }) => trip),
+        { least: 1, hint: t("cases.basis-hint"), wants: t("cases.basis-wants") });
+}
+
 /** @param {number} rider @param {Trip[]} trips @param {import("../parts/no-shows.js").File | null} file @param {() => any} entered */
 function noticeOf(rider, trips, file, entered) {
-    const offered = trips.slice(0, MOST_OFFERED), recent = offered.filter((it) => it.day >= plus(today(), -DAYS_TICKED) && !(file && seenOf(file, it).kind === "late")).map(({ trip }) => trip);
-    const first = plus(today(), 2 * HEARING_DAYS);
-    const fields = [
-        ticksField("missed", t("cases.basis"), offered.map((it) => /** @type {[number, string]} */ ([it.trip, t("cases.basis-trip",
-            { trip: it.trip, day: dayShort(it.day), window: windowOf(it), place: placeName(it.from) }) + (file ? `. ${seenWords(seenOf(file, it))}` : "")])), recent, { least: 1, hint: t("cases.basis-hint"), wants: t("cases.basis-wants") }),
-        dayField("starts", t("cases.starts-proposed"), { least: plus(today(), HEARING_DAYS + 1), value: first, wants: t("cases.starts-proposed-wants", { day: dayInWords(plus(today(), HEARING_DAYS + 1)) }) }),
-        dayField("ends", t("cases.ends-proposed"), { least: plus(today(), HEARING_DAYS + 1) }), moreField()];
-    return [!file && part("p", { class: "note" }, t("cases.seen-unknown")), entryForm(rider, "notice", entered, { fields, check: (values) => faultIn(trips, values), entryOf: (values) => ({ basis: basisIn(trips, values) }),
-        doubt: (values) => doubts(trips, file, values.missed) })];
+    const offered = trips.slice(0, MOST_OFFERED), least = plus(today(), HEARING_DAYS + 1), missed = missedField(offered, file), more = moreField();
+    const fields = [missed, dayField("starts", t("cases.starts-proposed"), { least, value: plus(today(), 2 * HEARING_DAYS), wants: t("cases.starts-proposed-wants", { day: dayInWords(least) }) }),
+        dayField("ends", t("cases.ends-proposed"), { least }), more];
+    more.element.append(counterOf(trips, fields));
+    return [!file && part("p", { class: "note" }, t("cases.seen-unknown")), entryForm(rider, "notice", entered, { fields, check: (values) => faultIn(trips, values), entryOf: (values) => ({ basis: textIn(trips, values).basis }),
+        doubt: (values) => [leftIn(trips, values), doubts(trips, file, values.missed)] })];
 }
 
 /** The clerk's notice to a rider, of the trips that the rider missed.

@@ -1,8 +1,8 @@
 // What a clerk has to know of the rider who calls: standing, conditions, what waits, and what the agency's roster says.
 
 import { placeName, placeNote } from "../parts/agency.js";
-import { suspensionOn, waits } from "../parts/case-facts.js";
-import { dayInWords, dayShort, today } from "../parts/clock.js";
+import { suspensionOn } from "../parts/case-facts.js";
+import { dayInWords, today } from "../parts/clock.js";
 import * as desk from "../parts/desk.js";
 import { denialOf } from "../parts/denials.js";
 import { part } from "../parts/element.js";
@@ -11,7 +11,7 @@ import { reading } from "../parts/reads.js";
 import { riderLabel, riderOf } from "../parts/roster.js";
 import { makeScreen } from "../parts/screen.js";
 import { anyOf, LANGUAGE_NAMES, listed, t } from "../parts/words.js";
-import { appealWords } from "./appeals.js";
+import { waitingWords } from "./case-waits.js";
 import { conditionInWords } from "./cases.js";
 import { lettersRead } from "./letters.js";
 import { listsIn, worklistRead } from "./worklist.js";
@@ -40,15 +40,6 @@ function standingWords(told, days, waiting) {
         suspended && until && part("p", {}, t("clerk.on-file", { day: dayInWords(until) })),
         conditions && conditions.join() !== "always" && part("p", {}, t("clerk.conditions", { conditions: anyOf(conditions.map((it) => String(conditionInWords(it)))) })),
         waiting.map((it) => part("p", { class: "waits" }, it)));
-}
-
-/** What waits for a decision, and since when.
- * @param {{ rider: number, letters: import("../parts/case-facts.js").Letter[], entered: Entered[], lists: any[] }} known @returns {Given[]}
- */
-function waitingWords(known) {
-    const application = waits("complete", known), appeal = waits("appeal", known);
-    return [application && t("clerk.application-waits", { day: dayShort(application.since) }),
-        appeal && appealWords(appeal)].filter(Boolean);
 }
 
 /** Whether the rider travels with an attendant, by the letter of the grant where it was read, or by the roster; null where neither says it.

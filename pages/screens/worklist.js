@@ -13,7 +13,7 @@ import { keepSubject } from "../parts/subject.js";
 import { toldRead } from "../parts/told.js";
 import { t } from "../parts/words.js";
 import { denialsToday } from "./denials-today.js";
-import { seenIn, watchNoShows } from "./notice.js";
+import { namedIn, seenIn, watchNoShows } from "./notice.js";
 
 /** @typedef {import("../types").Given} Given */
 /** @typedef {{ heads: string[], rows: string[][] }} Table */
@@ -155,7 +155,7 @@ export function waitingOf(rider) {
         const shown = [...found.lists.filter(({ id }) => id === "missed").map((list) => rowsOf(list, rider)).filter(({ tables }) => tables.length > 0),
             ...found.files.filter(({ id }) => id === `${FILES}${rider}`)];
         return [head, part("div", { lang: "en" }, found.said.map((it) => part("p", {}, it))), !shown.length && part("p", {}, t("cases.missed-none")),
-            shown.map((list) => part("section", { key: list.id, lang: "en" }, part("h3", {}, list.title), list.said.map((it) => part("p", {}, it, seenIn(it))), tablesOf(list)))];
+            shown.map((list) => part("section", { key: list.id, lang: "en" }, part("h3", {}, list.title), list.said.map((it) => part("p", {}, namedIn(it), seenIn(it))), tablesOf(list)))];
     } });
     list.watch(screen.element, () => screen.change({}));
     watchNoShows(screen.element, () => screen.change({}));

@@ -1,6 +1,7 @@
 // What pages write into the desk's record, which is kept in English whatever the page speaks.
 
 export const MISSED_TRIPS = "Missed trips (no-shows): ", PROPOSED = "Proposed suspension: ", THROUGH = " through ";
+/** Notices of before have a missed trip in these longer words. */
 export const windowWords = (/** @type {string} */ from, /** @type {string} */ to) => `pickup window ${from} to ${to}`;
 export const fromWords = (/** @type {string} */ place) => `, from ${place}`;
 export const GRANTED_IN_PART = "Granted in part through ", FOR = " for ", NOT_GRANTED = ". Not granted: ";

@@ -326,12 +326,12 @@ def a_notice_says_what_was_seen_of_each_no_show_and_asks_where_nothing_speaks_fo
             at.browser.sign_in(at.keys["clerk"], "clerk", "file")
             at.browser.fill("Rider number", "1001")
             at.browser.press("Show")
-            at.browser.sees("Notice of proposed suspension to")
+            at.browser.sees("notice of a proposed suspension")
             opened_entry(at, "notice")
             at.browser.sees(words)
             at.browser.fill("Proposed last day", "2025-04-17")
             box = at.browser.find("field", re.compile(f"^Trip {trip}:"))
-            same(f"it is ticked where {words}", "after the window" not in words, box.is_selected())
+            same(f"it is ticked where {words}", not is_doubted, box.is_selected())
             if not box.is_selected():
                 box.click()
             at.browser.press("Give rider 1001 notice")
@@ -353,16 +353,17 @@ def a_notice_names_each_missed_trip_and_the_days_that_are_proposed(at):
         at.browser.sees("no no-show on record")
         at.browser.fill("Rider number", "1001")
         at.browser.press("Show")
-        at.browser.sees("Notice of proposed suspension to Rosa Álvarez (1001)")
+        at.browser.sees("Give Rosa Álvarez (1001) notice of a proposed suspension")
         opened_entry(at, "notice")
         same("the first day that is proposed", "2025-04-11", at.browser.find("field", "Proposed first day of the suspension").get_attribute("value"))
         at.browser.fill("Proposed last day", "2025-04-17")
+        at.browser.find("field", re.compile(r"^Trip \d+:")).click()
         at.browser.fill("Anything else for the letter (optional)", "x" * 450)
         at.browser.press("Give rider 1001 notice")
         at.browser.sees("The notice takes 500 characters, and this has ")
         at.browser.fill("Anything else for the letter (optional)", "Called twice.")
         at.browser.press("Give rider 1001 notice")
-        at.browser.sees("Missed trips (no-shows): 2025-03-11, pickup window ",
+        at.browser.sees("Missed trips (no-shows): 2025-03-11 0",
                         "Proposed suspension: 2025-04-11 through 2025-04-17. Called twice.")
         at.browser.press("Yes: give rider 1001 notice")
         at.browser.sees("proposes to suspend Rosa Álvarez (1001)'s paratransit service from Friday, April 11, 2025 through "
@@ -380,7 +381,7 @@ def the_notice_on_paper_says_what_is_proposed_why_and_how_to_be_heard(at):
         last = max(it for it in range(12) if first_letter_text(at, 1001, it)[0] == 200)
         at.browser.fill("Print in", "English")
         plain = " ".join(at.browser.print_by(f"Print letter {last} of rider 1001").text.split())
-        for words in ["Notice of proposed suspension", "from Friday, April 11, 2025 through Thursday, April 17, 2025", "2025-03-11, pickup window",
+        for words in ["Notice of proposed suspension", "from Friday, April 11, 2025 through Thursday, April 17, 2025", "2025-03-11 0", "Tuesday, March 11, 2025, pickup window",
                       "reasons beyond your control", "right to a hearing", "Ask for a hearing by Thursday, March 27, 2025",
                       "bring someone with you", "No suspension begins before we decide"]:
             holds(f"{words!r} is not on the paper: {plain}", words in plain)

@@ -776,7 +776,7 @@ def an_application_that_was_taken_here_is_on_the_card(at):
     begin(at, "1710")
     at.browser.sees("May not ride today: nothing is granted")
     at.browser.go_part("clerk", "file")
-    at.browser.press("Application of rider 1710 taken")
+    at.browser.press("Take the application of rider 1710")
     at.browser.press("Rider 1710's application is complete")
     at.browser.press("Yes: rider 1710's application is complete")
     at.browser.sees("It waits for the examiner.")

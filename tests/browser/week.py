@@ -193,8 +193,8 @@ def on_friday_the_one_who_was_refused_appeals_and_is_heard(at):
 def on_friday_the_one_who_missed_gets_a_notice_is_heard_and_suspended(at):
     begin(at, "clerk", "clerk", "file", FRIDAY)
     show(at, MISSED)
-    # (the trip of March 13 is checked already)
-    enter(at, "notice", f"Give rider {MISSED} notice", {"Proposed last day": "2025-04-20"})
+    # (the site has no report of the trip of March 13, so it starts unchecked)
+    enter(at, "notice", f"Give rider {MISSED} notice", {re.compile(r"^Trip \d+:"): True, "Proposed last day": "2025-04-20"})
     at.browser.sees("is on record, with its letter.")
     case_of(at, "officer", MISSED, "suspensions", FRIDAY)
     enter(at, "notice-heard", f"Rider {MISSED} was heard on the notice")

@@ -8,10 +8,10 @@ import re
 from collections.abc import Mapping, Sequence
 from dataclasses import dataclass, field
 
-from desk_tools.letters.on_record import MISSED, Notice, Part, notice_in, part_in
+from desk_tools.letters.on_record import Notice, Part, missed_in, notice_in, part_in
 from desk_tools.letters.sentences import TEXTS, Step, plan_of
 
-APPEAL_DAYS, HEARING_DAYS = 60, 15
+APPEAL_DAYS, HEARING_DAYS, PRESUMED_DAYS = 60, 15, 21
 _APPEALABLE = ("refused", "suspended")
 _DECISIONS = ("granted", "refused")
 _PLACEHOLDER = re.compile(r"\{(\w+)\}")
@@ -135,14 +135,17 @@ def condition_in(own: str, text: str) -> str:
     return text_of(own, f"condition-{kind}") if kind in ("always", "nolift") else text
 
 
-def missed_in(own: str, missed: str) -> str:
+def _missed_words(own: str, missed: str) -> str:
     """A missed trip of a notice, which is on record in English, in the reader's language."""
-    found = MISSED.fullmatch(missed)
-    if not found:
+    trip = missed_in(missed)
+    if trip is None:
         return missed
-    day, begins, ends, place = found.groups()
-    values = {"day": day_in(own, day), "from": _clock(own, begins), "to": _clock(own, ends)}
-    said = text_of(own, "missed-from", {"place": place}) if place else ""
+    values = {
+        "day": day_in(own, trip.day),
+        "from": _clock(own, trip.begins),
+        "to": _clock(own, trip.ends),
+    }
+    said = text_of(own, "missed-from", {"place": trip.place}) if trip.place else ""
     return text_of(own, "missed-trip", values) + said
 
 
@@ -237,13 +240,14 @@ def _facts_of(letter: Letter, about: About) -> _Facts:
         "day": day_in(own, more.get("day") or _plus(kind.refusal.date, APPEAL_DAYS)),
         "hearing": day_in(own, _plus(kind.main.date, HEARING_DAYS)),
         "since": day_in(own, more.get("since", "")),
+        "by": day_in(own, _plus(more.get("since", ""), PRESUMED_DAYS)),
         "against": day_in(own, more.get("against", "")),
         "decision": title_in(own, more["decision"]) if more.get("decision") else "",
     }
     lists = {
         "conditions": tuple(condition_in(own, it) for it in conditions),
         "planned": tuple(condition_in(own, it) for it in (part.conditions if part else ())),
-        "missed": tuple(missed_in(own, it) for it in notice.missed) if notice else (),
+        "missed": tuple(_missed_words(own, it) for it in notice.missed) if notice else (),
     }
     quotes = {"reasons-are": reasons, "-": notice.more if notice else "", "notice-basis": reasons}
     return _Facts(kind.name, values, lists, _flags(kind, about, notice, reasons, first), quotes)
