@@ -219,9 +219,7 @@ def callers_for(callers: Mapping[int, Caller], role: str, subject: int) -> list[
     return sorted(number for number, it in callers.items() if it.is_for(role, subject))
 
 
-def wrong_caller(
-    callers: Mapping[int, Caller], number: int, role: str, subject: int
-) -> str | None:
+def wrong_caller(callers: Mapping[int, Caller], number: int, role: str, subject: int) -> str | None:
     """Why this number may get no key for this rider or driver, and which ones may; or None."""
     if number in callers and callers[number].is_for(role, subject):
         return None
