@@ -114,13 +114,14 @@ def give_name(part, name):
     synced(os.path.dirname(os.path.abspath(name)))
 
 
-def remove_left(folder, prefix):
+def remove_left(folder, prefix, left_for=None):
     """Removes folders of this user with that prefix that a killed script left there, and that no script holds."""
+    least = LEFT_FOR if left_for is None else left_for
     for entry in os.scandir(folder):
         if not entry.name.startswith(prefix) or not entry.is_dir(follow_symlinks=False):
             continue
         found = entry.stat(follow_symlinks=False)
-        if found.st_uid == os.geteuid() and time.time() - found.st_mtime > LEFT_FOR:
+        if found.st_uid == os.geteuid() and time.time() - found.st_mtime >= least:
             with contextlib.suppress(OSError), held(entry.path):
                 shutil.rmtree(entry.path)
 
@@ -137,9 +138,9 @@ def held(path):
 
 
 @contextlib.contextmanager
-def folder_within(folder, prefix):
+def folder_within(folder, prefix, left_for=None):
     """A folder for files that are thrown away, on the disk of the given one."""
-    remove_left(folder, prefix)
+    remove_left(folder, prefix, left_for)
     path = tempfile.mkdtemp(prefix=prefix, dir=folder)
     try:
         with held(path):

@@ -3,12 +3,14 @@ import contextlib
 import os
 import stat
 import struct
+import subprocess
 
 from .ballast import free_in
 from .content import TABLES, content_in, content_of_pair
 from .ending import Failure
 from .locking import is_locked
 from .pages import FILE_HEAD, bytes_of, in_memory, log_head, page_size_of
+from .places import has_open
 
 # The desk's log grows to this as it opens a file and takes its first write.
 LEAST_ROOM = 1 << 20
@@ -167,9 +169,23 @@ CAUSES = (cause_of_folder, cause_of_disk, cause_of_permission, cause_of_lock, ca
           cause_of_log, cause_of_pages, cause_of_version)
 
 
+# A desk that serves has its file open and locked, and writes it: then these are looked at alone.
+CAUSES_OF_SERVING = (cause_of_folder, cause_of_disk, cause_of_permission, cause_of_room)
+
+
+def serves(desk):
+    """Whether the unit's own process runs and has the file, as far as this user sees it."""
+    try:
+        process = desk.process()
+    except (Failure, subprocess.SubprocessError, OSError):
+        return False
+    # (what a process of another user has open is seen by root alone)
+    return bool(process) and (has_open(process, desk.file) or not os.access(f"/proc/{process}/fd", os.R_OK))
+
+
 def cause_of(desk):
     """The first cause that is found, in the order in which they are looked for; or None."""
-    for look in CAUSES:
+    for look in CAUSES_OF_SERVING if serves(desk) else CAUSES:
         try:
             found = look(desk)
         except OSError as error:

@@ -94,7 +94,9 @@ def check_is_elsewhere(folder, backups):
     """A folder whose disk is not mounted is one of this machine's own disk, which is no other place."""
     if not os.path.isdir(folder):
         raise Failure(f"there is no folder {folder}: is its disk mounted?")
-    if os.stat(folder).st_dev == os.stat(backups).st_dev:
+    # (before the first backup its folder may not be there)
+    there = next(it for it in (backups, *map(str, pathlib.Path(backups).parents)) if os.path.isdir(it))
+    if os.stat(folder).st_dev == os.stat(there).st_dev:
         raise Failure(f"{folder} is on the disk of {backups}: the disk of the other place is not mounted")
 
 

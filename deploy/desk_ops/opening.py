@@ -103,6 +103,8 @@ class Opening:
             if self.first_is_off:
                 self.told.append(f"{failure}; the first machine is off, as was said; it fences itself when it is back")
                 return
+            if failure.is_reached:
+                raise Failure(f"{self.first} did not answer whether it is fenced ({failure})") from None
             raise Failure(f"{self.first} could not be fenced ({failure}): take its power or its network away, and say "
                           "--first-is-off") from None
         self.is_fenced_by_us = True
@@ -216,8 +218,10 @@ class Opening:
             self.settings.told(self.first, *self.words("fence", "--undo"))
             return f"{self.first} serves again"
         except Failure as failure:
-            return (f"NOBODY SERVES, unless {self.first} comes back by itself ({failure}). Say there, as root: "
-                    f"{self.settings.script} {' '.join(self.words('fence', '--undo'))}")
+            return (f"this machine does not serve, and it is not known whether {self.first} serves ({failure}). It serves "
+                    "again by itself once the line is back. To have it serve at once, say there, as root: "
+                    f"{self.settings.script} {' '.join(self.words('fence', '--undo'))}. To serve here, take its power or its "
+                    "network away, and say --first-is-off")
 
 
 def answer_in(said):

@@ -38,8 +38,12 @@ def prepared(copy, folder, program, migrate):
     file = f"{folder}/desk.db"
     said = copied(copy, file)
     check_copy(file, said)
-    content = content_of(file)
-    check_whole(file)
+    try:
+        content = content_of(file)
+        check_whole(file)
+    except Failure as failure:
+        # (the person named the backup, and never the copy of it)
+        raise type(failure)(str(failure).replace(file, copy), failure.status) from None
     if judge_or_migrate(program, file):
         if not migrate:
             raise Failure(f"{copy} is of version {content.version}, and the program of a later one: say --migrate")
@@ -100,7 +104,8 @@ class Restore:
         program = program_to_start(self.desk.process())
         before = os.umask(0o077)
         try:
-            with folder_within(self.desk.folder, ".restored-") as folder:
+            # (nobody else restores here meanwhile: what is left has no process, however young it is)
+            with folder_within(self.desk.folder, ".restored-", left_for=0) as folder:
                 file, self.content = prepared(self.copy, folder, program, self.migrate)
                 self.replace(file)
         finally:

@@ -71,7 +71,7 @@ def check_is_new(line, given, copies):
     """The key of the file is not the stolen one, which would go on holding."""
     digest = digest_of(key_made_or_in(given.new_key))
     if copies.before:
-        if digest in theft.callers_in(copies.before).values():
+        if digest in {it.digest for it in theft.callers_in(copies.before).values()}:
             raise Failure(f"the key in {given.new_key} was somebody's when the backup was made: name a file that is "
                           "not there, and a new key is made in it", WRONG_WORDS)
     elif line.ask("GET", "/riders/1/trips", key_made_or_in(given.new_key)).status != 401:
@@ -80,14 +80,14 @@ def check_is_new(line, given, copies):
 
 
 def replace_key(given, line, copies, role, subject):
-    """The stolen key is nobody's from here on, and the new one is its caller's, or another caller's where it has to be."""
+    """The caller has another key, or another caller has it where it has to be. The caller's owner was looked up before."""
     was_there = os.path.exists(given.new_key)
     key = key_made_or_in(given.new_key)
     if was_there:
         check_is_new(line, given, copies)
     admin = Asking(line, given.admin)
     put_caller(admin, given.caller, role, subject, key)
-    print(f"caller {given.caller} has the key in {given.new_key}; the stolen one is nobody's")
+    print(f"caller {given.caller} has the key in {given.new_key}")
     left = HIGHEST_NUMBER - Asking(line, given.new_key).caller.last_number(0)
     if left < theft.FEWEST_LEFT:
         # (nobody has this key: the number as a caller is given up, and two callers can't have one key)
@@ -205,7 +205,7 @@ def told_cancellations(given, trips):
 
 
 def check_rider(given, copies, clerk):
-    """All that differs of a rider is told; the trips of the list, by number."""
+    """All that differs of a rider is told; the trips of the list, by number, and why each other one is not in it."""
     trips, after = trips_of_rider(clerk, given.rider), given.after
     if copies.before:
         after = theft.last_trip_in(copies.before)
@@ -216,7 +216,19 @@ def check_rider(given, copies, clerk):
     else:
         tell_without_backup(given, trips, after)
     tell_log("The site's log has these cancellations.", told_cancellations(given, trips))
-    return {number: it for number, it in trips.items() if number > after and it.status == theft.BOOKED}
+    listed = {number: it for number, it in trips.items() if number > after and it.status == theft.BOOKED}
+    rows = theft.rows_of_rider(copies.before, given.rider) if copies.before else None
+    before = rows.trips if rows else {}
+    return listed, {it.number: why_not_listed(it, before.get(it.number)) for it in trips.values() if it.number not in listed}
+
+
+def why_not_listed(trip, before):
+    """Why a trip of the rider is none of those that were booked since and can be canceled. `before` is it in the backup."""
+    if trip.status != theft.BOOKED:
+        return f"trip {trip.number} is {theft.ENDINGS[trip.status]}"
+    if before and not before.is_same_ride(trip):
+        return f"trip {trip.number} was moved: change it back where the rider did not move it"
+    return f"trip {trip.number} was booked before"
 
 
 def check_vehicle(given, copies):
@@ -261,11 +273,13 @@ def moment_of_theft(given, copies):
     return None
 
 
-def canceled(clerk, trips, chosen):
-    """Cancels those of the list; how many of them could not be."""
+def canceled(clerk, trips, chosen, others):
+    """Cancels those of the list; how many of them could not be. `others` says why a trip is none of them."""
     strange = [] if chosen == ["all"] else [it for it in chosen if it not in map(str, trips)]
     if strange:
-        raise Failure(f"these are none of the trips of the list: {', '.join(strange)}", WRONG_WORDS)
+        why = [said for number, said in others.items() if str(number) in strange]
+        raise Failure("; ".join([f"these are none of the trips of the list: {', '.join(strange)}", *why,
+                                 "nothing was canceled"]), WRONG_WORDS)
     failed = 0
     for number, trip in sorted(trips.items()):
         if chosen == ["all"] or str(number) in chosen:

@@ -5,7 +5,7 @@ import shutil
 import subprocess
 
 from setting_up.changes import run
-from setting_up.settings import MAIL, Failure
+from setting_up.settings import MAIL, WrongWords
 
 FOLDER, WORK, CHALLENGES = "/etc/desk/acme", "/var/lib/desk-acme", "/var/www/html/.well-known/acme-challenge"
 PUBLIC = "letsencrypt"
@@ -23,7 +23,7 @@ def authority_in(text):
     """The name of an authority that dehydrated knows, or an address."""
     if re.fullmatch(r"[a-z-]+|https://[A-Za-z0-9._~:/-]+", text):
         return text
-    raise Failure(f"{text!r} is no authority: {PUBLIC}, or the https:// address of an ACME directory")
+    raise WrongWords(f"{text!r} is no authority: {PUBLIC}, or the https:// address of an ACME directory")
 
 
 def make(changes, settings, hook):

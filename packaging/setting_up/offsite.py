@@ -1,6 +1,7 @@
 """Where copies go beside this machine: /etc/desk/copies.conf, of which only the place is desk-setup's."""
 import os
 import re
+import subprocess
 
 from setting_up.settings import NO_OFFSITE, before
 
@@ -25,3 +26,16 @@ def make(changes, settings, lines):
     if named[-1].strip() in ("", "none", NO_OFFSITE):
         lines.append("All backups are on this machine's disk, and are lost with it. Name another place by desk-setup "
                      "--offsite: BACKUPS.md, \"Copies elsewhere\".")
+
+
+def send_test(settings, script, lines):
+    """Looks at the place, where it is another one than before, and says what came."""
+    place = settings["offsite"]
+    if place in ("none", NO_OFFSITE, before().get("offsite", NO_OFFSITE)):
+        return
+    ran = subprocess.run([script, "list"], capture_output=True, text=True, stdin=subprocess.DEVNULL, check=False)
+    if ran.returncode:
+        why = ran.stderr.strip().removeprefix("deploy/elsewhere: ")
+        lines.append(f"No copy can go to {place} yet ({why}). Mend {CONF} or the other machine, and run {script} list.")
+    else:
+        lines.append(f"{place} was tried and answers; copies that are there: {len(ran.stdout.splitlines())}.")

@@ -16,7 +16,7 @@ import tempfile
 from setting_up import settings as told
 from setting_up import steps
 from setting_up.changes import Changes
-from setting_up.settings import Failure
+from setting_up.settings import Failure, WrongWords
 
 sys.path[:0] = [f"{steps.TOP}/deploy", f"{steps.TOP}/python"]
 from desk_ops import content, ending, keys, places, standby  # noqa: E402
@@ -60,7 +60,7 @@ class Machine:
     def __init__(self, path, folder):
         self.path, self.folder, self.names = path, f"{folder}/machine", []
         if not os.path.isfile(path):
-            raise Failure(f"there is no {path}")
+            raise WrongWords(f"there is no {path}")
         try:
             with tarfile.open(path) as archive:
                 for member in archive:
@@ -125,7 +125,7 @@ class Restoring:
 
     def __init__(self, given):
         if len(given.restore) > 2:
-            raise Failure("--restore takes a backup, and the copy of a machine: COPY [MACHINE.tar.gz]")
+            raise WrongWords("--restore takes a backup, and the copy of a machine: COPY [MACHINE.tar.gz]")
         self.given, self.changes, self.folder = given, Changes(), tempfile.mkdtemp(prefix="desk-restore-", dir="/var/tmp")
         self.machine = self.restored = self.content = None
         self.lines = []
@@ -137,9 +137,12 @@ class Restoring:
         copy, *others = self.given.restore
         self.need_machine(copy, others)
         if self.given.second and (not others or others[0] == NO_MACHINE):
-            raise Failure("a second machine takes the copy of the first one: COPY MACHINE.tar.gz --second")
+            raise WrongWords("a second machine takes the copy of the first one: COPY MACHINE.tar.gz --second")
         if self.given.second and os.path.exists(steps.FILE):
             raise Failure(f"{steps.FILE} is there: this machine has a desk, and is no new second one")
+        for path in [it for it in (copy, *others) if it != NO_MACHINE]:
+            if not os.path.isfile(path):
+                raise WrongWords(f"there is no {path}")
         self.copy = decrypted(copy, self.folder, self.given.identity)
         try:
             copies.check_backup(self.copy)
@@ -152,7 +155,7 @@ class Restoring:
                 self.check_zones()
                 self.check_agency()
         except ending.Failure as failure:
-            raise Failure(str(failure)) from None
+            raise (WrongWords if failure.status == ending.WRONG_WORDS else Failure)(str(failure)) from None
 
     def need_machine(self, copy, others):
         """A machine's copy that is beside the backup is not forgotten: the first that was made at its minute or later."""
@@ -160,7 +163,7 @@ class Restoring:
         found = glob.glob(f"{glob.escape(os.path.dirname(copy) or '.')}/machine-*.tar.gz*") if stamp and not others else []
         later = sorted(it for it in found if os.path.basename(it) >= f"machine-{stamp[1]}")
         if later:
-            raise Failure(f"{later[0]} is beside the backup: name it after the backup, or say {NO_MACHINE} there")
+            raise WrongWords(f"{later[0]} is beside the backup: name it after the backup, or say {NO_MACHINE} there")
 
     def check_zones(self):
         named = {f"{it} of {self.machine.path}": zone for it in NEEDED if (zone := self.machine.read(it).get("zone"))}

@@ -35,6 +35,14 @@ QUESTIONS = {
 class Failure(Exception):
     """What keeps the setup from going on, in one sentence."""
 
+    status = 1
+
+
+class WrongWords(Failure):
+    """What was said cannot be meant, and nothing was tried."""
+
+    status = 2
+
 
 def rule_of(zone):
     """The POSIX rule of an IANA zone, which is the last line of its file."""
@@ -45,7 +53,7 @@ def rule_of(zone):
     except OSError:
         content = b""
     if not path.startswith(f"{ZONES}/") or not content.startswith(b"TZif") or not content.endswith(b"\n"):
-        raise Failure(f"{zone!r} is no zone that this machine knows, such as America/New_York")
+        raise WrongWords(f"{zone!r} is no zone that this machine knows, such as America/New_York")
     return content.rstrip(b"\n").rpartition(b"\n")[2].decode("ascii")
 
 
@@ -56,13 +64,13 @@ def nightly_in(text):
         return "none"
     wrong = [it for it in words if it not in NIGHTLY]
     if wrong or not words:
-        raise Failure(f"{' '.join(wrong)!r} does not run each night: {', '.join(NIGHTLY)} may, or none")
+        raise WrongWords(f"{' '.join(wrong)!r} does not run each night: {', '.join(NIGHTLY)} may, or none")
     if "worklist" in words and "backup" not in words:
-        raise Failure("worklist reads the night's backup, so it goes with backup")
+        raise WrongWords("worklist reads the night's backup, so it goes with backup")
     for name in words:
         for path in NIGHTLY[name]:
             if not os.path.exists(path):
-                raise Failure(f"{name} takes {path}, which is not there: see STANDING-ORDERS.md, and run this again")
+                raise WrongWords(f"{name} takes {path}, which is not there: see STANDING-ORDERS.md, and run this again")
     return ", ".join(it for it in NIGHTLY if it in words)
 
 
@@ -72,7 +80,7 @@ def alarm_in(text):
         return NO_ALARM
     if MAIL.fullmatch(text) or HOOK.fullmatch(text):
         return text
-    raise Failure(f"{text!r} is no mail address, no address that begins with https://, and not none yet")
+    raise WrongWords(f"{text!r} is no mail address, no address that begins with https://, and not none yet")
 
 
 def judged(name, text):
@@ -81,17 +89,17 @@ def judged(name, text):
     if name == "zone":
         rule_of(text)
     elif name == "name" and not NAME.fullmatch(text):
-        raise Failure(f"{text!r} is no name of a machine on the net, such as desk.example.org")
+        raise WrongWords(f"{text!r} is no name of a machine on the net, such as desk.example.org")
     elif name == "port" and not (
         text.isascii() and text.isdigit() and 1 <= int(text) <= 65_535 and int(text) not in OWN_PORTS
     ):
-        raise Failure(f"{text!r} is no port for the site: 1 to 65535, and not 80 or 8435 to 8437, which it has besides")
+        raise WrongWords(f"{text!r} is no port for the site: 1 to 65535, and not 80 or 8435 to 8437, which it has besides")
     elif name == "agency" and (not text or not text.isprintable() or len(text) > 100):
-        raise Failure("the agency's name is one line of 1 to 100 signs")
+        raise WrongWords("the agency's name is one line of 1 to 100 signs")
     elif name == "alarm":
         return alarm_in(text)
     elif name == "offsite" and not re.fullmatch(rf"({NO_OFFSITE}|none|([A-Za-z0-9._@-]+:)?/[A-Za-z0-9._/-]+)", text):
-        raise Failure(f"{text!r} is not {OFFSITE}")
+        raise WrongWords(f"{text!r} is not {OFFSITE}")
     return nightly_in(text) if name == "nightly" else text
 
 
@@ -114,7 +122,7 @@ def asked(given):
             continue
         if not sys.stdin.isatty():
             if offered is None:
-                raise Failure(f"--{name} is missing, and there is nobody to ask")
+                raise WrongWords(f"--{name} is missing, and there is nobody to ask")
             settings[name] = judged(name, offered)
             continue
         while name not in settings:

@@ -13,6 +13,8 @@ import urllib.parse
 from collections.abc import Iterable, Iterator, Mapping
 from typing import Any
 
+from desk_tools.tables import ROLES
+
 EPOCH = datetime.date(1970, 1, 1)
 BOOKED, CANCELED, RIDDEN, MISSED, FAILED = range(5)
 ENDINGS = ("booked", "canceled", "ridden", "missed by the rider", "missed by the operator")
@@ -182,13 +184,51 @@ def trips_of_vehicle(copy: pathlib.Path, vehicle: int) -> dict[int, Trip]:
         return {it.number: it for it in map(trip_of_row, tables.execute(query, (vehicle,)))}
 
 
-def callers_in(copy: pathlib.Path) -> dict[int, bytes]:
-    """The digest of each caller's key."""
+@dataclasses.dataclass(frozen=True)
+class Caller:
+    """A row of callers: the role, the rider or vehicle it is for, and the digest of the key."""
+
+    role: str
+    subject: int
+    digest: bytes
+
+    def is_for(self, role: str, subject: int) -> bool:
+        return (self.role, self.subject) == (role, subject)
+
+    def told(self) -> str:
+        """Who this is, in words."""
+        if self.role == "rider":
+            return f"rider {self.subject}"
+        if self.role == "driver":
+            return f"the driver of vehicle {self.subject}"
+        return f"{'an' if self.role[0] in 'aeo' else 'a'} {self.role}"
+
+
+def callers_in(copy: pathlib.Path) -> dict[int, Caller]:
+    """Each caller, by number."""
     with tables_of(copy) as tables:
+        found = tables.execute("SELECT id, role, subject, digest FROM callers")
         return {
-            number: bytes(digest)
-            for number, digest in tables.execute("SELECT id, digest FROM callers")
+            number: Caller(ROLES[role], subject, bytes(digest))
+            for number, role, subject, digest in found
         }
+
+
+def callers_for(callers: Mapping[int, Caller], role: str, subject: int) -> list[int]:
+    """The numbers that this rider, or the driver of this vehicle, has as a caller."""
+    return sorted(number for number, it in callers.items() if it.is_for(role, subject))
+
+
+def wrong_caller(callers: Mapping[int, Caller], number: int, role: str, subject: int) -> str | None:
+    """Why this number may get no key for this rider or driver, and which ones may; or None."""
+    if number in callers and callers[number].is_for(role, subject):
+        return None
+    person = Caller(role, subject, b"").told()
+    is_now = callers[number].told() if number in callers else "nobody"
+    right = callers_for(callers, role, subject)
+    if not right:
+        return f"caller {number} is {is_now}, and {person} is no caller: look at the number after {'RIDER' if role == 'rider' else '--vehicle'}"
+    return f"caller {number} is {is_now}, and {person} is caller {' and '.join(map(str, right))}: say --caller {right[0]}"
 
 
 def last_trip_in(copy: pathlib.Path) -> int:

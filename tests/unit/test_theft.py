@@ -165,3 +165,33 @@ def test_what_is_no_copy(tmp_path: pathlib.Path) -> None:
     for copy in (text, empty, tmp_path / "nowhere.db"):
         with pytest.raises(theft.NotReadable, match="cannot be read as a copy"):
             theft.rows_of_rider(copy, 7)
+
+
+CALLERS = {
+    1: theft.Caller("admin", 0, b"a"),
+    5: theft.Caller("dispatcher", 0, b"b"),
+    6: theft.Caller("driver", 1, b"c"),
+    107: theft.Caller("rider", 7, b"d"),
+    108: theft.Caller("rider", 8, b"e"),
+    207: theft.Caller("rider", 7, b"f"),
+}
+
+
+@pytest.mark.parametrize(
+    "number, role, subject, said",
+    [
+        (7, "rider", 7, "caller 7 is nobody, and rider 7 is caller 107 and 207: say --caller 107"),
+        (5, "rider", 7, "caller 5 is a dispatcher, and rider 7"),
+        (1, "rider", 7, "caller 1 is an admin, and rider 7"),
+        (108, "rider", 7, "caller 108 is rider 8, and rider 7"),
+        (5, "driver", 1, "and the driver of vehicle 1 is caller 6: say --caller 6"),
+        (6, "driver", 2, "and the driver of vehicle 2 is no caller: look at the number"),
+        (107, "rider", 7, None),
+        (207, "rider", 7, None),
+        (6, "driver", 1, None),
+    ],
+)
+def test_whose_number_it_is(number: int, role: str, subject: int, said: str | None) -> None:
+    """The number of anybody else is refused, with the right one."""
+    wrong = theft.wrong_caller(CALLERS, number, role, subject)
+    assert (wrong is None) if said is None else (wrong is not None and said in wrong)

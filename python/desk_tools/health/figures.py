@@ -46,7 +46,10 @@ class Figures:
         return told if isinstance(told, dict) else {}
 
     def seconds_since_write(self, unit: str, is_only_desk: bool) -> float | None:
-        """The seconds since a write was answered: by the file's own moment, or the log's where that is later."""
+        """The seconds since a write: by the file's own moment, or the log's where that is later.
+
+        A setup, a restore and a start move the file's moment too.
+        """
         moments = [self.seen().get("written", {}).get(unit)]
         moments += self.last_write.values() if is_only_desk else []
         known = [it for it in moments if it]
@@ -121,7 +124,13 @@ def lines_of_desks(figures: Figures, seen: dict[str, Any], units: list[str]) -> 
     ]
     written = {it: figures.seconds_since_write(it, len(units) == 1) for it in units}
     told = {unit: age for unit, age in written.items() if age is not None}
-    kinds.append(("desk_last_write_seconds", "Seconds since the last answered write.", told))
+    kinds.append(
+        (
+            "desk_last_write_seconds",
+            "Seconds since the desk's file changed or a write was answered.",
+            told,
+        )
+    )
     for name, words, values in kinds:
         kind = "counter" if name.endswith("_total") else "gauge"
         lines += head(name, kind, words)
