@@ -77,16 +77,17 @@ function passedBy(trips, far, taps, open, now, here) {
     return isTold ? trips.slice(0, far + 1).filter((stop) => open.includes(stop) && stop !== here && stop.window && now > stop.window[1]) : [];
 }
 
-/** How late the van was by its taps. A tap at a stop shows it. What is told from afar never lowers it: a stop that is skipped, a pickup that is given up, a
- * rider dropped off while the end of an earlier arrival is open.
+/** How late the van was by its taps. A tap at a stop shows it. A stop that is skipped and a pickup that is given up may be told from afar, and show
+ * nothing. A rider dropped off while the end of an earlier arrival is open never lowers it.
  * @param {Stop[]} trips @param {Tap[]} taps in their order @param {Stop[]} open
  */
 function toldDelay(trips, taps, open) {
     const waiting = taps.filter(({ kind }) => kind === "arrived").map((tap) => trips[stopOf(trips, tap)]).filter((stop) => open.includes(stop));
     return taps.reduce((delay, tap) => {
         const stop = trips[stopOf(trips, tap)], late = Math.max(0, tap.minute - stop.at);
-        const isShown = tap.kind === "dropped" ? !waiting.some((it) => trips.indexOf(it) < trips.indexOf(stop)) : tap.kind !== "skipped" && tap.kind !== "missed";
-        return isShown ? late : Math.max(delay, late);
+        if (tap.kind === "skipped" || tap.kind === "missed") return delay;
+        const isDoubtful = tap.kind === "dropped" && waiting.some((it) => trips.indexOf(it) < trips.indexOf(stop));
+        return isDoubtful ? Math.max(delay, late) : late;
     }, 0);
 }
 

@@ -75,6 +75,11 @@ test("an outcome without a tap keeps the delay, and the pickup where the van arr
     assert.equal(lateOf(two, [tap(1, "aboard", 636)], new Map([[39, { state: "ridden", minutes: 0 }]]), 637).delay, 35);
 });
 
+test("stops that are skipped late show no delay: the van goes on from the next one", () => {
+    assert.equal(late([tap(1, "skipped", 578), tap(1, "skipped", 578)], 579).delay, 0);
+    assert.equal(late([tap(1, "aboard", 552), tap(1, "skipped", 578)], 579).delay, 12);
+});
+
 test("what is told from afar raises a delay and never lowers it", () => {
     for (const kind of ["skipped", "missed"]) assert.equal(late([tap(1, "aboard", 560), tap(2, kind, 561)], 562).delay, 20);
     assert.equal(late([tap(1, "aboard", 560), tap(1, "dropped", 561)], 562).delay, 1);
