@@ -4,7 +4,7 @@
 // the driver went on without either, the stop is passed, but never the drop of a rider aboard: that is next, in its order. An outcome that
 // the desk denied takes nobody back to its stop: the driver is elsewhere by then, and reads the denial there.
 
-import { lateOf } from "../parts/lateness.js";
+import { carried } from "../parts/lateness.js";
 
 /** @typedef {import("../parts/queue.js").Entry} Entry */
 /**
@@ -142,16 +142,15 @@ export const minuteOn = (moment, day) => Math.round((Date.parse(moment.slice(0, 
  * @param {Stop} stop @param {string} day @param {string} now */
 export const minutesUntil = (stop, day, now) => stop.at - minuteOn(now, day);
 
-/** A tap's name in what the site tells of the day.
- * @type {Record<string, string>} */
-const KINDS = { arrived: "arrived", aboard: "aboard", ridden: "dropped", left: "skipped", "missed-rider": "no-show", "missed-operator": "missed" };
-
-/** By how many minutes the van is behind its plan, counted as the dispatcher's board counts it: by stops of trips, from this phone's taps. 0: it is not.
- * @param {Stop[]} stops @param {Entry[]} log @param {string} day @param {string} now */
+/** By how many minutes the van is behind its plan: by this phone's last tap at a stop, or since the next stop is overdue. As on the dispatcher's board,
+ * stops of trips count, and the depot does not. 0: it is not.
+ * @param {Shown[]} stops @param {Entry[]} log @param {string} day @param {string} now */
 export function behindBy(stops, log, day, now) {
-    const taps = log.flatMap(({ tap }) => (tap.trip && KINDS[tap.what] ? [{ trip: tap.trip, kind: KINDS[tap.what], minute: minuteOn(tap.at, day) }] : []));
-    const { delay, silent } = lateOf(/** @type {any} */ ({ vehicle: 0, stops }), taps, new Map(), minuteOn(now, day));
-    return delay || silent;
+    const from = stops.findIndex(({ isNext }) => isNext), next = from < 0 ? undefined : stops.slice(from).find(({ what }) => what !== "DEPOT");
+    if (!next) return 0;
+    const was = log.filter(({ tap }) => ["arrived", "aboard", "ridden"].includes(tap.what)).at(-1)?.tap, at = was ? stops.findIndex(({ name }) => name === was.stop) : -1;
+    const told = was && at >= 0 && at < stops.indexOf(next) ? carried(/** @type {any} */ (stops), at, stops.indexOf(next), minuteOn(was.at, day) - stops[at].at) : 0;
+    return Math.max(0, told, -minutesUntil(next, day, now));
 }
 
 /** The wait at a pickup, from the arrival on, but not before the promised window begins: a rider need not be ready earlier.

@@ -75,9 +75,8 @@ test("an outcome without a tap keeps the delay, and the pickup where the van arr
     assert.equal(lateOf(two, [tap(1, "aboard", 636)], new Map([[39, { state: "ridden", minutes: 0 }]]), 637).delay, 35);
 });
 
-test("stops that are skipped late show no delay: the van goes on from the next one", () => {
-    assert.equal(late([tap(1, "skipped", 578), tap(1, "skipped", 578)], 579).delay, 0);
-    assert.equal(late([tap(1, "aboard", 552), tap(1, "skipped", 578)], 579).delay, 12);
+test("a stop that is skipped late shows no delay of its own", () => {
+    assert.equal(late([tap(1, "aboard", 552), tap(2, "skipped", 590)], 591).delay, 12);
 });
 
 test("what is told from afar raises a delay and never lowers it", () => {
