@@ -142,11 +142,10 @@ export const minuteOn = (moment, day) => Math.round((Date.parse(moment.slice(0, 
  * @param {Stop} stop @param {string} day @param {string} now */
 export const minutesUntil = (stop, day, now) => stop.at - minuteOn(now, day);
 
-/** By how many minutes the van is behind its plan: by this phone's last tap at a stop, or since the next stop is overdue. As on the dispatcher's board,
- * stops of trips count, and the depot does not. 0: it is not.
+/** By how many minutes the van is behind its plan: by this phone's last tap at a stop, or since the next stop is overdue. 0: it is not.
  * @param {Shown[]} stops @param {Entry[]} log @param {string} day @param {string} now */
 export function behindBy(stops, log, day, now) {
-    const from = stops.findIndex(({ isNext }) => isNext), next = from < 0 ? undefined : stops.slice(from).find(({ what }) => what !== "DEPOT");
+    const next = stops.find(({ isNext }) => isNext);
     if (!next) return 0;
     const was = log.filter(({ tap }) => ["arrived", "aboard", "ridden"].includes(tap.what)).at(-1)?.tap, at = was ? stops.findIndex(({ name }) => name === was.stop) : -1;
     const told = was && at >= 0 && at < stops.indexOf(next) ? carried(/** @type {any} */ (stops), at, stops.indexOf(next), minuteOn(was.at, day) - stops[at].at) : 0;

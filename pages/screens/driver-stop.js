@@ -46,9 +46,6 @@ export const timeOf = (moment) => clock(Number(moment.slice(11, 13)) * HOUR + Nu
 function latenessOf(stop, { day, now, isOver, behind }) {
     const minutes = minutesUntil(stop, day, now);
     if (!stop.isNext || isOver || minutes >= HOUR * 2) return null;
-    // (a van is behind by its trips: at the depot it is as late as for its first pickup)
-    if (stop.what === "DEPOT" && behind > 0) return part("strong", { class: "driver-late" }, t("driver.late", { minutes: behind }));
-    if (stop.what === "DEPOT" && minutes < 0) return part("span", { class: "driver-early" }, t("driver.now"));
     if (minutes < 0 && behind <= -minutes) return part("strong", { class: "driver-late" }, t("driver.late", { minutes: -minutes }));
     if (behind > 0) return part("strong", { class: "driver-late" }, t("driver.about", { time: clock((stop.at + behind) % DAY) }));
     return part("span", { class: "driver-early" }, minutes ? t("driver.in", { minutes }) : t("driver.now"));

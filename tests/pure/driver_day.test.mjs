@@ -76,10 +76,10 @@ test("where the van came late, the agency's fault comes first, and nothing is ta
     }
 });
 
-test("how far the van is behind is counted as on the dispatcher's board, by stops of trips", () => {
+test("how far the van is behind is told by the last tap, or by the next stop's time", () => {
     const told = (log, now) => behindBy(dayOf(STOPS, log).stops, log, DAY, at(now));
     assert.equal(told([], 470), 0);
-    assert.deepEqual([told([], 491), told([], 529), told([], 540)], [0, 14, 25]);
+    assert.deepEqual([told([], 491), told([], 529)], [11, 49]);
     const log = [entry("out", "left", at(480)), entry("PICK 9", "arrived", at(526)), entry("PICK 9", "aboard", at(528))];
     assert.equal(told(log, 529), 13);
     assert.equal(told(log, 560), 20);
