@@ -31,7 +31,7 @@ def offered(at):
 
 
 def denials_of(at, trip):
-    named = re.compile(rf"/tally/denials\?.*\brule=no\b.*\btrip={trip['trip']}\b")
+    named = re.compile(rf"/tally/denials\t.*\brule=no\b.*\btrip={trip['trip']}\b")
     return [it for it in lines(at, "/tally/denials") if named.search(it)]
 
 
