@@ -1,7 +1,7 @@
 // How late the vans are, by what drivers told: their taps of the day, and the outcomes that the desk has. Nothing here is the desk's own, and a van
 // whose driver tells nothing is not late: it has no update.
 
-import { aboardAt } from "./texts.js";
+import { carried } from "./carried.js";
 
 /** @typedef {import("./texts.js").Manifest} Manifest */
 /** @typedef {import("./texts.js").Stop} Stop */
@@ -89,16 +89,6 @@ function toldDelay(trips, taps, open) {
         const isDoubtful = tap.kind === "dropped" && waiting.some((it) => trips.indexOf(it) < trips.indexOf(stop));
         return isDoubtful ? Math.max(delay, late) : late;
     }, 0);
-}
-
-/** What is left of a delay at a later stop. An empty van makes up the planned time between two stops, less the longest way that it drives with riders
- * that day, since the way to the next stop takes its time too.
- * @param {Stop[]} trips @param {number} from @param {number} to @param {number} delay
- */
-export function carried(trips, from, to, delay) {
-    const ways = trips.slice(1).map((next, at) => next.at - trips[at].at), isEmpty = (/** @type {number} */ at) => aboardAt(trips[at]) === 0;
-    const longest = Math.max(0, ...ways.filter((_, at) => !isEmpty(at)));
-    return ways.slice(from, to).reduce((left, way, at) => (isEmpty(from + at) ? Math.max(0, left - Math.max(0, way - longest)) : left), delay);
 }
 
 /** How late one van is.

@@ -4,7 +4,7 @@
 // the driver went on without either, the stop is passed, but never the drop of a rider aboard: that is next, in its order. An outcome that
 // the desk denied takes nobody back to its stop: the driver is elsewhere by then, and reads the denial there.
 
-import { carried } from "../parts/lateness.js";
+import { carried } from "../parts/carried.js";
 
 /** @typedef {import("../parts/queue.js").Entry} Entry */
 /**
