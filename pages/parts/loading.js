@@ -1,5 +1,5 @@
 // Files of the pages that come late. A slow machine is waited for without a limit. A file that did not come is asked for again by itself: a
-// browser gives up what it loads where its machine's network changes, as a phone's does between two lines, and the next try has a whole line.
+// browser may give up what it loads while its machine's network changes, as a phone's does between two lines, and the next try has a whole line.
 
 const PAUSES = [200, 1_000, 2_000, 4_000];
 

@@ -1,7 +1,7 @@
-"""Checks a GTFS-Flex feed by the field tables of the GTFS Schedule reference, which these tables were written from.
+"""Checks a GTFS-Flex feed: required, forbidden and conditional fields, forms, references and zones.
 
-No validator is in Debian. So this checks what the reference says of each field that the feed has: required, forbidden and
-conditional ones, forms, references, zones. It is no replacement for the validator of the reference's authors.
+Its tables follow the GTFS Schedule reference and were not compared with that text. No validator is in Debian, and this is
+no replacement for the validator of the reference's authors.
 """
 
 import csv

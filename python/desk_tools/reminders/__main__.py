@@ -21,6 +21,7 @@ from collections import Counter
 from pathlib import Path
 
 from desk_tools import ending
+from desk_tools.arguments import day_of
 from desk_tools.asking import Desk, NotAnswered, Refused, key_in
 from desk_tools.reminders import reading, riders, settings
 from desk_tools.reminders.kept import ANSWERS, FAILED, NAME, SENT, Answer, held, key_of, read
@@ -39,14 +40,6 @@ LOG = logging.getLogger("bin/reminders")
 DONE, SOME_FAILED, WRONG, NOT_ANSWERED = range(4)
 LONGEST_ANSWER = 500
 NEEDED = ("settings", "agency", "roster", "url", "dispatcher")
-
-
-def day_of(text: str) -> datetime.date:
-    """A day of the command line."""
-    try:
-        return datetime.date.fromisoformat(text)
-    except ValueError:
-        raise argparse.ArgumentTypeError(f"{text!r} is no day YYYY-MM-DD") from None
 
 
 def words_of(arguments: list[str]) -> argparse.Namespace:

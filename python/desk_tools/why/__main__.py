@@ -12,12 +12,12 @@ are written, 1 where `desk audit` does not say yes or there is no room, and 2 fo
 """
 
 import argparse
-import datetime
 import html
 import sys
 from pathlib import Path
 
 from desk_tools import ending, whole_file
+from desk_tools.arguments import day_of
 from desk_tools.why import checking
 from desk_tools.why.checking import NoAudit, NotRight, Question
 from desk_tools.why.facts import NoFacts, facts_of
@@ -29,14 +29,6 @@ LARGEST = 64 * 1024 * 1024
 # The words of a question, and which of them is the day of the trip.
 QUESTION, DAY = ("ZONE", "KEY", "RIDER", "DAY", "WISH", "FROM", "TO", "BY", "ATTENDANT", "WITH"), 3
 STYLE = "body{font:12pt/1.5 sans-serif;max-width:46rem;margin:2rem auto;padding:0 1rem}pre{font-size:9pt}li{margin:.4em 0}"
-
-
-def day_of(text: str) -> datetime.date:
-    """A day of the command line."""
-    try:
-        return datetime.date.fromisoformat(text)
-    except ValueError:
-        raise argparse.ArgumentTypeError(f"{text!r} is no day YYYY-MM-DD") from None
 
 
 def words_of(arguments: list[str]) -> argparse.Namespace:
