@@ -85,12 +85,12 @@
 
     // Taking a set.
 
-    /** What a file names: other files of these pages.
+    /** What a file names: other files of these pages. A font is none of them, since a page without its font is whole.
      * @param {string} text @param {string} type @param {string} address */
     function namedIn(text, type, address) {
         const form = /html/.test(type) ? /\b(?:src|href)="([^"#][^"]*)"/g : /css/.test(type) ? /(?:@import\s+|url\()"?([^")]+)"?/g
             : /\b(?:from|import)\s*"(\.[^"]+)"/g;
-        return [...text.matchAll(form)].map(([, name]) => plain(new URL(name, address).href)).filter(isOurs);
+        return [...text.matchAll(form)].map(([, name]) => plain(new URL(name, address).href)).filter((it) => isOurs(it) && !it.endsWith(".woff2"));
     }
 
     /** A file of the site and what is in it; none where the site has no such file.

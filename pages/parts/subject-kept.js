@@ -9,5 +9,5 @@ const keyOf = (what) => `desk.subject.${what}`;
 
 /** @param {What} what @returns {number | null} */
 export const keptSubject = (what) => Number(keptText("session", keyOf(what))) || null;
-/** @param {What} what @param {number} id */
-export const keepSubject = (what, id) => keepText("session", keyOf(what), String(id));
+/** @param {What} what @param {number | null} id null where nobody is shown any more */
+export const keepSubject = (what, id) => keepText("session", keyOf(what), String(id ?? ""));

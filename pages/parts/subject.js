@@ -3,7 +3,7 @@
 
 import { vehicleName, vehicles } from "./agency.js";
 import { comboField } from "./combo.js";
-import { part } from "./element.js";
+import { button, part } from "./element.js";
 import { form } from "./fields.js";
 import { HIGHEST_ID } from "./limits.js";
 import { readAll } from "./reads.js";
@@ -73,19 +73,26 @@ function subjectField(what, label, chosen) {
 
 /** A field for the number, and below it what draw(number) gives of the number that was chosen. Where one person has one number, the field is
  * folded away once it is known. focus names the element that has the focus once a number was chosen.
- * @param {{ what: What, label: string, action: string, draw: (id: number) => any, folded?: boolean, focus?: string, change?: string }} given
- *     change: what the folded field says where what is below tells whose it is */
-export function withSubject({ what, label, action, draw, folded: folds = false, focus = `${what}-below`, change: other = "" }) {
+ * @param {{ what: What, label: string, action: string, draw: (id: number) => any, folded?: boolean, focus?: string, change?: string,
+ *     none?: (open: (id: number) => void) => any, back?: string }} given
+ *     change: what the folded field says where what is below tells whose it is; none draws what stands where nobody is chosen, and back is the button that leads there */
+export function withSubject({ what, label, action, draw, folded: folds = false, focus = `${what}-below`, change: other = "", none, back = "" }) {
     /** @type {any} */
     let tools = null;
     const field = subjectField(what, label, () => tools?.change({ typed: field.control.value.trim() }));
-    const ask = form({ name: label, fields: [field], action, class: "inline subject", send: async (values) => ({ value: values[what] }), done: (id) => {
+    const shows = (/** @type {number} */ id) => {
         keepSubject(what, id);
         field.write(id);
         // (who asks again wants to know how it is now)
         if (tools.state().shown === id) readAll();
         tools.change({ shown: id, typed: textOf(id), open: false }, { focus });
-    } });
+    };
+    const ask = form({ name: label, fields: [field], action, class: "inline subject", send: async (values) => ({ value: values[what] }), done: shows });
+    const leave = () => {
+        keepSubject(what, null);
+        field.write("");
+        tools.change({ shown: null, typed: "", open: true }, { focus: `${what}-none` });
+    };
     const first = subjectOf(what), { textOf, meant } = KINDS[what];
     if (first) field.write(first);
     const screen = makeScreen({
@@ -97,8 +104,10 @@ export function withSubject({ what, label, action, draw, folded: folds = false, 
             const below = [shown !== null && !same && part("p", { class: "note", role: "status", key: "other" }, t("fields.other-number", { typed: typed || "…", action })),
                 shown !== null && part("div", { class: "stack", id: `${what}-below`, key: `below-${shown}`, hidden: !same }, kept(`below-${shown}`, () => draw(shown)))];
             // (what is folded away stands below what one looks at)
+            const queue = none && shown === null && part("div", { id: `${what}-none`, tabindex: -1, key: "none" }, kept("none", () => none(shows)));
+            const way = none && shown !== null && part("div", { class: "row", key: "way" }, button(back, leave, { class: "small" }));
             return folds ? [below, part("details", { class: "folded", key: "field", open: open || !same, on: { toggle: (event) => change({ open: event.target.open }) } }, summary, ask)]
-                : [part("div", { class: "card asked" }, ask), below];
+                : [part("div", { class: "card asked" }, ask), way, below, queue];
         },
     });
     return screen.element;
