@@ -4,9 +4,10 @@
 // The desk promises a window that begins within an hour of the minute it is sent as the wish, and takes the earliest pickup that fits. So a wish of
 // nine brings the van at eight where it can. A plan is the list of requests that come nearer to what the rider said:
 //
-// around       the pickup within an hour of the minute. An hour later less the agency's lead comes first, then the minute itself.
-// not-before   the promise begins at the minute or later, and at most an hour after it. An hour later is asked for, first with a minute to be
-//              there by that keeps the pickup within the hour.
+// around       the pickup within an hour of the minute. An hour later less the agency's lead comes first, with a minute to be there by that keeps the
+//              pickup within the hour, then the minute itself.
+// not-before   the promise begins at the minute or later, and at most an hour after it. An hour later is asked for, first with such a minute to be
+//              there by.
 // by           only being there in time matters: the latest pickup that may do comes first, then each a quarter of an hour earlier.
 //
 // What was accepted and is not what the rider said is an offer: it stands until the rider answered.
@@ -108,7 +109,8 @@ const namedOf = (said) => cut(said.mode === "by" ? latestPickup(said) : said.min
 function wishesOf(said) {
     const { mode, minute, by, lead, change } = said, bound = soonest(by, boundOf(said)), isBound = bound !== by;
     if (mode === "by") return Array.from({ length: MOST_TRIES }, (_, at) => [latestPickup(said) + NEGOTIATED_MINUTES - at * QUARTER, minute, false]);
-    if (mode === "around") return [[minute + NEGOTIATED_MINUTES - lead, change ? bound : by, change && isBound], [minute, by, false]];
+    // (booked or changed, it is asked alike: a first request without the bound would hold or move the trip past the hour before the rider has said yes)
+    if (mode === "around") return [[minute + NEGOTIATED_MINUTES - lead, bound, isBound], [minute, by, false]];
     const steps = Array.from({ length: NEGOTIATED_MINUTES / QUARTER + 1 }, (_, at) => minute + NEGOTIATED_MINUTES - at * QUARTER);
     // (a change would move the trip past the hour at once, before the rider has said yes: so it is not asked for without the bound)
     return steps.flatMap((wish) => /** @type {[number, number | null, boolean][]} */ ([[wish, bound, isBound], ...(isBound && !change ? [[wish, by, false]] : [])]));

@@ -5,7 +5,7 @@ import assert from "node:assert/strict";
 import { test } from "node:test";
 import { apart, countedRule, guessedDrive, isAsSaid, isMadeUp, nextStep, otherRequests, requestsOf, searched } from "../../pages/parts/wishes.js";
 
-const DAY = 1440, LAST = DAY - 1, HOUR = 60, HALF_WINDOW = 15, FIRST_BUS = 300, LEADS = [0, 15, 60];
+const DAY = 1440, LAST = DAY - 1, HOUR = 60, HALF_WINDOW = 15, SLACK = 24, FIRST_BUS = 300, LEADS = [0, 15, 60];
 const FULL = "no vehicle", CLOSED = "37.131(e)";
 
 /** When a van is free: each minute's next free one, DAY where there is none. */
@@ -52,6 +52,7 @@ function faultOf(said, desk, { step, answers }) {
     if (!answers.length) return "nothing was asked";
     if (answers.some(({ request }) => !isMinute(request.wish) || !(request.by === null || isMinute(request.by)))) return "a wish or a minute to be there by is none of the day";
     if (by !== null && answers.some(({ request }) => request.by === null || request.by > by)) return "the rider's minute to be there by was dropped";
+    if (mode === "around" && desk.drive === said.drive && accepted.some(({ reply }) => reply.value.window_from > minute + HOUR + SLACK)) return "around a minute, a trip was held or moved past the hour";
     if (step.is === "kept") {
         const { window_from: from, pickup } = step.answer.reply.value;
         if (step.answer !== answers[answers.length - 1]) return "something was asked after what is kept";
@@ -117,6 +118,16 @@ test("leads from 0 to 60, changes of a trip", () => {
 
 test("drives that were guessed wrongly", () => {
     tryAll([600, 1380], EVERY, { drives: [5, 35], changes: [false, true] });
+});
+
+test("around a minute, a booking and a change ask alike, first with a bound", () => {
+    for (const lead of LEADS) for (let minute = 0; minute < DAY; minute += 1) {
+        for (const said of saidAt(minute, lead, false).filter(({ mode }) => mode === "around")) {
+            const all = requestsOf(said), latest = minute + HOUR + HALF_WINDOW + said.drive + SLACK;
+            assert.deepEqual(requestsOf({ ...said, change: true }), all, JSON.stringify(said));
+            assert.ok(all[0].wish <= minute || all[0].by !== null && all[0].by <= latest || latest >= LAST, JSON.stringify([said, all[0]]));
+        }
+    }
 });
 
 test("a change sends nothing that may move a trip past the hour without a bound", () => {
