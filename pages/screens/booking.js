@@ -13,7 +13,7 @@ import { reading } from "../parts/reads.js";
 import { riderLabel } from "../parts/roster.js";
 import { driveOf, namedBy, offerOf, saidOf } from "../parts/said.js";
 import { makeScreen } from "../parts/screen.js";
-import { ended, planned } from "../parts/sent.js";
+import { ended, left, planned } from "../parts/sent.js";
 import { otherRequests, pickupsOf, searched, underWay, underWayOf } from "../parts/wishes.js";
 import { t } from "../parts/words.js";
 import { faultOf, wishFields } from "./booking-fields.js";
@@ -165,7 +165,14 @@ function wishScreen({ rider, trip = null, booked, heading, action }) {
         screen.change({ legs: [], busy: false });
     };
     const whole = form({ name: heading, action, fields, class: "wish", extra: map, check: faultOf, begun: () => begin(),
-        ask: (values) => questionOf(about, legsOf(values, Boolean(trip), ends())),
+        ask: async (values) => {
+            const legs = legsOf(values, Boolean(trip), ends());
+            planned(rider, legs, trip?.trip ?? null);
+            const question = await questionOf(about, legs);
+            if (question === undefined) left(rider);
+            return question;
+        },
+        declined: () => ended(rider),
         send: async (values) => {
             screen.change({ legs: legsOf(values, Boolean(trip), ends()), busy: true });
             planned(rider, screen.state.legs, trip?.trip ?? null);

@@ -166,18 +166,18 @@ def a_record_that_is_there_is_changed_only_after_a_question(at):
     at.browser.sign_in(at.keys["clerk"], "clerk", "rider")
     at.browser.fill("Rider number", "1004")
     at.browser.fill("Kind", "resident")
-    at.browser.press("Put the record")
+    at.browser.press("Save the record")
     at.browser.sees("Choose yes or no.")
     for group, answer in [("May bring an attendant, who rides free", "No"),
                           ("Comes in a wheelchair, and takes a wheelchair place", "Yes")]:
         at.browser.press(answer, "field", at.browser.find("group", group))
-    at.browser.press("Put the record")
+    at.browser.press("Save the record")
     at.browser.sees("Lucille Baker (1004) is on record already. Change the record?", "The desk does not tell the rest.",
                     "Comes in a wheelchair.")
     at.browser.press("Yes, change the record of rider 1004")
     at.browser.sees("The record of Lucille Baker (1004) is changed. Resident. Brings no attendant.")
     at.browser.fill("Rider number", "1500")
-    at.browser.press("Put the record")
+    at.browser.press("Save the record")
     at.browser.sees("Rider 1500 is new on record.")
 
 
@@ -255,7 +255,7 @@ def a_rider_of_the_roster_without_a_record_gets_one(at):
     at.browser.keys(Keys.ENTER)
     at.browser.sees("There is no rider of this number.")
     at.browser.press("Make the record of Nora Quinn (1700)", "link")
-    at.browser.find("button", "Put the record")
+    at.browser.find("button", "Save the record")
     same("the number in the form", "1700", at.browser.value("Rider number"))
 
 

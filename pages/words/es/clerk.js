@@ -45,6 +45,7 @@ export const words = {
     "clerk.change-question": ({ rider }) => `${rider.replace(/^p/, "P")} ya está registrado. ¿Cambiar el registro?`,
     "clerk.change-detail": ({ rider, kind, record }) => `Consta: ${kind} El sistema no dice lo demás. Desde ahora el registro de ${rider} dirá: ${record}`,
     "clerk.change-yes": ({ rider }) => `Sí, cambiar el registro del pasajero ${rider}`,
+    "clerk.left": ({ rider }) => `El registro de ${rider} no se guardó: usted salió antes de que pudiéramos ver lo que ya está registrado. Lo que escribió se conserva. Guárdelo otra vez.`,
     "clerk.is-new": ({ rider, record }) => `${rider.replace(/^p/, "P")} es nuevo en el registro. ${record}`,
     "clerk.is-changed": ({ rider, record }) => `El registro de ${rider} se cambió. ${record}`,
     "clerk.roster-there": ({ count }) => `Lista: ${count} ${count === "1" ? "pasajero" : "pasajeros"}`,
