@@ -3,12 +3,14 @@
 
 import { agency } from "../parts/agency.js";
 import { isNewer, LONGEST, noOf } from "../parts/answering.js";
-import { minuteNow, momentNow, serverNow, today } from "../parts/clock.js";
+import { between, dayShort, minuteNow, momentNow, serverNow, today } from "../parts/clock.js";
 import * as desk from "../parts/desk.js";
+import { say } from "../parts/element.js";
 import { beginAsking, driveOf, dropOffer, endAsking, isKeptElsewhere, keepOffer, keepSaid, leaveAsking, toldMade } from "../parts/said.js";
 import { belongs } from "../parts/sent.js";
 import { cancelTrip, count, countLater } from "../parts/tally.js";
 import { countedRule, isAsSaid, nextStep, otherRequests } from "../parts/wishes.js";
+import { t } from "../parts/words.js";
 import { drivers } from "./trips-today.js";
 
 // For so long a way back may still be asked for, in milliseconds, once the way there was denied.
@@ -235,6 +237,18 @@ export function askerOf(given) {
         return { ticket: told.ticket, denied: null, other: true };
     });
     const answer = (/** @type {Leg} */ leg, /** @type {boolean} */ yes) => carryOn(leg, () => afterAnswer(leg, yes, given, () => set(leg.key, { no: "looking" })).finally(() => { if (!yes) booked(); }));
+    // (the store of reads may be of before the offer: what it says is looked at once more)
+    const look = async (/** @type {Trip[]} */ trips) => {
+        for (const { key, offer } of state().legs) {
+            const seen = offer && trips.find((it) => it.trip === offer.trip);
+            if (!seen || isSameOffer(seen, offer)) continue;
+            const { is, now } = await offerNow(rider, offer, trip);
+            if ((is !== "gone" && is !== "moved") || state().busy || find(key)?.offer !== offer) continue;
+            losses.hold(state().legs, key);
+            set(key, { offer: null, refused: offer, moved: is === "moved" ? now : null });
+            say(refusedWords(trip, is === "moved" ? now : null));
+        }
+    };
     const mark = (/** @type {Leg} */ { key, wish: { day }, said: { mode, minute } }) => {
         if (find(key)?.marked) return;
         const at = momentNow();
@@ -242,7 +256,20 @@ export function askerOf(given) {
         set(key, { marked: at });
         change({}, { focus: `marked-${key}` });
     };
-    return { rest, tryOthers, answer, mark, leave: losses.tell };
+    return { rest, tryOthers, answer, look, mark, leave: losses.tell };
+}
+
+/** Whether a trip stands in the window that was offered.
+ * @param {Trip} trip @param {Ticket} offer
+ */
+export const isSameOffer = (trip, offer) => trip.status === "booked" && trip.window_from === offer.window_from && trip.window_to === offer.window_to;
+
+/** What an offer that was not taken leaves: of a change the trip as it stands again, and else how another clerk has put it.
+ * @param {Trip | null} old @param {Trip | null} [moved]
+ */
+export function refusedWords(old, moved = null) {
+    const it = moved ?? old;
+    return it ? t(moved ? "booking.offer-moved" : "booking.offer-is-back", { trip: it.trip, day: dayShort(it.day), window: between(it.window_from, it.window_to) }) : t("booking.offer-given-up");
 }
 
 /** @typedef {{ is: "stands" | "gone" | "moved" | "begun" | "left" | "unsure", now: Trip | null }} Now what the desk has of an offer: another clerk may have given it up (gone) or put the
@@ -280,11 +307,10 @@ export async function offerNow(rider, offer, old) {
     if (reply.denied === "left") return { is: "left", now: null };
     const now = reply.value?.trips.find(({ trip }) => trip === offer.trip) ?? null;
     if (!now) return { is: "stands", now };
-    const isBooked = now.status === "booked", isSame = now.window_from === offer.window_from && now.window_to === offer.window_to;
-    if (isBooked && isSame) return { is: hasBegun(now) ? "begun" : "stands", now };
+    if (isSameOffer(now, offer)) return { is: hasBegun(now) ? "begun" : "stands", now };
     dropOffer(offer.trip);
     if (old) Object.assign(old, now);
-    return { is: isBooked && !old ? "moved" : "gone", now };
+    return { is: now.status === "booked" && !old ? "moved" : "gone", now };
 }
 
 /** What the record has of a leg once the rider has answered its offer.

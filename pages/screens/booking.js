@@ -17,10 +17,10 @@ import { ended, left, planned } from "../parts/sent.js";
 import { otherRequests, pickupsOf, searched, underWay, underWayOf } from "../parts/wishes.js";
 import { t } from "../parts/words.js";
 import { faultOf, wishFields } from "./booking-fields.js";
-import { askerOf, saidIn } from "./booking-plan.js";
+import { askerOf, refusedWords, saidIn } from "./booking-plan.js";
 import { markButton, markedWords } from "./denials-today.js";
 import { isOwn } from "./letters.js";
-import { offersOf, offerShown, refusedWords } from "./offers.js";
+import { offersOf, offerShown } from "./offers.js";
 import { takeUp } from "./take-up.js";
 import { printTickets, saidWords, ticketOf, windowOf } from "./ticket.js";
 import { drivers } from "./trips-today.js";
@@ -195,6 +195,8 @@ function wishScreen({ rider, trip = null, booked, heading, action }) {
     const screen = makeScreen({ state: /** @type {State} */ ({ legs: [], busy: false }), class: trip ? "inner card" : "card",
         draw: (state) => [part(trip ? "h3" : "h2", { id: about.ids, tabindex: -1 }, heading), whole, resultsShown(state, about, asker)] });
     screen.onNewDay(days.renew);
+    const read = reading(desk.pathOf.trips(rider));
+    read.watch(screen.element, () => { asker.look(read.reply()?.value?.trips ?? []); });
     const write = (/** @type {Record<string, any>} */ values) => fields.forEach((it) => { if (it.name in values) it.write(values[it.name]); });
     return { element: screen.element, write, focus: () => days.control.focus(), begin, isBusy: () => screen.state.busy };
 }

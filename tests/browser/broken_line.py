@@ -488,7 +488,7 @@ def files_that_were_missed_are_asked_for_again(at):
 
 # The files of the pages.
 
-FILES = ["/screens/admin-names.js", "/screens/admin.js", "/words/en/admin.js", "/parts/addresses.js", "/parts/main.js"]
+FILES = ["/screens/admin-names.js", "/screens/admin.js", "/words/en/admin.js", "/parts/addresses.js", "/parts/main.js", "/css/admin.css"]
 NOT_LOADED, NOT_DRAWN = "This screen could not be loaded", "This part could not be shown."
 STYLED = "return [...document.querySelectorAll('link[rel=stylesheet]')].every((it) => it.sheet) && Boolean(document.querySelector('link[href=\"css/admin.css\"]'))"
 NOTES = "window.notes = 0; new MutationObserver(() => { if (document.querySelector('main > [role=alert]')) window.notes += 1; }).observe(document.querySelector('main'), { childList: true })"
@@ -520,6 +520,18 @@ def a_file_that_takes_twelve_seconds_is_waited_for(at):
         with given(at.town, path, seconds=12) as answers:
             same(f"how often {path} is said not to come", 0, opened(at))
             same(f"how often {path} is asked for", 1, answers.asked)
+
+
+@check
+def a_style_that_does_not_come_at_all_leaves_its_screen_and_is_asked_for_again_at_the_next_part(at):
+    with given(at.town, "/css/admin.css", refusals=5) as answers:
+        same("how often the screen is said not to come", 0, opened(at))
+        until(lambda: f"it is asked for {answers.asked} times", lambda: answers.asked == 5)
+        pause(0.5)
+        holds("a style that was refused is there", not at.browser.script(STYLED))
+        at.browser.go_part("admin", "places")
+        until(lambda: f"it is asked for {answers.asked} times, and a style is missing", lambda: answers.asked == 6 and at.browser.script(STYLED))
+    at.browser.forget_errors()
 
 
 @check

@@ -68,3 +68,22 @@ test("no sentence of the pages counts one in the plural", async () => {
     assert.deepEqual(wrong, []);
     assert.ok(made > 900, `${made} sentences`);
 });
+
+/** Words that riders never read: staff's buttons, and denials of what staff ask. */
+const OF_STAFF = ["booking.mark", "booking.mark-of", "denials.desk.unknown standing/help", "denials.desk.unknown caller", "denials.desk.unknown caller/help", "denials.desk.exists rider",
+    "denials.37.125(h)/help", "denials.37.125(g) appeal"];
+
+test("what a rider reads on the own pages speaks to the rider, in both languages", async () => {
+    const spoken = { en: /\b(?:the|this|that) (?:rider|visitor)\b|\brider's\b/i, es: /\b(?:el|al|del|este) (?:pasajero|visitante)\b/i }, missing = [];
+    for (const file of ["booking", "trips", "sent", "rider", "denials", "ticket"].filter((it) => fs.existsSync(new URL(`en/${it}.js`, ROOT)))) {
+        const { words } = await import(new URL(`en/${file}.js`, ROOT)), { words: translated } = await import(new URL(`es/${file}.js`, ROOT));
+        const plain = (text) => (typeof text === "function" ? String(text).replace(/\$\{[^}]*\}/g, "") : text);
+        for (const [key, text] of Object.entries(words)) {
+            if (key.endsWith(" you")) {
+                assert.doesNotMatch(plain(text), spoken.en, key);
+                assert.doesNotMatch(plain(translated[key]), spoken.es, key);
+            } else if (spoken.en.test(plain(text)) && !OF_STAFF.includes(key) && !(`${key} you` in words) && key !== "trips.closed") missing.push(key);
+        }
+    }
+    assert.deepEqual(missing, []);
+});

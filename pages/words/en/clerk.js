@@ -28,7 +28,7 @@ export const words = {
     "clerk.note": "Note",
     "clerk.language": "Language",
     "clerk.record": "A rider's record",
-    "clerk.record-hint": "Makes the record, or changes what it says of an attendant and a wheelchair. Trips that are booked keep what it said.",
+    "clerk.record-hint": "Makes the record, or changes what it says about an attendant and a wheelchair. Trips that are booked keep what it said.",
     "clerk.number": "Rider number",
     "clerk.kind": "Kind",
     "clerk.resident": "Resident, who applies",
