@@ -3,8 +3,9 @@
 import { isOfMinute, isRule } from "./wishes.js";
 
 /** @typedef {import("../types").Wish} Wish */
-/** @typedef {"planned" | "sending" | "booked" | "denied" | "unsent" | "left" | "nothing" | "offered" | "cancelled" | "stands"} State planned: it waits for its turn; unsent: the page
- *   was gone before its turn came; left: whoever asked had left before the rider's other trips were known, so nothing was sent; nothing, offered, cancelled, stands: what the desk had of it once its window was closed */
+/** @typedef {"planned" | "sending" | "booked" | "denied" | "unsent" | "left" | "early" | "nothing" | "offered" | "cancelled" | "stands"} State planned: it waits for its turn; unsent: the page
+ *   was gone before its turn came; left: whoever asked had left before the rider's other trips were known, so nothing was sent; early: a way
+ *   back that would have begun before the way there arrives, so it was not sent; nothing, offered, cancelled, stands: what the desk had of it once its window was closed */
 /** @typedef {{ mode: string, minute: number } | null} Said what the rider named: the minute of a wish is the page's */
 /** @typedef {{ rider: number, wish: Wish, said: Said, trip: number | null, state: State, reply: any, late: boolean, cut?: boolean, at?: Moment }} Leg trip is the number of a trip that is
  *   changed, reply the desk's, at when it came, late says that whoever asked could not see the answer at once,
@@ -71,6 +72,14 @@ export function afterLoading(legs) {
  * @param {Leg[]} legs @param {number} rider @returns {Leg[]}
  */
 export const afterLeaving = (legs, rider) => legs.map((leg) => (leg.rider === rider && leg.state === "planned" ? { ...leg, state: "left", late: true } : leg));
+
+/** A way back that is not asked for until the rider has said when to leave. Whoever asked sees the question, or it is told.
+ * @param {Leg[]} legs @param {number} rider @param {Wish} wish @param {boolean} late @returns {Leg[]}
+ */
+export function afterUnasked(legs, rider, wish, late) {
+    const at = lastAt(legs, (leg) => leg.state === "planned" && isSame(leg, { rider, trip: null, wish }));
+    return late ? legs.map((leg, index) => (index === at ? { ...leg, state: /** @type {State} */ ("early"), late } : leg)) : legs;
+}
 
 /** What the desk had of something whose window was closed. What this window's list tells already stands there once.
  * @param {Leg[]} legs @param {Leg} taken @returns {Leg[]}

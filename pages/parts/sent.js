@@ -12,7 +12,7 @@ import { reading } from "./reads.js";
 import { riderLabel } from "./roster.js";
 import { openOffer } from "./said.js";
 import { makeScreen } from "./screen.js";
-import { afterAnswer, afterEnding, afterLeaving, afterLoading, afterPlanning, afterReading, afterSending, afterTakingUp, denialOfGone, riderOfChange, sinceOf, toBeRead } from "./sent-list.js";
+import { afterAnswer, afterEnding, afterLeaving, afterLoading, afterPlanning, afterReading, afterSending, afterTakingUp, afterUnasked, denialOfGone, riderOfChange, sinceOf, toBeRead } from "./sent-list.js";
 import { count } from "./tally.js";
 import { isOfMinute } from "./wishes.js";
 import { t } from "./words.js";
@@ -95,6 +95,11 @@ export function left(rider) {
     if (desk.digest()) keep(afterLeaving(legs(), rider));
 }
 
+/** A way back that is not sent yet, since it would begin before the way there arrives.
+ * @param {number} rider @param {Wish} wish
+ */
+export const unasked = (rider, wish) => keep(afterUnasked(legs(), rider, wish, !isSeen(rider)));
+
 /** Whether a plan broke off in the middle: a denial of one of its requests is none of what the rider said.
  * @param {Leg} leg
  */
@@ -135,7 +140,7 @@ function words(leg) {
     if (state === "booked") return t(trip === null ? "sent.booked" : "sent.changed", { ...way, trip: reply.trip, window: between(reply.window_from, reply.window_to) });
     if (trip !== null && state !== "sending" && state !== "planned") return changeWords(leg, { ...way, trip });
     if (isCut(leg)) return t("sent.cut", way);
-    return t(state === "denied" || state === "unsent" || state === "left" ? `sent.${state}` : "sent.sending", way);
+    return t(["denied", "unsent", "left", "early"].includes(state) ? `sent.${state}` : "sent.sending", way);
 }
 
 /** @param {Leg} leg @param {number} at @param {Trip[] | null} [trips] the rider's trips, where they were read */

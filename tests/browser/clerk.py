@@ -748,10 +748,13 @@ def a_question_goes_with_who_signed_out_and_is_answered_no(at):
 
 # What a clerk has to know of a case.
 
-WORKLIST = """<main><section id=applications><h2>Applications to decide</h2><table><thead><tr><th>Rider<th>Name<th>Complete on
-<th>Presumed from<th>When<tbody><tr><td>1009<td>Peter Lange<td>2025-02-17<td>2025-03-10<td>today</table></section>
+# (as bin/worklist writes its cells)
+WORKLIST = """<main><section id=applications><h2>Applications to decide</h2><table><thead><tr><th scope="col">Rider</th><th scope="col">Name</th><th scope="col">Complete on</th>
+<th scope="col">Presumed from</th><th scope="col">When</th></tr></thead><tbody><tr><th scope="row"><a href="#rider-1009">1009</a></th><td>Peter Lange</td>
+<td><time datetime="2025-02-17">Mon, Feb 17, 2025</time></td><td><time datetime="2025-03-10">Mon, Mar 10, 2025</time></td><td>today</td></tr></tbody></table></section>
 <section id=appeals><h2>Appeals to decide</h2><table><thead><tr><th>Rider<th>Name<th>Against<th>Filed on<th>Heard on<tbody>
-<tr><td>1006<td>Ana<td>refuse (entry 3)<td>2025-02-20<td>2025-02-25<tr><td>1003<td>Henry<td>entry 1<td>2025-03-01<td>not heard"""
+<tr><td>1006<td>Ana<td>refuse (entry 3)<td><time datetime="2025-02-20">Thu, Feb 20, 2025</time><td><time datetime="2025-02-25">Tue, Feb 25, 2025</time>
+<tr><td>1003<td>Henry<td>entry 1<td><time datetime="2025-03-01">Sat, Mar 1, 2025</time><td>not heard"""
 
 
 @check
@@ -763,7 +766,7 @@ def what_waits_is_on_the_card_and_a_part_of_the_clerks_screen(at):
             begin(at, rider)
             at.browser.sees(words)
         at.browser.go_part("clerk", "waits")
-        at.browser.sees("Applications to decide", "Peter Lange")
+        at.browser.sees("Applications to decide", "Peter Lange", "Mon, Feb 17, 2025")
         at.browser.press("Show rider 1009")
         at.browser.sees("The case of Peter Lange (1009)")
     finally:

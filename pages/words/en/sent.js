@@ -11,6 +11,7 @@ export const words = {
     "sent.cut": ({ rider, day, said, from, to }) => `Not finished for ${rider}: ${day}, ${said ? `${said}, ` : ""}from ${from} to ${to}. The page was loaded again while it was being asked. Book it again.`,
     "sent.unsent": ({ rider, day, said, from, to }) => `Not sent for ${rider}: ${day}, ${said ? `${said}, ` : ""}from ${from} to ${to}. The page was loaded again before its turn. Book it again.`,
     "sent.left": ({ rider, day, said, from, to }) => `Not sent for ${rider}: ${day}, ${said ? `${said}, ` : ""}from ${from} to ${to}. You left before we could look for other trips at that time. What you typed is kept. Press Book.`,
+    "sent.early": ({ rider, day, said, from, to }) => `Not sent for ${rider}: ${day}, ${said ? `${said}, ` : ""}from ${from} to ${to}. The way there arrives after that time. Book the way back for a later one.`,
     "sent.change-denied": ({ trip, rider, day, said, from, to }) => `Trip ${trip} of ${rider} is not changed. Asked for: ${day}, ${said ? `${said}, ` : ""}from ${from} to ${to}.`,
     "sent.change-cut": ({ trip, rider, day, said, from, to }) => `The change of trip ${trip} of ${rider} is not finished: ${day}, ${said ? `${said}, ` : ""}from ${from} to ${to}. The page was loaded again while it was being asked. Change the trip again.`,
     "sent.change-unsent": ({ trip, rider, day, said, from, to }) => `The change of trip ${trip} of ${rider} was not sent: ${day}, ${said ? `${said}, ` : ""}from ${from} to ${to}. The page was loaded again before its turn. Change the trip again.`,
