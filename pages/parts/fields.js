@@ -271,14 +271,14 @@ function sendByEnter(event) {
 
 /**
  * A form. begun() runs before anything is looked at; check(values) gives what is wrong of fields together; ask(values) gives a question that is asked once before it is sent, null for none,
- * undefined where whoever asked has left, and then nothing is sent; send(values) gives the
+ * undefined where whoever asked has left, and then nothing is sent; declined() follows a no to the question; send(values) gives the
  * desk's reply; done(value, values) follows what was accepted, denied(reply, values) what was not. What was typed stays in any case, and while
  * it is sent a second click does nothing.
  * @param {{ name?: string, fields: Field[], action: string, purpose?: string, send: (values: any) => Promise<any>, done: (value: any, values: any) => any,
- *   begun?: () => void, check?: (values: any) => { field: string, fault: string } | null, ask?: (values: any) => Question | null | undefined | Promise<Question | null | undefined>, denied?: (reply: any, values: any) => Given | void,
+ *   begun?: () => void, check?: (values: any) => { field: string, fault: string } | null, ask?: (values: any) => Question | null | undefined | Promise<Question | null | undefined>, declined?: () => void, denied?: (reply: any, values: any) => Given | void,
  *   danger?: boolean, toAnswer?: boolean, extra?: Given, class?: string }} given toAnswer puts the focus on a denial
  */
-export function form({ name, fields, action, purpose, send, done, begun = () => {}, check = () => null, ask = () => null, denied, danger = false, toAnswer = false, extra, class: kind }) {
+export function form({ name, fields, action, purpose, send, done, begun = () => {}, check = () => null, ask = () => null, declined = () => {}, denied, danger = false, toAnswer = false, extra, class: kind }) {
     const box = make("div", { role: "alert", tabindex: toAnswer ? -1 : null }), submit = make("button", { type: "submit", class: danger ? "danger" : "main" }, action);
     let busy = false;
     const told = (/** @type {any} */ reply, /** @type {any} */ values) => {
@@ -295,7 +295,8 @@ export function form({ name, fields, action, purpose, send, done, begun = () => 
         const wrong = check(values);
         if (wrong) return tellAt(fields, wrong);
         const question = await ask(values);
-        if (question === undefined || (question && !await asked(question))) return;
+        if (question === undefined) return;
+        if (question && !await asked(question)) return declined();
         submit.setAttribute("aria-disabled", "true");
         const reply = await send(values);
         submit.removeAttribute("aria-disabled");

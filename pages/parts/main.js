@@ -18,13 +18,13 @@ import { forgetHere, maySignOut } from "./queue.js";
 import { forgetRoster, loadRoster } from "./roster.js";
 import { screenOf, SCREENS, STAFF } from "./screens.js";
 import { beginAnew, whenRefused } from "./tally.js";
-import { chooseLanguage, language, LANGUAGE_NAMES, languageFor, t, useWords } from "./words.js";
+import { chooseLanguage, language, LANGUAGE_NAMES, languageFor, speakToRider, t, useWords } from "./words.js";
 
 /** @typedef {import("../types").ScreenPart} ScreenPart */
 /** @typedef {import("./screens.js").Screen} Screen */
 
 const SCREEN = "desk.screen", STAYS = [SCREEN, "desk.language", "desk.agency", "desk.ahead", "desk.entered"], OF_KEYS = ["desk.offers.", "desk.asking."], LOOKED = 5_000, MINUTE = 60_000;
-const HURRY = 5_000, DRIVER = "driver", NEVER_IDLE = [DRIVER], FIRST_SIGHT = 2_000, BOARD = "#dispatcher/day", SEARCHES = ["clerk", "examiner", "officer"], USES = ["pointerdown", "keydown", "wheel", "touchstart", "touchmove"];
+const HURRY = 5_000, DRIVER = "driver", RIDER = "rider", NEVER_IDLE = [DRIVER], FIRST_SIGHT = 2_000, BOARD = "#dispatcher/day", SEARCHES = ["clerk", "examiner", "officer"], USES = ["pointerdown", "keydown", "wheel", "touchstart", "touchmove"];
 
 /** How often something else was shown: who waited for a screen that was left draws nothing. */
 let shows = 0;
@@ -144,7 +144,11 @@ const useStyles = (name) => patiently(() => styled(name)).catch(console.error);
 /** @param {Screen} screen */
 async function partsOf(screen) {
     const known = loaded.get(screen.id);
-    if (known) return known;
+    if (known) {
+        // (a style that did not come at all is asked for again wherever its screen is shown)
+        screen.styles.forEach(useStyles);
+        return known;
+    }
     const [module] = await Promise.all([patiently(screen.load), useWords(...screen.words), ...screen.styles.map(useStyles)]);
     const parts = module[screen.id]();
     loaded.set(screen.id, parts);
@@ -311,6 +315,7 @@ async function show({ again = false } = {}) {
     if (desk.signedIn() && !wanted().screen) history.replaceState(null, "", `#${screenOf(keptText("local", SCREEN) ?? "")?.id ?? "rider"}`);
     const { screen } = wanted();
     document.body.classList.toggle("signed-out", !desk.signedIn());
+    speakToRider(screen?.id === RIDER);
     if (!desk.signedIn() || !screen) await showSignIn(mine);
     else await showScreen(screen, mine);
     tellCounts();

@@ -12,7 +12,8 @@ const SIGNS = { "‘": "'", "’": "'", "‚": "'", "‛": "'", "′": "'", "´"
 export function plainOf(typed) {
     /** @type {Set<string>} */
     const lost = new Set();
-    const signs = [...typed.normalize("NFC")].map((sign) => {
+    // (40°F is 40 degrees F)
+    const signs = [...typed.normalize("NFC").replace(/°(?=\p{L})/gu, "° ")].map((sign) => {
         if (/[ -~]/.test(sign)) return sign;
         if (/\s/.test(sign)) return " ";
         if (sign in SIGNS) return SIGNS[sign];

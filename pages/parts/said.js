@@ -18,8 +18,9 @@ import { guessedDrive, isMadeUp } from "./wishes.js";
 /** @typedef {{ mode: Mode, minute: number, by?: number | null, from_address?: number, to_address?: number }} Named what a rider named: the mode, its minute, a minute
  *   to be there by beside a pickup, and which addresses of the places are meant */
 /** @typedef {Named & { from?: number, to?: number }} Kept with the window that was promised for it */
-/** @typedef {{ said: Said, old: Trip | null, counted: boolean, elsewhere?: "booking" | "change", asking?: string }} Offer old is the trip as it was before a change; elsewhere
- *   says what the trip was where another browser was offered it: how it was before is not known here; asking is the plan that got it and has not ended */
+/** @typedef {{ said: Said, old: Trip | null, counted: boolean, elsewhere?: "booking" | "change", asking?: string, window?: [number, number] }} Offer old is the trip as it was before a change; elsewhere
+ *   says what the trip was where another browser was offered it: how it was before is not known here; asking is the plan that got it and has not ended, window what was
+ *   offered once it had */
 /** @typedef {import("./taken-up.js").Asking} Asking */
 
 const SAID = "desk.said", OFFERS = "desk.offers", ASKING = "desk.asking";
@@ -128,6 +129,8 @@ export function openOffer(trip) {
     if (trip.status !== "booked" || trip.day < today()) return null;
     const told = servedNow().offers[trip.trip], own = offerOf(trip.trip);
     if (own && isKeptElsewhere(trip, own.old)) return null;
+    // (somebody else has put the trip to another time, which nobody has offered)
+    if (own?.window && (own.window[0] !== trip.window_from || own.window[1] !== trip.window_to)) return null;
     // (a plan that has not ended may still give what was said)
     if (own?.asking !== undefined && stored(ASKING)[own.asking]) return null;
     if (own || !holds(told, trip) || holds(stored(SAID)[trip.trip], trip) || holds(servedNow().bookings[trip.trip], trip)) return own;

@@ -3,12 +3,17 @@
 import { isOfMinute, isRule } from "./wishes.js";
 
 /** @typedef {import("../types").Wish} Wish */
-/** @typedef {"planned" | "sending" | "booked" | "denied" | "unsent" | "nothing" | "offered" | "cancelled" | "stands"} State planned: it waits for its turn; unsent: the page
- *   was gone before its turn came; nothing, offered, cancelled, stands: what the desk had of it once its window was closed */
+/** @typedef {"planned" | "sending" | "booked" | "denied" | "unsent" | "left" | "early" | "nothing" | "offered" | "cancelled" | "stands"} State planned: it waits for its turn; unsent: the page
+ *   was gone before its turn came; left: whoever asked had left before the rider's other trips were known, so nothing was sent; early: a way
+ *   back that would have begun before the way there arrives, so it was not sent; nothing, offered, cancelled, stands: what the desk had of it once its window was closed */
 /** @typedef {{ mode: string, minute: number } | null} Said what the rider named: the minute of a wish is the page's */
-/** @typedef {{ rider: number, wish: Wish, said: Said, trip: number | null, state: State, reply: any, late: boolean, cut?: boolean }} Leg trip is the number of a trip that is
- *   changed, reply the desk's, late says that whoever asked could not see the answer at once,
+/** @typedef {{ rider: number, wish: Wish, said: Said, trip: number | null, state: State, reply: any, late: boolean, cut?: boolean, at?: Moment }} Leg trip is the number of a trip that is
+ *   changed, reply the desk's, at when it came, late says that whoever asked could not see the answer at once,
  *   cut that the page went while it was being asked: the rest of its plan was not sent */
+
+/** @typedef {{ day: string, minute: number }} Moment by the agency's clocks */
+/** @typedef {{ is: "booked" | "moved" | "over", trip: import("../types").Trip } | null} Since what the desk has of a trip by now: it stands in the window that was promised, in another one, or has
+ *   another status */
 
 /** @param {Leg} leg @param {{ rider: number, wish: Wish, trip: number | null }} asked */
 const isSame = (leg, asked) => leg.rider === asked.rider && leg.trip === asked.trip
@@ -22,10 +27,10 @@ const lastAt = (legs, holds) => legs.reduce((found, leg, at) => (holds(leg) ? at
 /** @param {Leg} leg */
 const isOpen = ({ state }) => state === "planned" || state === "sending";
 
-/** What a rider wants anew takes the place of what was seen of the rider before; what is still to be read stays.
+/** What a rider wants anew takes the place of what was seen of the rider before, and of what was left; what else is still to be read stays.
  * @param {Leg[]} legs @param {{ rider: number, trip?: number | null, wanted: { wish: Wish, said: Said }[] }} given @returns {Leg[]}
  */
-export const afterPlanning = (legs, { rider, trip = null, wanted }) => [...legs.filter((leg) => leg.late || leg.rider !== rider),
+export const afterPlanning = (legs, { rider, trip = null, wanted }) => [...legs.filter((leg) => leg.rider !== rider || (leg.late && leg.state !== "left")),
     ...wanted.map(({ wish, said }) => ({ rider, wish, said, trip, state: /** @type {State} */ ("planned"), reply: null, late: false }))];
 
 /** One try of a leg goes out: it may be the second one, with another minute.
@@ -38,12 +43,12 @@ export function afterSending(legs, asked) {
 }
 
 /** A try was answered.
- * @param {Leg[]} legs @param {{ rider: number, trip: number | null, wish: Wish }} asked @param {any} reply @param {boolean} late @returns {Leg[]}
+ * @param {Leg[]} legs @param {{ rider: number, trip: number | null, wish: Wish }} asked @param {any} reply @param {boolean} late @param {Moment} [when] @returns {Leg[]}
  */
-export function afterAnswer(legs, asked, reply, late) {
+export function afterAnswer(legs, asked, reply, late, when) {
     const at = lastAt(legs, (leg) => isSame(leg, asked) && leg.state === "sending");
     return legs.map((leg, index) => (index !== at ? leg
-        : { ...leg, ...asked, state: reply.denied === undefined ? "booked" : "denied", reply: reply.denied === undefined ? reply.value : reply, late: leg.late || late }));
+        : { ...leg, ...asked, state: reply.denied === undefined ? "booked" : "denied", reply: reply.denied === undefined ? reply.value : reply, late: leg.late || late, at: when }));
 }
 
 /** The denial that is to be counted with an answer: the page that asked is gone, so its plan counts none. null where it is none of what the rider said.
@@ -63,6 +68,19 @@ export function afterLoading(legs) {
     return legs.filter(({ rider, late }) => late || open.has(rider)).map((leg) => ({ ...leg, state: leg.state === "planned" ? "unsent" : leg.state, late: true, cut: leg.cut === true || (!leg.late && leg.state !== "planned") }));
 }
 
+/** Whoever asked for a rider's trips left before the rider's other trips were known: none of it is sent, and each is told.
+ * @param {Leg[]} legs @param {number} rider @returns {Leg[]}
+ */
+export const afterLeaving = (legs, rider) => legs.map((leg) => (leg.rider === rider && leg.state === "planned" ? { ...leg, state: "left", late: true } : leg));
+
+/** A way back that is not asked for until the rider has said when to leave. Whoever asked sees the question, or it is told.
+ * @param {Leg[]} legs @param {number} rider @param {Wish} wish @param {boolean} late @returns {Leg[]}
+ */
+export function afterUnasked(legs, rider, wish, late) {
+    const at = lastAt(legs, (leg) => leg.state === "planned" && isSame(leg, { rider, trip: null, wish }));
+    return late ? legs.map((leg, index) => (index === at ? { ...leg, state: /** @type {State} */ ("early"), late } : leg)) : legs;
+}
+
 /** What the desk had of something whose window was closed. What this window's list tells already stands there once.
  * @param {Leg[]} legs @param {Leg} taken @returns {Leg[]}
  */
@@ -72,6 +90,16 @@ export const afterTakingUp = (legs, taken) => (taken.state !== "cancelled" && ta
  * @param {Leg[]} legs @param {number} rider @returns {Leg[]}
  */
 export const afterEnding = (legs, rider) => legs.filter((leg) => leg.rider !== rider || (leg.late && leg.state !== "planned"));
+
+/** What became since of a trip that a leg tells of, by a later reply; null where that is not known, or nothing can have become of it.
+ * @param {Leg} leg @param {import("../types").Trip[] | null} trips the rider's trips @returns {Since}
+ */
+export function sinceOf({ state, reply, wish }, trips) {
+    const trip = state === "booked" || state === "offered" || state === "stands" ? trips?.find((it) => it.trip === reply.trip) : undefined;
+    if (!trip) return null;
+    if (trip.status !== "booked") return { is: "over", trip };
+    return { is: trip.window_from === reply.window_from && trip.window_to === reply.window_to && trip.day === wish.day ? "booked" : "moved", trip };
+}
 
 /** What is still to be read, of all riders or of one.
  * @param {Leg[]} legs @param {number | null} [rider]

@@ -2,21 +2,24 @@
 // was with another rider by then. It is kept by this window, and stands where the booking was until it is read.
 
 import { placeName } from "./agency.js";
-import { between, clock, dayShort } from "./clock.js";
+import { between, clock, dayShort, minuteNow, today } from "./clock.js";
 import * as desk from "./desk.js";
 import { denialOf } from "./denials.js";
 import { button, part } from "./element.js";
 import { keepObject, keptObject } from "./kept.js";
 import { dropNote, note } from "./notes.js";
+import { reading } from "./reads.js";
 import { riderLabel } from "./roster.js";
+import { openOffer } from "./said.js";
 import { makeScreen } from "./screen.js";
-import { afterAnswer, afterEnding, afterLoading, afterPlanning, afterReading, afterSending, afterTakingUp, denialOfGone, riderOfChange, toBeRead } from "./sent-list.js";
+import { afterAnswer, afterEnding, afterLeaving, afterLoading, afterPlanning, afterReading, afterSending, afterTakingUp, afterUnasked, denialOfGone, riderOfChange, sinceOf, toBeRead } from "./sent-list.js";
 import { count } from "./tally.js";
 import { isOfMinute } from "./wishes.js";
 import { t } from "./words.js";
 
 /** @typedef {import("./sent-list.js").Leg} Leg */
 /** @typedef {import("../types").Wish} Wish */
+/** @typedef {import("../types").Trip} Trip */
 
 const KEPT = "desk.sent", NEW = "/trips", CHANGE = /^\/trips\/(\d+)\/change$/;
 
@@ -85,6 +88,18 @@ export const belongs = (trip, rider) => { riders.set(trip, rider); };
  */
 export const ended = (rider) => keep(afterEnding(legs(), rider));
 
+/** Whoever asked left before anything was sent. (Who signed out has left nothing here.)
+ * @param {number} rider
+ */
+export function left(rider) {
+    if (desk.digest()) keep(afterLeaving(legs(), rider));
+}
+
+/** A way back that is not sent yet, since it would begin before the way there arrives.
+ * @param {number} rider @param {Wish} wish
+ */
+export const unasked = (rider, wish) => keep(afterUnasked(legs(), rider, wish, !isSeen(rider)));
+
 /** Whether a plan broke off in the middle: a denial of one of its requests is none of what the rider said.
  * @param {Leg} leg
  */
@@ -93,12 +108,31 @@ const isCut = ({ state, cut, reply }) => state === "denied" && cut === true && i
 /** Of a change that did not come about: the trip itself stands.
  * @param {Leg} leg @param {Record<string, any>} way
  */
-const changeWords = (leg, way) => t(isCut(leg) ? "sent.change-cut" : leg.state === "denied" ? "sent.change-denied" : "sent.change-unsent", way);
+const changeWords = (leg, way) => t(isCut(leg) ? "sent.change-cut" : leg.state === "denied" ? "sent.change-denied" : leg.state === "left" ? "sent.change-left" : "sent.change-unsent", way);
+
+const momentOfNow = () => ({ day: today(), minute: minuteNow() });
+
+/** When the answer came: "at 9:12 AM".
+ * @param {Leg} leg
+ */
+const whenWords = ({ at }) => (at ? t("sent.at", { time: clock(at.minute), day: at.day === today() ? "" : dayShort(at.day) }) : "");
+
+/** What the desk has of the trip by now, as far as it was read since.
+ * @param {Leg} leg @param {Trip[] | null} trips
+ */
+function sinceWords(leg, trips) {
+    const since = sinceOf(leg, trips);
+    if (!since) return "";
+    const { trip, is } = since, window = between(trip.window_from, trip.window_to);
+    if (is === "over") return t(trip.status === "cancelled" ? "sent.since-cancelled" : "sent.since-over", { status: t(`booking.${trip.status}`) });
+    if (is === "moved") return t("sent.since-moved", { day: dayShort(trip.day), window });
+    return t(leg.state === "offered" && openOffer(trip) ? "sent.since-waits" : leg.state === "stands" ? "sent.since-stands" : "sent.since-booked");
+}
 
 /** @param {Leg} leg */
 function words(leg) {
-    const { rider, wish, said, state, reply, trip } = leg;
-    const way = { day: dayShort(wish.day), from: placeName(wish.from), to: placeName(wish.to), rider: riderLabel(rider),
+    const { rider, wish, said, state, reply, trip } = leg, when = whenWords(leg);
+    const way = { day: dayShort(wish.day), from: placeName(wish.from), to: placeName(wish.to), rider: riderLabel(rider), when,
         said: said ? t(`sent.said-${said.mode}`, { time: clock(said.minute) }) : "" };
     if (state === "cancelled" || state === "stands") return t(`sent.${state}`, { ...way, trip, window: between(reply.window_from, reply.window_to) });
     if (state === "offered") return t("sent.offered", { ...way, trip: reply.trip, window: between(reply.window_from, reply.window_to) });
@@ -106,20 +140,22 @@ function words(leg) {
     if (state === "booked") return t(trip === null ? "sent.booked" : "sent.changed", { ...way, trip: reply.trip, window: between(reply.window_from, reply.window_to) });
     if (trip !== null && state !== "sending" && state !== "planned") return changeWords(leg, { ...way, trip });
     if (isCut(leg)) return t("sent.cut", way);
-    return t(state === "denied" ? "sent.denied" : state === "unsent" ? "sent.unsent" : "sent.sending", way);
+    return t(["denied", "unsent", "left", "early"].includes(state) ? `sent.${state}` : "sent.sending", way);
 }
 
-/** @param {Leg} leg @param {number} at */
-const shown = (leg, at) => part("li", { key: at, class: leg.state }, part("p", {}, words(leg)), leg.state === "denied" && !isCut(leg) && denialOf(leg.reply, "trip"));
+/** @param {Leg} leg @param {number} at @param {Trip[] | null} [trips] the rider's trips, where they were read */
+const shown = (leg, at, trips = null) => part("li", { key: at, class: leg.state }, part("p", {}, words(leg), " ", sinceWords(leg, trips)),
+    leg.state === "denied" && !isCut(leg) && denialOf(leg.reply, "trip"));
 
 /** What is to be read of a rider, where the booking was.
  * @param {number} rider
  */
 export function sentFor(rider) {
+    const read = reading(desk.pathOf.trips(rider));
     const screen = makeScreen({ state: {}, class: "sent", draw: () => {
         const mine = toBeRead(legs(), rider), busy = mine.some(({ state }) => state === "sending" || state === "planned");
-        return mine.length > 0 && part("section", { class: "card", "aria-label": t("sent.heading") }, part("h2", {}, t("sent.heading")),
-            part("ul", { class: "legs", role: "status" }, mine.map(shown)),
+        return mine.length > 0 && part("section", { class: "card", "aria-label": t("sent.heading") }, part("h2", {}, t("sent.heading")), read.age(),
+            part("ul", { class: "legs", role: "status" }, mine.map((leg, at) => shown(leg, at, read.reply()?.value?.trips ?? null))),
             !busy && part("div", { class: "row" }, button(t("sent.read"), () => keep(afterReading(legs(), rider)))));
     } });
     screen.element.setAttribute("data-sent-list", String(rider));
@@ -127,6 +163,9 @@ export function sentFor(rider) {
         if (screen.element.isConnected) screen.change({});
         else readers.delete(redraw);
     };
+    read.watch(screen.element, redraw);
+    // (what is not read yet goes along to the next part)
+    screen.onGone(showNote);
     setTimeout(() => readers.add(redraw));
     return screen.element;
 }
@@ -134,7 +173,7 @@ export function sentFor(rider) {
 /** Who is with another rider by now is told that there is something to read. */
 function showNote() {
     const away = [...new Set(toBeRead(legs()).filter(({ rider, state }) => state !== "sending" && state !== "planned" && !isListed(rider)).map(({ rider }) => rider))];
-    if (away.length) note("sent", () => [part("p", {}, t("sent.note")), part("ul", {}, toBeRead(legs()).filter(({ rider }) => away.includes(rider)).map(shown))]);
+    if (away.length) note("sent", () => [part("p", {}, t("sent.note")), part("ul", {}, toBeRead(legs()).filter(({ rider }) => away.includes(rider)).map((leg, at) => shown(leg, at)))]);
     else dropNote("sent");
 }
 
@@ -151,7 +190,7 @@ export function tellTaken(asking, came) {
     if (came.is === "waits") return;
     const { rider } = asking, reply = "trip" in came ? came.trip : null, off = asking.cancels, known = off ? null : asking;
     const wish = off ?? known?.wish, said = known ? { mode: known.said.mode, minute: known.said.minute } : null;
-    if (wish) keep(afterTakingUp(legs(), { rider, wish, said, trip: off?.trip ?? known?.old?.trip ?? null, state: came.is, reply, late: true }));
+    if (wish) keep(afterTakingUp(legs(), { rider, wish, said, trip: off?.trip ?? known?.old?.trip ?? null, state: came.is, reply, late: true, at: momentOfNow() }));
 }
 
 /** What the page that was here before has not sent, or has sent without seeing the answer. */
@@ -166,5 +205,5 @@ desk.whenWrote(({ path, fields, reply, waited }) => {
     if (!asked || reply.denied === "left") return;
     const denial = denialOfGone(legs(), asked, reply);
     if (denial) count("denials", denial);
-    keep(afterAnswer(legs(), asked, reply, waited || !isSeen(asked.rider)));
+    keep(afterAnswer(legs(), asked, reply, waited || !isSeen(asked.rider), momentOfNow()));
 });

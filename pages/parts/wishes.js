@@ -4,9 +4,10 @@
 // The desk promises a window that begins within an hour of the minute it is sent as the wish, and takes the earliest pickup that fits. So a wish of
 // nine brings the van at eight where it can. A plan is the list of requests that come nearer to what the rider said:
 //
-// around       the pickup within an hour of the minute. An hour later less the agency's lead comes first, then the minute itself.
-// not-before   the promise begins at the minute or later, and at most an hour after it. An hour later is asked for, first with a minute to be
-//              there by that keeps the pickup within the hour.
+// around       the pickup within an hour of the minute. An hour later less the agency's lead comes first, with a minute to be there by that keeps the
+//              pickup within the hour, then the minute itself. Where no line runs at that, each quarter of an hour less comes before it.
+// not-before   the promise begins at the minute or later, and at most an hour after it. An hour later is asked for, first with such a minute to be
+//              there by.
 // by           only being there in time matters: the latest pickup that may do comes first, then each a quarter of an hour earlier.
 //
 // What was accepted and is not what the rider said is an offer: it stands until the rider answered.
@@ -48,9 +49,9 @@ export const MODES = ["around", "not-before", "by"];
 const FEET_A_MINUTE = 1760, DETOUR = 1.3, UNKNOWN_DRIVE = 15, SLACK = 20, QUARTER = 15, HALF_WINDOW = 15, MOST_TRIES = 10, STEPS = [30, 60], MOST_TIGHTER = 2;
 /** A minute that the plan makes is never one that people name: 3 more than a multiple of 5. */
 const NAMED = 5, UNNAMED = 3;
-const FULL = "no vehicle";
+const FULL = "no vehicle", CLOSED = "37.131(e)";
 /** Rules that may hold of one minute and not of another. */
-const OF_MINUTE = [FULL, "37.131(e)", "37.123(b)"];
+const OF_MINUTE = [FULL, CLOSED, "37.123(b)"];
 /** Whether another minute of the same plan may still be accepted.
  * @param {string} name
  */
@@ -104,11 +105,17 @@ const latestPickup = ({ minute, drive }) => minute - drive - SLACK;
  */
 const namedOf = (said) => cut(said.mode === "by" ? latestPickup(said) : said.minute);
 
+/** So many minutes, and each a quarter of an hour less, above none.
+ * @param {number} most
+ */
+const quarters = (most) => Array.from({ length: Math.ceil(most / QUARTER) }, (_, at) => most - at * QUARTER);
+
 /** @param {Said} said @returns {[number, number | null, boolean][]} wish, by, bound */
 function wishesOf(said) {
     const { mode, minute, by, lead, change } = said, bound = soonest(by, boundOf(said)), isBound = bound !== by;
     if (mode === "by") return Array.from({ length: MOST_TRIES }, (_, at) => [latestPickup(said) + NEGOTIATED_MINUTES - at * QUARTER, minute, false]);
-    if (mode === "around") return [[minute + NEGOTIATED_MINUTES - lead, change ? bound : by, change && isBound], [minute, by, false]];
+    // (booked or changed, it is asked alike: a first request without the bound would hold or move the trip past the hour before the rider has said yes)
+    if (mode === "around") return [...quarters(NEGOTIATED_MINUTES - lead).map((far) => /** @type {[number, number | null, boolean]} */ ([minute + far, bound, isBound])), [minute, by, false]];
     const steps = Array.from({ length: NEGOTIATED_MINUTES / QUARTER + 1 }, (_, at) => minute + NEGOTIATED_MINUTES - at * QUARTER);
     // (a change would move the trip past the hour at once, before the rider has said yes: so it is not asked for without the bound)
     return steps.flatMap((wish) => /** @type {[number, number | null, boolean][]} */ ([[wish, bound, isBound], ...(isBound && !change ? [[wish, by, false]] : [])]));
@@ -158,7 +165,7 @@ function reasonOf(said, answers) {
  * @returns {Request | null}
  */
 function nearer(said, request, { window_from: from }, tighter) {
-    if (said.mode === "around") return requestsOf(said).find(({ at }) => at > request.at) ?? null;
+    if (said.mode === "around") return requestsOf(said).filter(({ at }) => at > request.at).at(-1) ?? null;
     const late = from - said.minute - NEGOTIATED_MINUTES;
     if (late <= 0 || !request.bound || request.by === null || tighter >= MOST_TIGHTER) return null;
     const by = request.by - late;
@@ -170,7 +177,9 @@ function nearer(said, request, { window_from: from }, tighter) {
  */
 function after(said, request, rule) {
     const left = requestsOf(said).filter(({ at }) => at > request.at);
-    if (said.mode !== "not-before") return left[0] ?? null;
+    if (said.mode === "by") return left[0] ?? null;
+    // (around a minute, only where no line runs yet or any more is a minute nearer to it asked for before the minute itself)
+    if (said.mode === "around") return (rule === CLOSED ? left[0] : left.at(-1)) ?? null;
     // (a full hour stays full from an earlier wish, which only adds pickups that are too early)
     if (rule === FULL) return left.find(({ wish }) => wish === request.wish) ?? null;
     return left.find(({ wish }) => wish !== request.wish) ?? null;
@@ -268,3 +277,20 @@ export function underWay({ mode, minute, drive }) {
  * @param {Window} window @param {number} drive @returns {[number, number]}
  */
 export const underWayOf = ({ window_from: from, window_to: to }, drive) => [from, to + drive];
+
+/** Minutes to which a time that the page proposes is rounded up. */
+const ROUNDED = 5;
+
+/** The minute at which the way there arrives at the latest, where the way back would begin before it; null where it does not, or where the way there
+ * arrives so late that no way back is left that day.
+ * @param {Said} back @param {Window} there the promised window of the way there @param {number} drive
+ */
+export function arrivalBefore(back, there, drive) {
+    const [begins] = underWay(back), [, arrives] = underWayOf(there, drive), at = Math.ceil(arrives / ROUNDED) * ROUNDED;
+    return begins < arrives && at <= LAST_MINUTE ? at : null;
+}
+
+/** What a rider says of a way back who agrees to leave once the way there has arrived. A minute to be there by stays.
+ * @param {Said} back @param {number} minute @returns {Said}
+ */
+export const afterArrival = (back, minute) => ({ ...back, mode: "not-before", minute, by: back.mode === "by" ? (back.minute > minute ? back.minute : null) : back.by });

@@ -19,8 +19,14 @@ const smoothing = {};
 /** @type {Set<string>} */
 const loaded = new Set();
 let now = "en";
+/** Whether it is the rider who reads: then a text that speaks of the rider has another one that speaks to the rider, under its key and this. */
+let isToRider = false;
+const YOU = " you";
 
 export const language = () => now;
+
+/** @param {boolean} is whether the rider reads what follows, and not somebody of the staff */
+export const speakToRider = (is) => { isToRider = is; };
 
 /** Loads files of words of the chosen language.
  * @param {...string} names
@@ -55,7 +61,7 @@ export async function chooseLanguage(it, { keep = false } = {}) {
 
 /** @param {string} it @param {string} key @param {any} values */
 function textIn(it, key, values) {
-    const text = texts[it]?.[key] ?? texts.en[key];
+    const own = isToRider ? texts[it]?.[key + YOU] ?? texts.en[key + YOU] : undefined, text = own ?? texts[it]?.[key] ?? texts.en[key];
     if (text === undefined) return key;
     return typeof text === "function" ? smoothing[it]?.(text(values)) ?? text(values) : text;
 }

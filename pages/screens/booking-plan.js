@@ -3,12 +3,15 @@
 
 import { agency } from "../parts/agency.js";
 import { isNewer, LONGEST, noOf } from "../parts/answering.js";
-import { minuteNow, momentNow, serverNow, today } from "../parts/clock.js";
+import { asked } from "../parts/ask.js";
+import { between, dayInWords, dayShort, minuteNow, momentNow, serverNow, today } from "../parts/clock.js";
 import * as desk from "../parts/desk.js";
+import { say } from "../parts/element.js";
 import { beginAsking, driveOf, dropOffer, endAsking, isKeptElsewhere, keepOffer, keepSaid, leaveAsking, toldMade } from "../parts/said.js";
-import { belongs } from "../parts/sent.js";
+import { belongs, unasked } from "../parts/sent.js";
 import { cancelTrip, count, countLater } from "../parts/tally.js";
-import { countedRule, isAsSaid, nextStep, otherRequests } from "../parts/wishes.js";
+import { afterArrival, arrivalBefore, countedRule, isAsSaid, nextStep, otherRequests } from "../parts/wishes.js";
+import { t } from "../parts/words.js";
 import { drivers } from "./trips-today.js";
 
 // For so long a way back may still be asked for, in milliseconds, once the way there was denied.
@@ -41,6 +44,8 @@ const offeredAt = new Map();
  * @property {Ticket | null} refused an offer that the rider did not want: the trip is given up
  * @property {Trip | null} [moved] the trip of such an offer where another clerk has put it to another time
  * @property {"looking" | "unsure"} [no] how far a No to the offer has come
+ * @property {number | null} [early] the minute at which the way there arrives, where this way back would begin before it: until the rider has said when to leave
+ * @property {boolean} [agreed] whether the rider has said so
  * @property {boolean} other whether other times were tried
  * @property {string | null} waitsFor the leg that has to be booked before
  * @property {string} [marked] the moment at which a copy of the desk's file was asked for, so that a log can say why it was denied
@@ -176,7 +181,7 @@ function afterPlan(leg, step, old) {
         tellBooked(leg, ticket);
         return { ticket, denied: null, wish };
     }
-    keepOffer(ticket.trip, { said: leg.said, old, counted: countedRule(leg.said, step) !== null });
+    keepOffer(ticket.trip, { said: leg.said, old, counted: countedRule(leg.said, step) !== null, window: [ticket.window_from, ticket.window_to] });
     offeredAt.set(ticket.trip, serverNow());
     return { offer: ticket, denied: null, wish };
 }
@@ -189,14 +194,24 @@ export function askerOf(given) {
     const set = (/** @type {string} */ key, /** @type {Partial<Leg>} */ patch) =>
         change((/** @type {State} */ { legs }) => ({ legs: legs.map((leg) => (leg.key === key ? { ...leg, ...patch } : leg)) }));
     const find = (/** @type {string | null} */ key) => state().legs.find((leg) => leg.key === key);
-    const isNext = (/** @type {Leg | undefined} */ leg) => leg && !leg.ticket && !leg.denied && !leg.offer && !leg.refused && (!leg.waitsFor || find(leg.waitsFor)?.ticket);
+    const isNext = (/** @type {Leg | undefined} */ leg) => leg && !leg.ticket && !leg.denied && !leg.offer && !leg.refused && !leg.early && (!leg.waitsFor || find(leg.waitsFor)?.ticket);
+    /** Whether a way back waits for the rider's word: nobody leaves before having arrived. */
+    const isEarly = (/** @type {Leg} */ leg) => {
+        const there = leg.agreed ? null : find(leg.waitsFor), early = there?.ticket ? arrivalBefore(leg.said, there.ticket, there.said.drive) : null;
+        if (early !== null) set(leg.key, { early });
+        return early !== null;
+    };
     const rest = async () => {
         // (all of it is written down first: a window that is closed in the middle leaves none of it without a word)
-        const open = state().legs.filter(({ ticket, denied, offer, refused }) => !ticket && !denied && !offer && !refused);
+        const open = state().legs.filter(({ ticket, denied, offer, refused, early }) => !ticket && !denied && !offer && !refused && !early);
         const ids = new Map(open.map(({ key, wish, said }) => [key, beginAsking(rider, wish, said, trip)]));
         for (const [key, id] of ids) {
             const leg = find(key);
             if (!leg || !isNext(leg)) continue;
+            if (isEarly(leg)) {
+                unasked(rider, leg.wish);
+                continue;
+            }
             const step = await carriedOut(given, leg, id), patch = afterPlan(leg, step, trip), rule = countedRule(leg.said, step);
             ids.delete(key);
             countDenial(counted, leg, rule, step.is === "offered" ? offerFields(rider, /** @type {Ticket} */ (step.answer.reply.value), trip) : null);
@@ -235,6 +250,21 @@ export function askerOf(given) {
         return { ticket: told.ticket, denied: null, other: true };
     });
     const answer = (/** @type {Leg} */ leg, /** @type {boolean} */ yes) => carryOn(leg, () => afterAnswer(leg, yes, given, () => set(leg.key, { no: "looking" })).finally(() => { if (!yes) booked(); }));
+    // (the store of reads may be of before the offer: what it says is looked at once more)
+    const look = async (/** @type {Trip[]} */ trips) => {
+        for (const { key, offer } of state().legs) {
+            const seen = offer && trips.find((it) => it.trip === offer.trip);
+            if (!seen || isSameOffer(seen, offer)) continue;
+            const { is, now } = await offerNow(rider, offer, trip);
+            if ((is !== "gone" && is !== "moved") || state().busy || find(key)?.offer !== offer) continue;
+            losses.hold(state().legs, key);
+            set(key, { offer: null, refused: offer, moved: is === "moved" ? now : null });
+            say(refusedWords(trip, is === "moved" ? now : null));
+        }
+    };
+    /** The way back is asked for once the rider has said when to leave: after the arrival, or as it was said. */
+    const leaveAt = (/** @type {Leg} */ leg, /** @type {number | null} */ minute) => carryOn(leg, async () => ({ early: null, agreed: true,
+        ...(minute !== null && { said: afterArrival(leg.said, minute) }) }));
     const mark = (/** @type {Leg} */ { key, wish: { day }, said: { mode, minute } }) => {
         if (find(key)?.marked) return;
         const at = momentNow();
@@ -242,12 +272,25 @@ export function askerOf(given) {
         set(key, { marked: at });
         change({}, { focus: `marked-${key}` });
     };
-    return { rest, tryOthers, answer, mark, leave: losses.tell };
+    return { rest, tryOthers, answer, look, leaveAt, mark, leave: losses.tell };
+}
+
+/** Whether a trip stands in the window that was offered.
+ * @param {Trip} trip @param {Ticket} offer
+ */
+export const isSameOffer = (trip, offer) => trip.status === "booked" && trip.window_from === offer.window_from && trip.window_to === offer.window_to;
+
+/** What an offer that was not taken leaves: of a change the trip as it stands again, and else how another clerk has put it.
+ * @param {Trip | null} old @param {Trip | null} [moved]
+ */
+export function refusedWords(old, moved = null) {
+    const it = moved ?? old;
+    return it ? t(moved ? "booking.offer-moved" : "booking.offer-is-back", { trip: it.trip, day: dayShort(it.day), window: between(it.window_from, it.window_to) }) : t("booking.offer-given-up");
 }
 
 /** @typedef {{ is: "stands" | "gone" | "moved" | "begun" | "left" | "unsure", now: Trip | null }} Now what the desk has of an offer: another clerk may have given it up (gone) or put the
  *   trip to another time (moved), its pickup window may have begun, the screen may have been left
- *   before the answer, and somebody else may have kept it where nobody can look (unsure) */
+ *   before the answer, and where nobody can see whether somebody else has kept it the No may have been taken back (unsure) */
 
 /** Waits until the site's file has all that was answered before now, for a while at most.
  * @param {() => void} looking is called where it waits
@@ -262,6 +305,12 @@ async function heardAnswers(looking) {
     }
 }
 
+/** Whoever cannot see whether somebody else has kept the trip meanwhile is asked once more, with what a yes does.
+ * @param {Ticket} offer @param {Trip | null} old @param {Trip | null} now
+ */
+const isSure = ({ trip, window_from: from, window_to: to }, old, now) => asked({ question: t(old ? "booking.offer-sure-back" : "booking.offer-sure", { trip }), danger: true,
+    detail: t("booking.offer-sure-detail", { day: now ? dayInWords(now.day) : "", window: between(from, to) }), yes: t(old ? "booking.offer-back" : "booking.cancel-yes", { trip, window: old ? between(old.window_from, old.window_to) : "" }) });
+
 /** What is looked at before an offer is given up.
  * @param {number} rider @param {Ticket} offer @param {Trip | null} old @param {() => void} looking @returns {Promise<Now>}
  */
@@ -269,7 +318,7 @@ export async function offerBeforeNo(rider, offer, old, looking) {
     const at = offeredAt.get(offer.trip), no = noOf({ age: at === undefined ? null : serverNow() - at, canRead: drivers() !== null });
     if (no === "look") await heardAnswers(looking);
     const found = await offerNow(rider, offer, old);
-    return no === "unsure" && found.is === "stands" ? { ...found, is: "unsure" } : found;
+    return no === "unsure" && found.is === "stands" && !await isSure(offer, old, found.now) ? { ...found, is: "unsure" } : found;
 }
 
 /** What the desk has of an offer by now, and the site's log for who may read it: what another clerk kept is not given up by an answer from before.
@@ -280,11 +329,10 @@ export async function offerNow(rider, offer, old) {
     if (reply.denied === "left") return { is: "left", now: null };
     const now = reply.value?.trips.find(({ trip }) => trip === offer.trip) ?? null;
     if (!now) return { is: "stands", now };
-    const isBooked = now.status === "booked", isSame = now.window_from === offer.window_from && now.window_to === offer.window_to;
-    if (isBooked && isSame) return { is: hasBegun(now) ? "begun" : "stands", now };
+    if (isSameOffer(now, offer)) return { is: hasBegun(now) ? "begun" : "stands", now };
     dropOffer(offer.trip);
     if (old) Object.assign(old, now);
-    return { is: isBooked && !old ? "moved" : "gone", now };
+    return { is: now.status === "booked" && !old ? "moved" : "gone", now };
 }
 
 /** What the record has of a leg once the rider has answered its offer.

@@ -13,14 +13,14 @@ import { reading } from "../parts/reads.js";
 import { riderLabel } from "../parts/roster.js";
 import { driveOf, namedBy, offerOf, saidOf } from "../parts/said.js";
 import { makeScreen } from "../parts/screen.js";
-import { ended, planned } from "../parts/sent.js";
+import { ended, left, planned } from "../parts/sent.js";
 import { otherRequests, pickupsOf, searched, underWay, underWayOf } from "../parts/wishes.js";
 import { t } from "../parts/words.js";
 import { faultOf, wishFields } from "./booking-fields.js";
-import { askerOf, saidIn } from "./booking-plan.js";
+import { askerOf, refusedWords, saidIn } from "./booking-plan.js";
 import { markButton, markedWords } from "./denials-today.js";
 import { isOwn } from "./letters.js";
-import { offersOf, offerShown, refusedWords } from "./offers.js";
+import { offersOf, offerShown } from "./offers.js";
 import { takeUp } from "./take-up.js";
 import { printTickets, saidWords, ticketOf, windowOf } from "./ticket.js";
 import { drivers } from "./trips-today.js";
@@ -33,7 +33,7 @@ export { dollars, windowOf } from "./ticket.js";
 /** @typedef {import("./booking-plan.js").State} State */
 /** @typedef {import("../parts/wishes.js").Side} Side */
 /** @typedef {{ rider: number, trip: Trip | null, ids: string }} About trip is the one that is changed */
-/** @typedef {{ tryOthers: (leg: Leg, side: Side) => void, answer: (leg: Leg, yes: boolean) => void, mark: (leg: Leg) => void }} Acts */
+/** @typedef {{ tryOthers: (leg: Leg, side: Side) => void, answer: (leg: Leg, yes: boolean) => void, leaveAt: (leg: Leg, minute: number | null) => void, mark: (leg: Leg) => void }} Acts */
 
 export const statusOf = (/** @type {string} */ status) => t(`booking.${status}`);
 
@@ -120,6 +120,16 @@ function deniedShown(leg, { trip }, acts, busy) {
         leg.denied?.denied === "no vehicle" && [otherTimes(leg, acts, busy), !trip && copyOf(leg, acts)]);
 }
 
+/** A way back that would begin before the way there arrives: it is asked for once the rider has said when to leave.
+ * @param {Leg} leg @param {Acts} acts @param {boolean} busy
+ */
+function earlyShown(leg, { leaveAt }, busy) {
+    const time = clock(Number(leg.early)), heading = t("booking.early-back", { time }), disabled = busy ? "true" : null;
+    return part("section", { class: "refused", tabindex: -1, id: `leg-${leg.key}`, "aria-label": heading }, part("h3", {}, heading), part("p", {}, t("booking.asked-for", { leg: legWords(leg) })),
+        part("div", { class: "row" }, button(t("booking.early-later", { time }), () => leaveAt(leg, Number(leg.early)), { class: "main", "aria-disabled": disabled }),
+            button(t("booking.early-as-said", { said: saidWords(leg.said) }), () => leaveAt(leg, null), { "aria-disabled": disabled })));
+}
+
 /** @param {Leg} leg @param {About} about @param {Acts} acts @param {boolean} busy */
 function legShown(leg, about, acts, busy) {
     const { rider, trip } = about, { ticket, offer, refused, said, wish, key } = leg, id = `leg-${key}`;
@@ -129,13 +139,14 @@ function legShown(leg, about, acts, busy) {
     if (refused) return part("li", { key }, part("section", { class: "refused", tabindex: -1, id, "aria-label": refusedWords(trip, leg.moved) },
         part("h3", {}, refusedWords(trip, leg.moved)), part("p", {}, t("booking.offer-counted"))));
     if (leg.denied) return part("li", { key }, deniedShown(leg, about, acts, busy));
+    if (leg.early) return part("li", { key }, earlyShown(leg, acts, busy));
     return part("li", { key, class: "waiting" }, part("p", {}, `${legWords(leg)}: `, t(busy ? "booking.asking" : "booking.not-asked")));
 }
 
 /** What stands though not all of a day was booked: the way there without the way back.
  * @param {Leg[]} legs
  */
-const standing = (legs) => legs.filter(({ waitsFor, denied }) => waitsFor && denied).map(({ waitsFor }) => legs.find(({ key }) => key === waitsFor))
+const standing = (legs) => legs.filter(({ waitsFor, denied, early }) => waitsFor && (denied || early)).map(({ waitsFor }) => legs.find(({ key }) => key === waitsFor))
     .flatMap((out) => (out?.ticket ? [part("p", { class: "note", key: `stands-${out.key}` }, t("booking.stands", { trip: out.ticket.trip, day: dayShort(out.wish.day), window: windowOf(out.ticket),
         from: placeName(out.wish.from), to: placeName(out.wish.to) }))] : []));
 
@@ -165,7 +176,14 @@ function wishScreen({ rider, trip = null, booked, heading, action }) {
         screen.change({ legs: [], busy: false });
     };
     const whole = form({ name: heading, action, fields, class: "wish", extra: map, check: faultOf, begun: () => begin(),
-        ask: (values) => questionOf(about, legsOf(values, Boolean(trip), ends())),
+        ask: async (values) => {
+            const legs = legsOf(values, Boolean(trip), ends());
+            planned(rider, legs, trip?.trip ?? null);
+            const question = await questionOf(about, legs);
+            if (question === undefined) left(rider);
+            return question;
+        },
+        declined: () => ended(rider),
         send: async (values) => {
             screen.change({ legs: legsOf(values, Boolean(trip), ends()), busy: true });
             planned(rider, screen.state.legs, trip?.trip ?? null);
@@ -188,6 +206,8 @@ function wishScreen({ rider, trip = null, booked, heading, action }) {
     const screen = makeScreen({ state: /** @type {State} */ ({ legs: [], busy: false }), class: trip ? "inner card" : "card",
         draw: (state) => [part(trip ? "h3" : "h2", { id: about.ids, tabindex: -1 }, heading), whole, resultsShown(state, about, asker)] });
     screen.onNewDay(days.renew);
+    const read = reading(desk.pathOf.trips(rider));
+    read.watch(screen.element, () => { asker.look(read.reply()?.value?.trips ?? []); });
     const write = (/** @type {Record<string, any>} */ values) => fields.forEach((it) => { if (it.name in values) it.write(values[it.name]); });
     return { element: screen.element, write, focus: () => days.control.focus(), begin, isBusy: () => screen.state.busy };
 }

@@ -5,6 +5,7 @@ import * as desk from "../parts/desk.js";
 import { draftIn } from "../parts/drafts.js";
 import { element, make, part } from "../parts/element.js";
 import { choiceField, form, idField, yesNoField } from "../parts/fields.js";
+import { note } from "../parts/notes.js";
 import { openRoster, riderLabel, rosterSize, rosterSource, rosterTroubles } from "../parts/roster.js";
 import { makeScreen } from "../parts/screen.js";
 import { lookAtSent, sentFor } from "../parts/sent.js";
@@ -54,6 +55,7 @@ function record() {
     begun: () => screen.change({ answer: null }),
     ask: async (values) => {
         const question = await recordQuestion(values);
+        if (question === undefined && desk.signedIn()) note("record", () => t("clerk.left", { rider: riderLabel(values.id) }));
         isNew = question === null;
         return question;
     },

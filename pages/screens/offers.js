@@ -1,6 +1,6 @@
 // Offers: a trip that stands and begins at another time than the rider said. It is kept on a yes alone, and given up on a no.
 
-import { clock, dayInWords, dayShort } from "../parts/clock.js";
+import { clock, dayInWords } from "../parts/clock.js";
 import { denialOf } from "../parts/denials.js";
 import { button, part } from "../parts/element.js";
 import { placeName } from "../parts/agency.js";
@@ -9,7 +9,7 @@ import { keepOffer, openOffer } from "../parts/said.js";
 import { makeScreen } from "../parts/screen.js";
 import { count } from "../parts/tally.js";
 import { t } from "../parts/words.js";
-import { givenUp, hasBegun, offerBeforeNo, offerFields, offerNow, tellBooked } from "./booking-plan.js";
+import { givenUp, hasBegun, offerBeforeNo, offerFields, offerNow, refusedWords, tellBooked } from "./booking-plan.js";
 import { saidWords, windowOf } from "./ticket.js";
 
 /** @typedef {import("../types").Trip} Trip */
@@ -42,10 +42,13 @@ export function offerShown({ trip, said, old, elsewhere, denied, id, busy, no, a
             elsewhere !== "change" && button(t(old ? "booking.offer-back" : "booking.offer-no", { trip: trip.trip, window: old ? windowOf(old) : "" }), () => answer(false), { "aria-disabled": disabled })));
 }
 
-/** What an offer that was not taken leaves: of a change the trip as it stands again, and else how another clerk has put it.
- * @param {Trip | null} old @param {Trip | null} [moved]
+/** What somebody else has made of an offer that was open here.
+ * @param {Trip} trip as it is now @param {{ from: number, to: number }} window that was offered
  */
-export const refusedWords = (old, moved = null) => (moved ? t("booking.offer-moved", { trip: moved.trip, day: dayShort(moved.day), window: windowOf(moved) }) : old ? t("booking.offer-is-back", { trip: old.trip, day: dayShort(old.day), window: windowOf(old) }) : t("booking.offer-given-up"));
+function goneWords(trip, { from, to }) {
+    if (trip.status !== "booked") return t("booking.offer-off", { trip: trip.trip });
+    return trip.window_from === from && trip.window_to === to ? t("booking.offer-kept", { trip: trip.trip }) : refusedWords(null, trip);
+}
 
 /** The offers of a rider that nobody has answered. show(trips) takes the rider's trips as they are now.
  * @param {number} rider @param {() => void} changed what is done once one was answered
@@ -83,13 +86,16 @@ export function offersOf(rider, changed) {
         // (what a form asks just now is not asked twice)
         const isAsked = (/** @type {Trip} */ { trip }) => document.querySelector(`[data-offer="${trip}"]:not(#offer-${trip})`) !== null;
         const trips = all.filter((trip) => openOffer(trip) !== null && !isAsked(trip));
+        // (what somebody else has answered meanwhile is said, and does not go without a word)
+        const gone = screen.state.trips.map(({ trip, window_from: from, window_to: to }) => ({ now: all.find((it) => it.trip === trip), from, to })).filter(({ now }) => now && openOffer(now) === null);
+        const answered = gone.map(({ now, from, to }) => goneWords(/** @type {Trip} */ (now), { from, to }));
         for (const trip of trips) {
             const offer = openOffer(trip);
             if (!offer || offer.counted) continue;
             count("denials", { day: trip.day, minute: offer.said.minute, rule: "no vehicle", mode: offer.said.mode, ...offerFields(rider, trip, offer.old) });
             keepOffer(trip.trip, { ...offer, counted: true });
         }
-        if (trips.length || screen.state.trips.length) screen.change({ trips });
+        if (trips.length || screen.state.trips.length) screen.change({ trips, ...(answered.length && { told: answered.join(" ") }) });
     };
     return { element: screen.element, show };
 }

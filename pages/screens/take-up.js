@@ -21,7 +21,7 @@ function takeOne(asking, trips) {
     if (came.is === "waits") return;
     const isBooking = asking.cancels === undefined;
     if (isBooking && came.is === "booked") tellBooked({ wish: came.trip, said: asking.said }, came.trip);
-    if (isBooking && came.is === "offered") keepOffer(came.trip.trip, { said: asking.said, old: asking.old, counted: false });
+    if (isBooking && came.is === "offered") keepOffer(came.trip.trip, { said: asking.said, old: asking.old, counted: false, window: [came.trip.window_from, came.trip.window_to] });
     endAsking(asking.id);
     tellTaken(asking, came);
 }

@@ -16,7 +16,7 @@ import { denialsToday } from "./denials-today.js";
 import { namedIn, seenIn, watchNoShows } from "./notice.js";
 
 /** @typedef {import("../types").Given} Given */
-/** @typedef {{ heads: string[], rows: string[][] }} Table */
+/** @typedef {{ heads: string[], rows: string[][], values: string[][] }} Table rows as they are read, values as programs read them: a day is YYYY-MM-DD */
 /** @typedef {{ id: string, title: string, said: string[], tables: Table[] }} List */
 /** @typedef {{ said: string[], lists: List[], files: List[], fault?: undefined } | { fault: string }} Found */
 
@@ -34,8 +34,14 @@ const OWN = { clerk: { offers: "trips", first: "file", applications: "file", app
 /** @param {Element | null} it */
 const wordsOf = (it) => (it?.textContent ?? "").replace(/\s+/g, " ").trim();
 
+/** @param {Element} it */
+const valueOf = (it) => it.querySelector("time")?.getAttribute("datetime") ?? wordsOf(it);
+
+/** @param {Element} it @param {(cell: Element) => string} read */
+const cellsOf = (it, read) => [...it.querySelectorAll("tbody tr")].map((row) => [...row.children].map(read));
+
 /** @param {Element} it @returns {Table} */
-const wordsOfTable = (it) => ({ heads: [...it.querySelectorAll("thead th")].map(wordsOf), rows: [...it.querySelectorAll("tbody tr")].map((row) => [...row.children].map(wordsOf)) });
+const wordsOfTable = (it) => ({ heads: [...it.querySelectorAll("thead th")].map(wordsOf), rows: cellsOf(it, wordsOf), values: cellsOf(it, valueOf) });
 
 /** @param {Element} it @returns {List} */
 const listOf = (it) => ({ id: it.id, title: wordsOf(it.querySelector("h2, summary")), said: [...it.querySelectorAll("p")].map(wordsOf).filter(Boolean),
@@ -139,8 +145,8 @@ export function worklist(reader) {
 /** The rows of a list that are of one rider.
  * @param {List} list @param {number} rider @returns {List}
  */
-const rowsOf = (list, rider) => ({ ...list, tables: list.tables.map(({ heads, rows }) => ({ heads, rows: rows.filter(([number]) => number === String(rider)) }))
-    .filter(({ rows }) => rows.length > 0) });
+const rowsOf = (list, rider) => ({ ...list, tables: list.tables.map(({ heads, rows, values }) => ({ heads, rows: rows.filter(([number]) => number === String(rider)),
+    values: values.filter(([number]) => number === String(rider)) })).filter(({ rows }) => rows.length > 0) });
 
 /** What the list says of one rider: how many trips were missed, and the case file with all that an officer decides on.
  * @param {number} rider

@@ -52,8 +52,8 @@ def signed_in(at, part="record"):
     at.browser.settled()
 
 
-def trips(at):
-    return len(at.town.trips_of(RIDER))
+def trips(at, rider=RIDER):
+    return len(at.town.trips_of(rider))
 
 
 @check
@@ -134,7 +134,7 @@ def a_page_that_is_loaded_anew_while_it_sends_says_that_it_is_done_once(at):
         asks(at, "book", wish(940))
         until("the write comes", at.town.middle.writes)
         at.browser.reload()
-    at.browser.sees("These trips were asked for earlier.", "is booked for Samuel Grant (1005): Fri, Mar 14, pickup")
+    at.browser.sees("These trips were asked for earlier.", "was booked for Samuel Grant (1005) at ", ": Fri, Mar 14, pickup")
     same("the trips", before + 1, trips(at))
 
 
@@ -146,7 +146,7 @@ def without_a_line_what_was_being_sent_outlives_a_reload(at):
         asks(at, "book", wish(1000))
         at.browser.sees(SIGN)
         at.browser.script("location.reload()")
-    at.browser.sees("These trips were asked for earlier.", "is booked for Samuel Grant (1005): Fri, Mar 14, pickup")
+    at.browser.sees("These trips were asked for earlier.", "was booked for Samuel Grant (1005) at ", ": Fri, Mar 14, pickup")
     same("the trips", before + 1, trips(at))
 
 
@@ -304,7 +304,7 @@ def numbers_of_writes_are_used_once(at):
 
 # What was sent while nobody could see the answer.
 
-LISTED = """const it = document.querySelector('[data-sent-list="1005"]');
+LISTED = """const it = document.querySelector(`[data-sent-list="${arguments[0] ?? 1005}"]`);
 return [...(it?.querySelectorAll('li') ?? [])].map((it) => it.innerText.split("\\n")[0])"""
 
 
@@ -332,14 +332,21 @@ def what_was_sent_while_the_clerk_took_the_next_call_is_listed(at):
     at.browser.sees("These trips were asked for earlier. This is what came of them:")
     booked = sorted(it["trip"] for it in at.town.trips_of(RIDER))[-4:]
     for trip in booked:
-        at.browser.sees(f"Trip {trip} is booked for Samuel Grant (1005)")
+        at.browser.sees(f"Trip {trip} was booked for Samuel Grant (1005) at ")
     at.browser.fill("Language", "es")
-    at.browser.sees(f"El viaje {booked[0]} está reservado para Samuel Grant (1005)")
+    at.browser.sees(f"El viaje {booked[0]} se reservó para Samuel Grant (1005) a l")
     at.browser.fill("Idioma", "en")
     at.browser.fill("Rider number", "1005")
     at.browser.press("Show")
     at.browser.sees("Sent earlier: what came of it")
     same("legs that are listed", [str(it) for it in booked], [re.search(r"Trip (\d+)", it)[1] for it in at.browser.script(LISTED)])
+    same("legs that stand", 4, sum("It is booked now." in it for it in at.browser.script(LISTED)))
+    at.town.post("third clerk", f"/trips/{booked[0]}/cancel", {})
+    moved = at.town.post("third clerk", f"/trips/{booked[1]}/change", {"day": "2025-03-19", "wish": 1000, "from": 2, "to": 1, "by": None, "attendant": False, "companions": 0})
+    holds(f"it was moved: {moved}", "window_from" in moved)
+    at.browser.press("Show")
+    until("what became of them since is not said", lambda: [bool(re.search(words, it)) for words, it in zip(
+        ["It was canceled since[.]$", "It was changed since: Wed, Mar 19, pickup ", "It is booked now[.]$", "It is booked now[.]$"], at.browser.script(LISTED))] == [True] * 4)
     at.browser.script("arguments[0].focus()", at.browser.find("button", "I have read this"))
     at.browser.keys(Keys.ENTER)
     at.browser.sees_no("Sent earlier: what came of it", "These trips were asked for earlier")
@@ -370,9 +377,97 @@ def a_reload_in_the_middle_of_four_legs_loses_none_silently(at):
         at.town.middle.planned.clear()
     until("the list has four legs", lambda: len(at.browser.script(LISTED)) == 4 and "Being" not in "".join(at.browser.script(LISTED)))
     listed = at.browser.script(LISTED)
-    holds(f"the first is {listed[0]}", listed[0].startswith("Trip ") and "is booked for Samuel Grant (1005): Fri, Mar 21" in listed[0])
+    holds(f"the first is {listed[0]}", listed[0].startswith("Trip ") and "was booked for Samuel Grant (1005) at" in listed[0] and ": Fri, Mar 21" in listed[0])
     same("the others", ["Not sent for Samuel Grant (1005)"] * 3, [it.split(":")[0] for it in listed[1:]])
     same("trips at the desk", before + 1, trips(at))
+
+
+LEFT = "You left before we could look for other trips at that time. What you typed is kept. Press Book."
+
+
+def pressed_and_not_looked(at, action, part):
+    """A button of the booking, and what the part is left by before the desk has answered the look at the rider's trips."""
+    with at.town.middle.hold():
+        at.browser.requests()
+        action()
+        until("it is planned", lambda: '"planned"' in (at.browser.script("return sessionStorage.getItem('desk.sent')") or ""))
+        until("the rider's trips are asked for", lambda: any(f"/riders/1003/trips" in it for it in at.browser.requests()))
+        part()
+        at.town.middle.writes()
+    at.browser.settled()
+    same("what was sent", [], [it for it in at.town.middle.writes() if it.startswith("/trips")])
+
+
+@check
+def what_is_booked_and_left_within_a_second_is_said_not_to_be_sent(at):
+    begin(at, "1003", "clerk")
+    before = trips(at, 1003)
+    at.browser.fill_all({"From": "town", "To": "hosp", "Day": "2025-03-18", "Pickup time": "9 am", "Return pickup": "2 pm"})
+    pressed_and_not_looked(at, lambda: at.browser.press(BOOK), lambda: at.browser.go_part("clerk", "file"))
+    at.browser.sees("These trips were asked for earlier.", "Not sent for Henry Park (1003): Tue, Mar 18, around 9:00 AM", LEFT)
+    at.browser.go_part("clerk", "trips")
+    at.browser.sees("Sent earlier: what came of it")
+    same("what is listed", ["Not sent for Henry Park (1003)"] * 2, [it.split(":")[0] for it in at.browser.script(LISTED, "1003")])
+    same("what was typed", "9 am", at.browser.value("Pickup time"))
+    at.browser.press(BOOK)
+    at.browser.sees("2 of 2 trips are booked for Henry Park (1003)")
+    at.browser.sees_no("Sent earlier: what came of it", LEFT)
+    same("trips at the desk", before + 2, trips(at, 1003))
+
+
+@check
+def a_change_that_is_pressed_and_left_within_a_second_is_said_not_to_be_sent(at):
+    trip = at.town.book(1003, "2025-03-24", 600, 1, 2)
+    begin(at, "1003", "clerk")
+    at.browser.press(f"Change trip {trip} of Henry Park (1003)")
+    whole = until("the form", lambda: at.browser.script("return document.querySelector('.trips-card form')"))
+    at.browser.fill("Pickup time", "2 pm", whole)
+    pressed_and_not_looked(at, lambda: at.browser.press(f"Change trip {trip} of Henry Park (1003)", within=whole), lambda: at.browser.go_part("clerk", "file"))
+    at.browser.sees(f"The change of trip {trip} of Henry Park (1003) was not sent: Mon, Mar 24, around 2:00 PM", "Press Change.")
+    at.browser.go_part("clerk", "trips")
+    at.browser.press(f"Change trip {trip} of Henry Park (1003)")
+    whole = until("the form", lambda: at.browser.script("return document.querySelector('.trips-card form')"))
+    until("what was typed is there", lambda: at.browser.script("return document.querySelector('.trips-card form [name=wish]').value") == "2 pm")
+    at.browser.press(f"Change trip {trip} of Henry Park (1003)", within=whole)
+    at.browser.sees_no("was not sent")
+    until("the trip is changed", lambda: next(it for it in at.town.trips_of(1003) if it["trip"] == trip)["wish"] > 800)
+
+
+@check
+def a_page_that_is_loaded_anew_before_the_rider_is_looked_at_says_so_and_a_no_says_nothing(at):
+    begin(at, "1003", "clerk")
+    wish = {"From": "town", "To": "hosp", "Day": "2025-03-18", "Pickup time": "9 am"}
+    at.browser.fill_all(wish)
+    pressed_and_not_looked(at, lambda: at.browser.press(BOOK), lambda: at.browser.script("location.reload()"))
+    at.browser.sees("Not sent for Henry Park (1003): Tue, Mar 18, around 9:00 AM", "The page was loaded again before its turn.")
+    begin(at, "1003", "clerk")
+    at.browser.fill_all(wish)
+    at.browser.press(BOOK)
+    at.browser.sees("has this trip already. Book it once more?")
+    at.browser.press("No, go back")
+    at.browser.reload()
+    at.browser.find("button", BOOK)
+    at.browser.settled()
+    holds("a no is told as not sent", at.browser.script(LISTED, "1003") == [] and "Not sent" not in at.browser.text())
+
+
+@check
+def a_record_that_is_saved_and_left_within_a_second_is_said_not_to_be_saved(at):
+    at.browser.sign_in(at.keys["clerk"], "clerk", "rider")
+    at.browser.fill_all({"Rider number": "1017", "Kind": "visitor"})
+    for legend in ["May bring an attendant, who rides free", "Comes in a wheelchair, and takes a wheelchair place"]:
+        group = at.browser.script("return [...document.querySelectorAll('fieldset')].find((it) => it.querySelector('legend').textContent === arguments[0])", legend)
+        at.browser.fill("No", True, group)
+    with at.town.middle.hold():
+        at.browser.requests()
+        at.browser.press("Save the record")
+        until("the rider is asked for", lambda: any("/riders/1017/standing" in it for it in at.browser.requests()))
+        at.browser.go_part("clerk", "waits")
+        at.town.middle.writes()
+    at.browser.sees("The record of rider 1017 was not saved: you left before we could look at what is on record. What you typed is kept. Save it again.")
+    same("what was sent", [], at.town.middle.writes())
+    at.browser.go_part("clerk", "rider")
+    same("what was typed", "1017", at.browser.value("Rider number"))
 
 
 # The agency's own files.
@@ -393,7 +488,7 @@ def files_that_were_missed_are_asked_for_again(at):
 
 # The files of the pages.
 
-FILES = ["/screens/admin-names.js", "/screens/admin.js", "/words/en/admin.js", "/parts/addresses.js", "/parts/main.js"]
+FILES = ["/screens/admin-names.js", "/screens/admin.js", "/words/en/admin.js", "/parts/addresses.js", "/parts/main.js", "/css/admin.css"]
 NOT_LOADED, NOT_DRAWN = "This screen could not be loaded", "This part could not be shown."
 STYLED = "return [...document.querySelectorAll('link[rel=stylesheet]')].every((it) => it.sheet) && Boolean(document.querySelector('link[href=\"css/admin.css\"]'))"
 NOTES = "window.notes = 0; new MutationObserver(() => { if (document.querySelector('main > [role=alert]')) window.notes += 1; }).observe(document.querySelector('main'), { childList: true })"
@@ -425,6 +520,18 @@ def a_file_that_takes_twelve_seconds_is_waited_for(at):
         with given(at.town, path, seconds=12) as answers:
             same(f"how often {path} is said not to come", 0, opened(at))
             same(f"how often {path} is asked for", 1, answers.asked)
+
+
+@check
+def a_style_that_does_not_come_at_all_leaves_its_screen_and_is_asked_for_again_at_the_next_part(at):
+    with given(at.town, "/css/admin.css", refusals=5) as answers:
+        same("how often the screen is said not to come", 0, opened(at))
+        until(lambda: f"it is asked for {answers.asked} times", lambda: answers.asked == 5)
+        pause(0.5)
+        holds("a style that was refused is there", not at.browser.script(STYLED))
+        at.browser.go_part("admin", "places")
+        until(lambda: f"it is asked for {answers.asked} times, and a style is missing", lambda: answers.asked == 6 and at.browser.script(STYLED))
+    at.browser.forget_errors()
 
 
 @check

@@ -166,18 +166,18 @@ def a_record_that_is_there_is_changed_only_after_a_question(at):
     at.browser.sign_in(at.keys["clerk"], "clerk", "rider")
     at.browser.fill("Rider number", "1004")
     at.browser.fill("Kind", "resident")
-    at.browser.press("Put the record")
+    at.browser.press("Save the record")
     at.browser.sees("Choose yes or no.")
     for group, answer in [("May bring an attendant, who rides free", "No"),
                           ("Comes in a wheelchair, and takes a wheelchair place", "Yes")]:
         at.browser.press(answer, "field", at.browser.find("group", group))
-    at.browser.press("Put the record")
+    at.browser.press("Save the record")
     at.browser.sees("Lucille Baker (1004) is on record already. Change the record?", "The desk does not tell the rest.",
                     "Comes in a wheelchair.")
     at.browser.press("Yes, change the record of rider 1004")
     at.browser.sees("The record of Lucille Baker (1004) is changed. Resident. Brings no attendant.")
     at.browser.fill("Rider number", "1500")
-    at.browser.press("Put the record")
+    at.browser.press("Save the record")
     at.browser.sees("Rider 1500 is new on record.")
 
 
@@ -255,7 +255,7 @@ def a_rider_of_the_roster_without_a_record_gets_one(at):
     at.browser.keys(Keys.ENTER)
     at.browser.sees("There is no rider of this number.")
     at.browser.press("Make the record of Nora Quinn (1700)", "link")
-    at.browser.find("button", "Put the record")
+    at.browser.find("button", "Save the record")
     same("the number in the form", "1700", at.browser.value("Rider number"))
 
 
@@ -748,10 +748,13 @@ def a_question_goes_with_who_signed_out_and_is_answered_no(at):
 
 # What a clerk has to know of a case.
 
-WORKLIST = """<main><section id=applications><h2>Applications to decide</h2><table><thead><tr><th>Rider<th>Name<th>Complete on
-<th>Presumed from<th>When<tbody><tr><td>1009<td>Peter Lange<td>2025-02-17<td>2025-03-10<td>today</table></section>
+# (as bin/worklist writes its cells)
+WORKLIST = """<main><section id=applications><h2>Applications to decide</h2><table><thead><tr><th scope="col">Rider</th><th scope="col">Name</th><th scope="col">Complete on</th>
+<th scope="col">Presumed from</th><th scope="col">When</th></tr></thead><tbody><tr><th scope="row"><a href="#rider-1009">1009</a></th><td>Peter Lange</td>
+<td><time datetime="2025-02-17">Mon, Feb 17, 2025</time></td><td><time datetime="2025-03-10">Mon, Mar 10, 2025</time></td><td>today</td></tr></tbody></table></section>
 <section id=appeals><h2>Appeals to decide</h2><table><thead><tr><th>Rider<th>Name<th>Against<th>Filed on<th>Heard on<tbody>
-<tr><td>1006<td>Ana<td>refuse (entry 3)<td>2025-02-20<td>2025-02-25<tr><td>1003<td>Henry<td>entry 1<td>2025-03-01<td>not heard"""
+<tr><td>1006<td>Ana<td>refuse (entry 3)<td><time datetime="2025-02-20">Thu, Feb 20, 2025</time><td><time datetime="2025-02-25">Tue, Feb 25, 2025</time>
+<tr><td>1003<td>Henry<td>entry 1<td><time datetime="2025-03-01">Sat, Mar 1, 2025</time><td>not heard"""
 
 
 @check
@@ -763,7 +766,7 @@ def what_waits_is_on_the_card_and_a_part_of_the_clerks_screen(at):
             begin(at, rider)
             at.browser.sees(words)
         at.browser.go_part("clerk", "waits")
-        at.browser.sees("Applications to decide", "Peter Lange")
+        at.browser.sees("Applications to decide", "Peter Lange", "Mon, Feb 17, 2025")
         at.browser.press("Show rider 1009")
         at.browser.sees("The case of Peter Lange (1009)")
     finally:

@@ -55,14 +55,14 @@ def what_came_of_a_booking_whose_window_was_closed_is_said_once(at):
     made = [it["trip"] for it in at.town.trips_of(1005) if it["trip"] not in before]
     same("trips that the desk has of it", 1, len(made))
     opened_again(at)
-    at.browser.sees("This is what came of them:", f"Trip {made[0]} is booked for Samuel Grant (1005)")
+    at.browser.sees("This is what came of them:", f"Trip {made[0]} was booked for Samuel Grant (1005) at ")
     same("what the rider said is told", ["around"], modes_told(at, made[0]))
     lost = "Not booked for Samuel Grant (1005): Fri, Mar 14, not before 3:00 PM, from Public Library to Riverside Market."
     holds("what may be on its way is not told as lost", lost not in at.browser.text())
     with at.browser.clock(seconds=MINUTE):
         opened_again(at)
         at.browser.sees(lost, "The window was closed while it was being asked. Book it again.")
-        at.browser.sees_no(f"Trip {made[0]} is booked for")
+        at.browser.sees_no(f"Trip {made[0]} was booked for")
         opened_again(at)
         at.browser.settled()
         holds("it is said once", lost not in at.browser.text())
@@ -82,7 +82,7 @@ def what_came_of_other_times_whose_window_was_closed_is_said_and_told(at):
     same("trips that the desk has of it", 1, len(made))
     with at.browser.clock(seconds=MINUTE):
         opened_again(at)
-        at.browser.sees(f"Trip {made[0]} is booked for", "not before 2:00 PM, from Riverside Market",
+        at.browser.sees(f"Trip {made[0]} was booked for", "not before 2:00 PM, from Riverside Market",
                         "The window was closed while it was being asked. Book it again.")
     same("what the rider said is told", ["around"], modes_told(at, made[0]))
     at.town.post("third clerk", f"/trips/{made[0]}/cancel", {})
@@ -98,12 +98,12 @@ def what_came_of_a_change_and_a_cancellation_whose_windows_were_closed_is_said(a
     at.browser.fill("Pickup time", "2 pm", whole)
     closed_while(at, lambda: at.browser.press(f"Change trip {trip} of Samuel Grant (1005)", within=whole))
     opened_again(at)
-    at.browser.sees(f"Trip {trip} of Samuel Grant (1005) is changed: Thu, Mar 13, pickup")
+    at.browser.sees(f"Trip {trip} of Samuel Grant (1005) was changed at ", ": Thu, Mar 13, pickup")
     begin(at, "1005")
     at.browser.press(f"Cancel trip {trip} of Samuel Grant (1005)")
     closed_while(at, lambda: at.browser.press(f"Yes, cancel trip {trip}"))
     opened_again(at)
-    at.browser.sees(f"Trip {trip} of Samuel Grant (1005) is cancelled: Thu, Mar 13, pickup")
+    at.browser.sees(f"Trip {trip} of Samuel Grant (1005) is canceled: Thu, Mar 13, pickup")
 
 
 def write_file_of_the_day(at):

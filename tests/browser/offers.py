@@ -195,3 +195,37 @@ def an_offer_outlives_an_idle_sign_out(at):
     finally:
         at.town.write_files()
     at.town.post("third clerk", f"/trips/{trip['trip']}/cancel", {})
+
+
+def looked_at(at):
+    """The window is looked at again: the store of reads reads anew."""
+    at.browser.script("window.dispatchEvent(new Event('focus'))")
+
+
+@check
+def a_rider_reads_on_the_open_page_that_a_clerk_has_ended_the_offer(at):
+    moved = {"day": LATER, "wish": 900, "from": 7, "to": 9, "by": None, "attendant": False, "companions": 0}
+    for is_in_form in [True, False]:
+        for act, says in [("cancel", "The offer was not taken, and is given up." if is_in_form else "was canceled meanwhile, so the offer is over."),
+                          ("change", "was put to another time meanwhile: Sat, Mar 22, pickup ")]:
+            at.town.post("dispatcher", "/vehicles", {"id": 1, "from_day": LATER, "days": EVERY_DAY, "depot": 5, "capacity": 6, "opens": LATE_VAN,
+                                                     "closes": 1320, "duration": 960, "chairs": 1})
+            at.browser.sign_in(at.keys["rider 1006"], "rider", "book")
+            at.browser.fill("Your rider number", "1006")
+            at.browser.press("Show my pages")
+            wish(at, start="library", goal="senior", day=LATER, wish="9 am", matters="not-before")
+            at.browser.press(BOOK)
+            at.browser.sees("The desk offers 10:", "It is kept only if you say yes.")
+            trip = last_trip(at, 1006)
+            if not is_in_form:
+                at.browser.reload()
+                at.browser.sees("An offer waits for your answer")
+            same("answers", [1, 1], answers(at, trip))
+            at.browser.requests()
+            reply = at.town.post("third clerk", f"/trips/{trip['trip']}/{act}", moved if act == "change" else {})
+            holds(f"the clerk did it: {reply}", "denied" not in reply)
+            looked_at(at)
+            at.browser.sees(says)
+            same("answers after it", [0, 0], answers(at, trip))
+            same("what the page did", [], [it for it in at.browser.requests() if "/cancel" in it or "/change" in it])
+            at.town.post("third clerk", f"/trips/{trip['trip']}/cancel", {})

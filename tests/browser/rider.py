@@ -3,7 +3,7 @@ import hashlib
 import json
 import re
 
-from booking import begin, last_trip
+from booking import BOOK, begin, last_trip, wish
 from checks import check, holds, same
 from clerk import clock_of, late
 from people import TOMORROW
@@ -19,6 +19,35 @@ def sign_in(at, rider, part, language="en"):
 def show(at, number, words="Your rider number", action="Show my pages"):
     at.browser.fill(words, str(number))
     at.browser.press(action)
+
+
+@check
+def a_riders_own_pages_speak_to_the_rider_and_a_clerks_of_the_rider(at):
+    attendant = "An attendant comes along, and pays nothing"
+    sign_in(at, 1005, "book")
+    show(at, 1005)
+    wish(at, start="library", goal="senior", day="2025-03-14", wish="10 am")
+    at.browser.fill(attendant, True)
+    at.browser.press(BOOK)
+    at.browser.sees("an attendant only where your record names one.", "ask the agency to change your record")
+    at.town.book(1006, "2025-03-14", 600, 7, 9)
+    sign_in(at, 1006, "book")
+    show(at, 1006)
+    wish(at, start="library", goal="senior", day="2025-03-14", wish="10 am")
+    at.browser.press(BOOK)
+    at.browser.sees("You have this trip already. Book it once more?")
+    at.browser.press("Yes, book once more")
+    at.browser.sees("is booked for rider 1006")
+    for part in ["trips", "book", "standing", "letters"]:
+        at.browser.go_part("rider", part)
+        at.browser.settled()
+        shown = at.browser.text()
+        holds(f"{part} speaks of the rider: {shown}", not re.search(r"\b(the|this) rider\b(?! number)", shown, re.I))
+    begin(at, "1005", "clerk")
+    wish(at, start="library", goal="senior", day="2025-03-14", wish="10 am")
+    at.browser.fill(attendant, True)
+    at.browser.press(BOOK)
+    at.browser.sees("an attendant only where the rider's record names one.")
 
 
 @check

@@ -224,7 +224,7 @@ def record(at, number, kind, attendant, wheelchair):
         if value is not None:
             within = at.browser.find("group", re.compile(f"^{group}"))
             at.browser.fill("Yes" if value else "No", True, within)
-    at.browser.press("Put the record")
+    at.browser.press("Save the record")
 
 
 @check
@@ -232,7 +232,7 @@ def a_record_that_is_there_is_changed_only_after_a_question_that_says_whose(at):
     record(at, 1004, "resident", True, True)
     at.browser.sees("Lucille Baker (1004) is on record already. Change the record?")
     at.browser.press("No, go back")
-    at.browser.press("Put the record")
+    at.browser.press("Save the record")
     at.browser.press("Yes, change the record of rider 1004")
     at.browser.sees("The record of Lucille Baker (1004) is changed.", "Comes in a wheelchair.")
 

@@ -86,7 +86,7 @@ def on_monday_a_newcomer_gets_a_record_and_an_application(at):
     at.browser.fill("Rider number", str(NEWCOMER))
     at.browser.fill("Kind", "resident")
     answer_yes_no(at, May_bring_an_attendant=False, Comes_in_a_wheelchair=False)
-    at.browser.press("Put the record")
+    at.browser.press("Save the record")
     at.browser.sees(f"Rider {NEWCOMER} is new on record.")
     at.browser.sign_in(at.keys["clerk"], "clerk", "file")
     show(at, NEWCOMER)

@@ -1,7 +1,7 @@
 // What came of each trip that was asked for, whatever happens to the page and the line.
 import assert from "node:assert/strict";
 import test from "node:test";
-import { afterAnswer, afterEnding, afterLoading, afterPlanning, afterReading, afterSending, denialOfGone, riderOfChange, toBeRead } from "../../pages/parts/sent-list.js";
+import { afterAnswer, afterEnding, afterLeaving, afterLoading, afterPlanning, afterReading, afterSending, denialOfGone, riderOfChange, sinceOf, toBeRead } from "../../pages/parts/sent-list.js";
 
 const wish = (day, from = 1, minute = 600) => ({ day, wish: minute, from, to: 9, by: null, attendant: false, companions: 0 });
 const asked = (day, from, minute, trip = null) => ({ rider: 7, trip, wish: wish(day, from, minute) });
@@ -83,4 +83,37 @@ test("a denial that first comes after a reload is counted once, and that of a pa
     assert.equal(denialOfGone(afterAnswer(gone, it, denial, true), it, denial), null);
     // (the rest of its plan was not asked, or no rule denied it)
     for (const denied of ["no vehicle", "37.131(e)", "desk.key", undefined]) assert.equal(denialOfGone(gone, it, { denied }), null);
+});
+
+test("whoever leaves before the rider's other trips are known reads that nothing was sent, until it is asked for again", () => {
+    const other = afterPlanning([], { rider: 8, wanted: [planned(wish("2025-03-11"))] });
+    const both = afterPlanning(afterPlanning(other, { rider: 7, wanted: [wish("2025-03-11"), wish("2025-03-11", 9)].map(planned) }), { rider: 9, wanted: [] });
+    const legs = afterLeaving(both, 7);
+    assert.deepEqual(states(toBeRead(legs)), ["left", "left"]);
+    assert.deepEqual(legs.filter(({ rider }) => rider === 8).map(({ state, late }) => [state, late]), [["planned", false]]);
+    // (a reload keeps it, and what is asked for anew takes its place)
+    assert.deepEqual(states(toBeRead(afterLoading(legs), 7)), ["left", "left"]);
+    assert.deepEqual(states(afterPlanning(legs, { rider: 7, wanted: [planned(wish("2025-03-12"))] })), ["planned", "planned"]);
+    // (what went out is none of it)
+    assert.deepEqual(states(afterLeaving(afterSending(both, asked("2025-03-11")), 7)), ["planned", "sending", "left"]);
+});
+
+test("what became since of a trip that was booked, offered or not cancelled comes from a later reply alone", () => {
+    const leg = (state) => ({ ...asked("2025-03-11"), said: null, state, reply: { trip: 5, window_from: 600, window_to: 630 }, late: true });
+    const trip = (more = {}) => ({ trip: 5, day: "2025-03-11", status: "booked", window_from: 600, window_to: 630, ...more });
+    const is = (state, trips) => sinceOf(leg(state), trips)?.is ?? null;
+    for (const state of ["booked", "offered", "stands"]) {
+        assert.deepEqual([is(state, null), is(state, []), is(state, [trip({ trip: 6 })])], [null, null, null]);
+        assert.equal(is(state, [trip()]), "booked");
+        for (const status of ["cancelled", "ridden", "missed-rider", "missed-operator"]) assert.equal(is(state, [trip({ status })]), "over");
+        assert.equal(is(state, [trip({ window_from: 605 })]), "moved");
+        assert.equal(is(state, [trip({ window_to: 640 })]), "moved");
+        assert.equal(is(state, [trip({ day: "2025-03-12" })]), "moved");
+    }
+    for (const state of ["planned", "sending", "denied", "unsent", "left", "nothing", "cancelled"]) assert.equal(is(state, [trip({ status: "cancelled" })]), null);
+});
+
+test("an answer is kept with its moment", () => {
+    const at = { day: "2025-03-10", minute: 552 };
+    assert.deepEqual(afterAnswer(afterSending([], asked("2025-03-11")), asked("2025-03-11"), ticket(1), true, at)[0].at, at);
 });

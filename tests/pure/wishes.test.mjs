@@ -5,7 +5,7 @@ import assert from "node:assert/strict";
 import { test } from "node:test";
 import { apart, countedRule, guessedDrive, isAsSaid, isMadeUp, nextStep, otherRequests, requestsOf, searched } from "../../pages/parts/wishes.js";
 
-const DAY = 1440, LAST = DAY - 1, HOUR = 60, HALF_WINDOW = 15, FIRST_BUS = 300, LEADS = [0, 15, 60];
+const DAY = 1440, LAST = DAY - 1, HOUR = 60, HALF_WINDOW = 15, SLACK = 24, FIRST_BUS = 300, LEADS = [0, 15, 60];
 const FULL = "no vehicle", CLOSED = "37.131(e)";
 
 /** When a van is free: each minute's next free one, DAY where there is none. */
@@ -52,6 +52,7 @@ function faultOf(said, desk, { step, answers }) {
     if (!answers.length) return "nothing was asked";
     if (answers.some(({ request }) => !isMinute(request.wish) || !(request.by === null || isMinute(request.by)))) return "a wish or a minute to be there by is none of the day";
     if (by !== null && answers.some(({ request }) => request.by === null || request.by > by)) return "the rider's minute to be there by was dropped";
+    if (mode === "around" && desk.drive === said.drive && accepted.some(({ reply }) => reply.value.window_from > minute + HOUR + SLACK)) return "around a minute, a trip was held or moved past the hour";
     if (step.is === "kept") {
         const { window_from: from, pickup } = step.answer.reply.value;
         if (step.answer !== answers[answers.length - 1]) return "something was asked after what is kept";
@@ -59,6 +60,8 @@ function faultOf(said, desk, { step, answers }) {
         if (mode === "not-before" && (from < minute || from > minute + HOUR)) return "the promise begins before the minute, or more than an hour after it";
         if (pickup + desk.drive > (mode === "by" ? minute : by ?? LAST)) return "the rider is there too late";
         if (mode === "around" && desk.free === DAYS["all day"] && minute + HOUR - said.lead <= desk.last && minute >= FIRST_BUS && minute - said.lead > 15 && from < minute - said.lead) return "the van comes earlier than the lead";
+        const nearestAsked = Array.from({ length: 4 }, (_, at) => minute + HOUR - said.lead - at * 15).find((wish) => wish > minute && wish <= desk.last) ?? minute;
+        if (mode === "around" && desk.free === DAYS["all day"] && minute >= FIRST_BUS && minute <= desk.last && by === null && from < nearestAsked - HOUR) return "before the lines end, the van comes earlier than it has to";
         return "";
     }
     const reason = step.reason?.reply.denied;
@@ -117,6 +120,16 @@ test("leads from 0 to 60, changes of a trip", () => {
 
 test("drives that were guessed wrongly", () => {
     tryAll([600, 1380], EVERY, { drives: [5, 35], changes: [false, true] });
+});
+
+test("around a minute, a booking and a change ask alike, first with a bound", () => {
+    for (const lead of LEADS) for (let minute = 0; minute < DAY; minute += 1) {
+        for (const said of saidAt(minute, lead, false).filter(({ mode }) => mode === "around")) {
+            const all = requestsOf(said), latest = minute + HOUR + HALF_WINDOW + said.drive + SLACK;
+            assert.deepEqual(requestsOf({ ...said, change: true }), all, JSON.stringify(said));
+            assert.ok(all[0].wish <= minute || all[0].by !== null && all[0].by <= latest || latest >= LAST, JSON.stringify([said, all[0]]));
+        }
+    }
 });
 
 test("a change sends nothing that may move a trip past the hour without a bound", () => {

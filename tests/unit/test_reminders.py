@@ -35,6 +35,21 @@ def test_a_text_has_the_day_and_the_window(language: str, begins: int, wanted: s
     assert wanted in told
 
 
+@pytest.mark.parametrize("clock", [12, 24])
+def test_a_spanish_window_has_its_articles_at_each_minute(clock: int) -> None:
+    rider, agency = riders.Rider(7, "Ana", "es"), texts.Agency("Town Rides", "555-0100", clock)
+    for begins in range(1_440):
+        ends = begins + 15
+        hours = [it // 60 % clock for it in (begins, ends)]
+        first, last = ("la" if it == 1 else "las" for it in hours)
+        window = (
+            f"entre {first} {texts.clock_in(begins, clock)} y {last} {texts.clock_in(ends, clock)}"
+        )
+        assert window in texts.text_of(
+            "soon", trip(begins, ends), rider, agency, settings.Settings()
+        )
+
+
 def test_a_window_behind_midnight_is_soon_on_the_next_day() -> None:
     late = trip(1450, 1465)
     assert reading.is_soon(late, datetime.datetime(2026, 12, 8, 23, 30), 60)

@@ -8,6 +8,11 @@ const COUNTS = { denials: "a denial", bookings: "a booking", cancellations: "a c
 /** @type {Record<string, string>} */
 const KINDS = { places: "place", routes: "line", vehicles: "vehicle" };
 
+/** Of what is counted, one alone: "1 minute", and "2 minutes", "0 minutes".
+ * @param {string} text
+ */
+export const smooth = (text) => text.replace(/(?<![\d.,:$])1 (minute|hour|day|trip|character|place|version|mile|point|stop|rider|letter)s(?![a-z])/g, "1 $1");
+
 /** @type {Record<string, import("../../parts/words.js").Text>} */
 export const words = {
     "common.am": "AM",

@@ -56,7 +56,7 @@ export const words = {
     "admin.fare-hint": "La pagan los pasajeros, o el doble del costo en líneas fijas si es menos. (49 CFR 37.131(c))",
     "admin.service": "Minutos que toma una parada",
     "admin.extra_ride": "Minutos que un viaje puede tomar además del camino directo",
-    "admin.min_missed": "Un patrón de viajes perdidos son al menos tantos",
+    "admin.min_missed": "Un patrón de ausencias son al menos tantas",
     "admin.percent": "Y tantos de cada cien viajes del pasajero",
     "admin.span_days": "Contados sobre tantos días",
     "admin.policy-hint": "Reemplaza todo. El sistema no dice qué vale ahora.",

@@ -135,7 +135,7 @@ export const words = {
     "cases.done-refuse": ({ who }) => `La solicitud de ${who} está negada. La carta está arriba.`,
     "cases.heading-heard": ({ who }) => `Anotar la audiencia de la apelación de ${who}`,
     "cases.about-heard": "Se oyó al pasajero. Hay que decidir en 30 días. (49 CFR 37.125(g))",
-    "cases.do-heard": ({ rider }) => `La apelación del pasajero ${rider} se oyó`,
+    "cases.do-heard": ({ rider }) => `La apelación del pasajero ${rider} tuvo su audiencia`,
     "cases.ask-heard": ({ who }) => `¿Se oyó la apelación de ${who}?`,
     "cases.done-heard": ({ who }) => `La audiencia de la apelación de ${who} consta. Hay que decidir en 30 días.`,
     "cases.heading-appeal-granted": ({ who }) => `Conceder la apelación de ${who} contra una negativa`,

@@ -11,11 +11,18 @@ const KINDS = { places: "lugar", routes: "línea", vehicles: "vehículo" };
 /** @type {Record<string, string>} */
 const WITH_ARTICLE = { de: "del", a: "al", para: "para el" };
 
-/** Artículos que dependen de lo que sigue: «del pasajero 7», pero «de Rosa Álvarez (7)»; «a la 1:15», pero «a las 2:15». Detrás de «a. m.» no hay otro punto.
+/** De lo que se cuenta, uno solo: «1 minuto», pero «2 minutos» y «0 minutos».
  * @param {string} text
  */
-export const smooth = (text) => text.replace(/(?<!\S)(de|a|para) (?=pasajero \d)/g, (_, word) => `${WITH_ARTICLE[word]} `).replace(/(?<!\S)las (?=0?1:)/g, "la ")
-    .replace(/([ap]\. m\.)\./g, "$1");
+const inSingular = (text) => text.replace(/(?<![\d.,:$])1 ((?:minuto|hora|día|viaje|letra|milla|punto|parada|pasajero|registro|terminado|perdido|cancelado|reservado)(?=s)|lugar(?=es))e?s(?![a-záéíóúñ])/g, "1 $1")
+    .replace(/(?<![\d.,:$])1 (caracteres|versiones)(?![a-z])/g, (_, word) => (word === "versiones" ? "1 versión" : "1 carácter"));
+
+/** Palabras que dependen de lo que sigue: «del pasajero 7», pero «de Rosa Álvarez (7)»; «a la 1:15», pero «a las 2:15» y «a las 13:15»; «1 minuto», pero
+ * «2 minutos». Detrás de «a. m.» no hay otro punto.
+ * @param {string} text
+ */
+export const smooth = (text) => inSingular(text.replace(/(?<!\S)(de|a|para) (?=pasajero \d)/g, (_, word) => `${WITH_ARTICLE[word]} `).replace(/(?<![a-záéíóúñ])(l)as (?=0?1:)/gi, "$1a ")
+    .replace(/([ap]\. m\.)\./g, "$1"));
 
 /** @type {Record<string, import("../../parts/words.js").Text>} */
 export const words = {

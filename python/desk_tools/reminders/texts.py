@@ -5,6 +5,7 @@ import email.message
 import email.policy
 import email.utils
 import hashlib
+import re
 from collections.abc import Mapping
 from dataclasses import dataclass, field
 
@@ -66,9 +67,14 @@ def clock_in(minute: int, clock: int) -> str:
     return f"{(hour + 11) % 12 + 1}:{rest:02} {'AM' if hour < 12 else 'PM'}"
 
 
+def spoken(language: str, text: str) -> str:
+    """A text as people say it: in Spanish one o'clock is "la 1:00", and every other hour "las 2:00"."""
+    return re.sub(r"\blas (?=0?1:)", "la ", text) if language == "es" else text
+
+
 def text_of(which: str, trip: Trip, rider: Rider, agency: Agency, settings: Settings) -> str:
     """The text of one reminder, or its subject."""
-    return settings.texts[rider.language][which].format(
+    text = settings.texts[rider.language][which].format(
         agency=agency.name,
         telephone=agency.telephone,
         name=rider.name,
@@ -78,6 +84,7 @@ def text_of(which: str, trip: Trip, rider: Rider, agency: Agency, settings: Sett
         place=agency.places.get(trip.origin, str(trip.origin)),
         goal=agency.places.get(trip.goal, str(trip.goal)),
     )
+    return spoken(rider.language, text)
 
 
 def mail_of(key: str, subject: str, text: str, to: str, sender: str) -> bytes:
