@@ -309,12 +309,17 @@ def _marked(denial: Told, marks: list[Told], zone: datetime.tzinfo) -> str | Non
 def _taps(
     events: list[Told], zone: datetime.tzinfo
 ) -> dict[str, dict[str, list[dict[str, object]]]]:
-    """The taps of each van, in the order in which they were."""
+    """The taps of each van, in the order in which they were, each with its stop where that was told."""
     found: dict[str, dict[str, list[dict[str, object]]]] = defaultdict(lambda: {"taps": []})
     for it in events:
         kind = KINDS[str(it.fields["event"])]
         found[str(it.fields["vehicle"])]["taps"].append(
-            {"trip": it.fields["trip"], "kind": kind, "minute": minute_of(it, zone)}
+            {
+                "trip": it.fields["trip"],
+                "kind": kind,
+                "minute": minute_of(it, zone),
+                **({"stop": it.fields["stop"]} if it.fields["stop"] else {}),
+            }
         )
     return found
 

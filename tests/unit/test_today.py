@@ -63,6 +63,19 @@ def test_taps_stand_by_van_in_the_order_in_which_they_were() -> None:
     assert told["vehicles"]["9"] == {"taps": [{"trip": 154, "kind": "no-show", "minute": 556}]}
 
 
+def test_a_skip_has_the_stop_that_was_skipped() -> None:
+    told = made(
+        stop(1, event="left", stop="drop-off"),
+        stop(2, "2026-12-07T09:13:00", "no-show-rider", stop="pickup"),
+        stop(3, "2026-12-07T09:14:00", "left"),
+    )
+    assert [it.get("stop") for it in told["vehicles"]["109"]["taps"]] == [
+        "drop-off",
+        "pickup",
+        None,
+    ]
+
+
 def test_a_tap_that_comes_a_day_late_is_of_its_own_day() -> None:
     late = stop(1, "2026-12-06T23:59:59")
     assert made(late)["vehicles"] == {}
