@@ -24,8 +24,9 @@ import { chooseLanguage, language, LANGUAGE_NAMES, languageFor, t, useWords } fr
 /** @typedef {import("./screens.js").Screen} Screen */
 
 const SCREEN = "desk.screen", STAYS = [SCREEN, "desk.language", "desk.agency", "desk.ahead", "desk.entered"], OF_KEYS = ["desk.offers.", "desk.asking."], LOOKED = 5_000, MINUTE = 60_000;
-const HURRY = 5_000, DRIVER = "driver", NEVER_IDLE = [DRIVER], FIRST_SIGHT = 2_000, BOARD = "#dispatcher/day", SEARCHES = ["clerk", "examiner", "officer"], USES = ["pointerdown", "keydown", "wheel", "touchstart", "touchmove"],
-    LOOKS = ["dispatch-wide", "dispatch-head", "dispatch-fill"];
+const HURRY = 5_000, DRIVER = "driver", NEVER_IDLE = [DRIVER], FIRST_SIGHT = 2_000, BOARD = "#dispatcher/day", SEARCHES = ["clerk", "examiner", "officer"], USES = ["pointerdown", "keydown", "wheel", "touchstart", "touchmove"];
+/** Looks of a part that change the whole page. */
+const LOOKS = ["dispatch-wide", "dispatch-head", "dispatch-fill"];
 
 /** How often something else was shown: who waited for a screen that was left draws nothing. */
 let shows = 0;
@@ -288,7 +289,7 @@ async function showScreen(screen, mine) {
     return undefined;
 }
 
-/** Says on the root which looks the shown part has that change the whole page. */
+/** Says on the root which of these looks the shown part has. */
 const showLooks = () => LOOKS.forEach((name) => document.documentElement.classList.toggle(`has-${name}`, found("main").querySelector(`.${name}`) !== null));
 
 /** @param {Screen} screen @param {ScreenPart[]} parts */
