@@ -14,7 +14,7 @@ import { evidenceList } from "./driver-evidence.js";
 import { placeNameAt, whoAt } from "./driver-read.js";
 import { LOOSE, logOf, namesOf, sheetName, shownDay } from "./driver-state.js";
 import { didWords, elsewhereWords, stopWords, TITLE } from "./driver-stop.js";
-import { noShowTold, noteTold, stopTold } from "./driver-told.js";
+import { noShowTold, noteTold, stopTold, undoneTold } from "./driver-told.js";
 
 /** @typedef {import("../parts/queue.js").Entry} Entry */
 /** @typedef {import("./driver-day.js").Shown} Shown */
@@ -91,9 +91,12 @@ async function decided(state, stop, what, at) {
     return await sure(state, stop, meant, momentOf(what, at)) ? meant : null;
 }
 
-/** What stays of a tap that was taken back: that this phone was in use by then. The site's log may have been told of the tap, and nobody else tapped it.
+/** What stays of a tap that was taken back: that this phone was in use by then, and what the site's log is told, where it has the tap.
  * @param {Entry} entry @returns {Entry | null} */
-const markOf = (entry) => (entry.tap.what === "note" ? null : { ...entry, state: "kept", write: null, tally: null, tap: { ...entry.tap, what: "undone" } });
+function markOf(entry) {
+    const tally = undoneTold(entry.told ?? [], momentNow());
+    return entry.tap.what === "note" && !tally.length ? null : { ...entry, state: "kept", write: null, tally, told: [], tap: { ...entry.tap, what: "undone", text: undefined } };
+}
 
 /** Where this phone has no room: a tap is remembered while the page lives, and an outcome is sent at once or not told at all.
  * @param {Screen} screen @param {string} stop @param {Tapped} tap */

@@ -200,7 +200,7 @@ def moment_of(told: Told, zone: datetime.tzinfo) -> datetime.datetime:
 
 def day_of(known: Known, today: datetime.date, zone: datetime.tzinfo) -> dict[str, object]:
     """What was told of a day, as the file has it but for `made`."""
-    events = sorted(known.events.values(), key=lambda it: _at(it, zone))
+    events = sorted(event_log.standing(known.events.values()), key=lambda it: _at(it, zone))
     of: dict[str, list[Told]] = defaultdict(list)
     for it in events:
         if _is_of(it, today, zone):
@@ -236,7 +236,7 @@ def day_of(known: Known, today: datetime.date, zone: datetime.tzinfo) -> dict[st
 
 def no_shows_of(known: Known, zone: datetime.tzinfo) -> dict[str, object]:
     """What was seen of each no-show by its trip, as the file of no-shows has it but for `made`."""
-    events = sorted(known.events.values(), key=lambda it: _at(it, zone))
+    events = sorted(event_log.standing(known.events.values()), key=lambda it: _at(it, zone))
     return {
         "since": known.first_no_show.isoformat(),
         "no_shows": {
