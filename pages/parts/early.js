@@ -53,13 +53,16 @@ const askWords = (/** @type {string[]} */ names) => names.forEach((name) => link
  */
 const dayOf = (moment, zone) => new Intl.DateTimeFormat("en-CA", { timeZone: zone, year: "numeric", month: "2-digit", day: "2-digit" }).format(new Date(moment ?? NaN));
 
-/** The manifest of the van that this window has shown last, with its names: the day is known by the agency's file.
+/** The manifest of the van that this window has shown last, with its names. The day is known by the agency's file; meanwhile that of this phone's clock
+ * is asked for, since that is nearly always the same day, and one answer less is waited for. A phone whose date is wrong asks for both.
  * @param {string} key @param {string} van
  */
 async function readManifest(key, van) {
+    const here = dayOf(new Date().toISOString(), undefined), ofDay = (/** @type {string} */ day) => [`/vehicles/${van}/manifest/${day}`, `/days/${day}/trips.csv`].forEach((path) => readAhead(path, key));
+    ofDay(here);
     for (const name of ["places.json", "roster.csv", "outcomes.json", "addresses.json"]) readAhead(`/drivers/${van}/${name}`, key);
     const reply = await first, day = reply?.ok ? dayOf(reply.headers.get("date"), (await reply.clone().json()).zone) : "";
-    if (day) for (const path of [`/vehicles/${van}/manifest/${day}`, `/days/${day}/trips.csv`]) readAhead(path, key);
+    if (day && day !== here) ofDay(day);
     // (what nobody took by then is old)
     setTimeout(dropAhead, LONGEST_WAIT);
 }

@@ -193,15 +193,15 @@ export function say(text) {
  * @typedef {{ head: Given, cell: (row: Row) => Given, number?: boolean, whole?: boolean, sorted?: string | null }} Column
  */
 
-/** number: it stands to the right; whole: it is not broken into lines.
+/** number: it stands to the right; whole: it is not broken into lines. rowMade may give the line that was made for a row before.
  * @template Row @param {string} caption @param {Column<Row>[]} columns
- * @param {Row[]} rows @param {Attributes & { rowKey?: (row: Row) => string | number }} attributes @returns {Part}
+ * @param {Row[]} rows @param {Attributes & { rowKey?: (row: Row) => string | number, rowMade?: (row: Row, make: () => Part) => Part }} attributes @returns {Part}
  */
-export function table(caption, columns, rows, { rowKey, ...attributes } = {}) {
+export function table(caption, columns, rows, { rowKey, rowMade = (_, make) => make(), ...attributes } = {}) {
     const kind = (/** @type {Column<Row>} */ { number, whole }) => (number ? "number" : whole ? "whole" : null);
     const heads = columns.map((column) => part("th", { scope: "col", class: kind(column), "aria-sort": column.sorted }, column.head));
-    const lines = rows.map((row) => part("tr", { key: rowKey?.(row) }, columns.map((column, at) => part(at ? "td" : "th",
-        { scope: at ? null : "row", class: kind(column) }, column.cell(row)))));
+    const lines = rows.map((row) => rowMade(row, () => part("tr", { key: rowKey?.(row) }, columns.map((column, at) => part(at ? "td" : "th",
+        { scope: at ? null : "row", class: kind(column) }, column.cell(row))))));
     return part("div", { class: "scroll", tabindex: 0, role: "region", "aria-label": caption },
         part("table", attributes, part("caption", {}, caption), part("thead", {}, part("tr", {}, heads)), part("tbody", {}, lines)));
 }

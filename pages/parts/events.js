@@ -9,9 +9,10 @@
  *     "marks": { id?: string, day: string, minute: number, at?: string, mode?: "around" | "not-before" | "by" },
  *     "bookings": { id?: string, day: string, trip: number, mode: "around" | "not-before" | "by", minute: number, from: number, to: number, channel?: "page" | "telephone" | "app" | "standing-order", at?: string, lead?: number, from_address?: number, to_address?: number },
  *     "cancellations": { id?: string, trip: number, by: "rider" | "agency", at?: string, channel?: "page" | "telephone" | "app" | "standing-order" },
- *     "stops": { id?: string, vehicle: number, trip: number, event: "arrived" | "aboard" | "dropped" | "left" | "no-show-rider" | "no-show-agency", at?: string },
+ *     "stops": { id?: string, vehicle: number, trip: number, event: "arrived" | "aboard" | "dropped" | "left" | "no-show-rider" | "no-show-agency", at?: string, stop?: "pickup" | "drop-off" },
  *     "no-shows": { id?: string, vehicle: number, day: string, trip: number, from: number, to: number, wait: number, at?: string, arrived?: number },
  *     "notes": { id?: string, vehicle: number, day: string, trip: number, text: string, at?: string },
+ *     "undone": { id?: string, vehicle: number, tap: string, at?: string },
  *     "pull_out": { id?: string, vehicle: number, day: string, minute: number, odometer: number, at?: string },
  *     "pull_in": { id?: string, vehicle: number, day: string, minute: number, odometer: number, at?: string, first_pickup?: number, last_drop?: number },
  *     "disagreements": { id?: string, vehicle: number, trip: number, record: "ridden" | "missed-rider" | "missed-operator" | "cancelled" | "unknown", told: "ridden" | "missed-rider" | "missed-operator", at?: string },
@@ -73,6 +74,7 @@ export const EVENTS = {
         trip: { kind: "number", low: 1, high: 4294967295 },
         event: { kind: "word", words: ["arrived", "aboard", "dropped", "left", "no-show-rider", "no-show-agency"] },
         at: { kind: "moment" },
+        stop: { kind: "word", words: ["pickup", "drop-off"], optional: true },
     },
     "no-shows": {
         id: { kind: "id" },
@@ -91,6 +93,12 @@ export const EVENTS = {
         day: { kind: "day" },
         trip: { kind: "number", low: 0, high: 4294967295 },
         text: { kind: "text", most: 200 },
+        at: { kind: "moment" },
+    },
+    "undone": {
+        id: { kind: "id" },
+        vehicle: { kind: "number", low: 1, high: 4294967295 },
+        tap: { kind: "id" },
         at: { kind: "moment" },
     },
     "pull_out": {

@@ -1,12 +1,12 @@
 // How late the vans are, by what drivers told: their taps of the day, and the outcomes that the desk has. Nothing here is the desk's own, and a van
 // whose driver tells nothing is not late: it has no update.
 
-import { carried } from "./carried.js";
+import { carried, progressOf } from "./delay.js";
 
 /** @typedef {import("./texts.js").Manifest} Manifest */
 /** @typedef {import("./texts.js").Stop} Stop */
 /** @typedef {import("./texts.js").Doing} Doing */
-/** @typedef {{ trip: number, kind: string, minute: number }} Tap */
+/** @typedef {import("./delay.js").Tap} Tap */
 /** @typedef {{ trip: number, rider: number, vehicle: number, window: [number, number], due: number, past: number }} Risk due is when the van comes by its delay, past how long after
  *   the window */
 /** @typedef {{ vehicle: number, last: Tap | null, delay: number, silent: number, risks: Risk[], passed: Risk[] }} Late minutes; silent is for how long there should have been
@@ -18,9 +18,9 @@ import { carried } from "./carried.js";
  *   earlier day that came today; noShows and disagreements are those of the
  *   last days at which nobody of dispatch has looked */
 
-/** A van is called late from so many minutes on, and is without update where none came for so long. */
-export const LEAST_LATE = 5, SILENT = 20;
-const OLDEST = 180_000, ENDED = ["ridden", "missed-rider", "missed-operator"], AT_PICKUP = ["arrived", "aboard", "no-show", "missed"];
+/** A van is called late from so many minutes on. */
+export const LEAST_LATE = 5;
+const OLDEST = 180_000;
 
 const isNumber = (/** @type {any} */ it) => typeof it === "number" && Number.isFinite(it);
 const listIn = (/** @type {any} */ it) => (Array.isArray(it) ? it.filter((one) => typeof one === "object" && one !== null) : []);
@@ -47,27 +47,6 @@ export function toldIn(text, day, now) {
  */
 export const isFresh = ({ made }, now) => now - made < OLDEST;
 
-/** The stop at which a tap was made.
- * @param {Stop[]} stops @param {Tap} tap
- */
-const stopOf = (stops, { trip, kind }) => stops.findIndex((stop) => stop.trip === trip && (kind === "skipped" || stop.what === (AT_PICKUP.includes(kind) ? "PICK" : "DROP")));
-
-/** Whether a stop is done by what the desk has.
- * @param {Stop} stop @param {Map<number, Doing>} doings
- */
-const isEnded = ({ trip }, doings) => ENDED.includes(doings.get(Number(trip))?.state ?? "");
-
-/** What tells how a pickup ended. */
-const TOLD = ["aboard", "dropped", "no-show", "missed"];
-
-/** The pickups of which nobody told an end, by tap or outcome.
- * @param {Stop[]} trips @param {Tap[]} taps @param {Map<number, Doing>} doings
- */
-function openPickups(trips, taps, doings) {
-    const told = new Set(taps.filter(({ kind }) => TOLD.includes(kind)).map(({ trip }) => trip));
-    return trips.filter((stop) => stop.what === "PICK" && !told.has(Number(stop.trip)) && !isEnded(stop, doings) && doings.get(Number(stop.trip))?.state !== "cancelled");
-}
-
 /** Riders whom a van has passed by: a later stop was reached, nobody told of the pickup's end, and its window has closed. Only where the driver taps at
  * pickups: of another van nobody knows who is aboard.
  * @param {Stop[]} trips @param {number} far the furthest stop that was reached @param {Tap[]} taps @param {Stop[]} open @param {number} now @param {Stop | null} here where the van stands
@@ -77,35 +56,16 @@ function passedBy(trips, far, taps, open, now, here) {
     return isTold ? trips.slice(0, far + 1).filter((stop) => open.includes(stop) && stop !== here && stop.window && now > stop.window[1]) : [];
 }
 
-/** How late the van was by its taps. A tap at a stop shows it. A stop that is skipped and a pickup that is given up may be told from afar, and show
- * nothing. A rider dropped off while the end of an earlier arrival is open never lowers it.
- * @param {Stop[]} trips @param {Tap[]} taps in their order @param {Stop[]} open
- */
-function toldDelay(trips, taps, open) {
-    const waiting = taps.filter(({ kind }) => kind === "arrived").map((tap) => trips[stopOf(trips, tap)]).filter((stop) => open.includes(stop));
-    return taps.reduce((delay, tap) => {
-        const stop = trips[stopOf(trips, tap)], late = Math.max(0, tap.minute - stop.at);
-        if (tap.kind === "skipped" || tap.kind === "missed") return delay;
-        const isDoubtful = tap.kind === "dropped" && waiting.some((it) => trips.indexOf(it) < trips.indexOf(stop));
-        return isDoubtful ? Math.max(delay, late) : late;
-    }, 0);
-}
-
 /** How late one van is.
  * @param {Manifest} manifest @param {Tap[]} taps @param {Map<number, Doing>} doings @param {number} now the minute of the day @returns {Late}
  */
 export function lateOf({ vehicle, stops }, taps, doings, now) {
-    const trips = stops.filter(({ what }) => what !== "DEPOT"), known = [...taps].sort((a, b) => a.minute - b.minute).filter((tap) => stopOf(trips, tap) >= 0);
-    const last = known.at(-1) ?? null, reached = last ? stopOf(trips, last) : -1, open = openPickups(trips, known, doings);
-    const ended = trips.reduce((most, stop, at) => (isEnded(stop, doings) ? at : most), -1), far = Math.max(reached, ended);
-    const here = last?.kind === "arrived" && far === reached && !isEnded(trips[reached], doings) ? trips[reached] : null, next = here ? reached : far + 1;
-    const overdue = trips[next] && !here ? Math.max(0, now - trips[next].at) : 0, told = trips[next] && last ? carried(trips, reached, next, toldDelay(trips, known, open)) : 0;
-    const isSilent = overdue > SILENT && (!last || now - last.minute > SILENT), delay = isSilent ? 0 : Math.max(overdue, told);
+    const { trips, known, last, open, far, here, next, silent, delay } = progressOf(stops, taps, doings, now);
     const missed = (/** @type {Stop} */ { window, trip, rider }, /** @type {number} */ due) => (window && due > window[1] ? [{ trip: Number(trip), rider: Number(rider), vehicle, window, due,
         past: due - window[1] }] : []);
     const risks = delay ? trips.flatMap((stop, at) => (at > far && open.includes(stop)
         ? missed(stop, Math.max(now, stop.at + carried(trips, next, at, delay))) : [])) : [];
-    return { vehicle, last, delay, silent: isSilent ? overdue : 0, risks, passed: passedBy(trips, far, known, open, now, here).flatMap((stop) => missed(stop, now)) };
+    return { vehicle, last, delay, silent, risks, passed: passedBy(trips, far, known, open, now, here).flatMap((stop) => missed(stop, now)) };
 }
 
 /** Each trip on which entries disagree, once.

@@ -25,6 +25,8 @@ import { chooseLanguage, language, LANGUAGE_NAMES, languageFor, speakToRider, t,
 
 const SCREEN = "desk.screen", STAYS = [SCREEN, "desk.language", "desk.agency", "desk.ahead", "desk.entered"], OF_KEYS = ["desk.offers.", "desk.asking."], LOOKED = 5_000, MINUTE = 60_000;
 const HURRY = 5_000, DRIVER = "driver", RIDER = "rider", NEVER_IDLE = [DRIVER], FIRST_SIGHT = 2_000, BOARD = "#dispatcher/day", SEARCHES = ["clerk", "examiner", "officer"], USES = ["pointerdown", "keydown", "wheel", "touchstart", "touchmove"];
+/** Looks of a part that change the whole page. */
+const LOOKS = ["dispatch-wide", "dispatch-head", "dispatch-fill"];
 
 /** How often something else was shown: who waited for a screen that was left draws nothing. */
 let shows = 0;
@@ -239,6 +241,7 @@ async function showSignIn(mine) {
         if (wanted().screen?.id === screen) show();
         else location.hash = screen;
     } }));
+    showLooks();
 }
 
 /** Another version of the pages may be there by now: it is loaded whole, where the site answers. */
@@ -251,7 +254,10 @@ async function loadAgain() {
 /** Says instead of a screen why it is not shown.
  * @param {string} words
  */
-const sayInstead = (words) => drawInto(found("main"), part("div", { class: "note row", role: "alert" }, part("p", {}, words), button(t("common.load-again"), loadAgain)));
+function sayInstead(words) {
+    drawInto(found("main"), part("div", { class: "note row", role: "alert" }, part("p", {}, words), button(t("common.load-again"), loadAgain)));
+    showLooks();
+}
 
 /** Says that files of a screen did not come, and goes on asking for them. What was left meanwhile says nothing.
  * @param {unknown} error @param {number} mine @returns {any}
@@ -287,6 +293,9 @@ async function showScreen(screen, mine) {
     return undefined;
 }
 
+/** Says on the root which of these looks the shown part has. */
+const showLooks = () => LOOKS.forEach((name) => document.documentElement.classList.toggle(`has-${name}`, found("main").querySelector(`.${name}`) !== null));
+
 /** @param {Screen} screen @param {ScreenPart[]} parts */
 function drawScreen(screen, parts) {
     const { partId } = wanted(), it = parts.find((one) => one.id === partId) ?? parts[0];
@@ -298,6 +307,7 @@ function drawScreen(screen, parts) {
     showTroubles(screen.id);
     try {
         found("main").replaceChildren(make("h1", {}, it.name), make("div", { class: "stack" }, it.draw()));
+        showLooks();
     } catch (error) {
         notDrawn(error);
     }
@@ -459,6 +469,7 @@ whenNotKept(() => note("not-kept", () => t("common.not-kept")));
 window.addEventListener("hashchange", () => show());
 window.addEventListener("desk.key-gone", keyGone);
 window.addEventListener("desk.stay-gone", stayGone);
+window.addEventListener("desk.look", showLooks);
 window.addEventListener("keydown", slash);
 // (a page that moves by itself, as where a note comes, is used by nobody)
 for (const event of USES) window.addEventListener(event, isActive, { passive: true, capture: true });

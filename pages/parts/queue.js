@@ -22,6 +22,7 @@ import { t, useWords } from "./words.js";
  * @property {Write | null} write
  * @property {string | null} denied the name of the desk's denial
  * @property {string[] | string | null} tally the paths of what the site's log is yet to be told (an earlier version kept one)
+ * @property {string[]} [told] the paths of what the site's log was told, or is being told
  * @property {number} [held] milliseconds from the tap on for which the write stays here, so that it can be undone
  * @property {number} since the moment of the tap, in milliseconds of the server's clock
  * @typedef {Omit<Entry, "order">} Fresh
@@ -234,14 +235,27 @@ async function lookAgain() {
     if (times.length) looking = setTimeout(sendAll, Math.min(LOOKED, ...times));
 }
 
+/** The paths that the site's log is told of an entry now. They are written down before they go out: who takes the tap back meanwhile has to tell that.
+ * @param {Entry} entry @returns {Promise<string[]>} */
+async function toTell({ order }) {
+    /** @type {string[]} */
+    let paths = [];
+    await changed(order, (now) => {
+        paths = [now.tally ?? []].flat();
+        return { ...now, told: [...new Set([...now.told ?? [], ...paths])] };
+    });
+    return paths;
+}
+
 /** Counts what is old enough to be told to the site. */
 export async function sendTallies() {
     if (!desk.digest()) return;
     for (const entry of await entries()) {
-        if (!entry.tally || entry.since > serverNow() - HELD) continue;
+        if (![entry.tally ?? []].flat().length || entry.since > serverNow() - HELD) continue;
+        const paths = await toTell(entry);
         let isKept = true;
-        for (const path of [entry.tally].flat()) isKept = await countPath(path) && isKept;
-        if (isKept) await changed(entry.order, (now) => ({ ...now, tally: null }));
+        for (const path of paths) isKept = await countPath(path) && isKept;
+        if (isKept) await changed(entry.order, (now) => ({ ...now, tally: [now.tally ?? []].flat().filter((path) => !paths.includes(path)) }));
     }
 }
 
@@ -260,7 +274,7 @@ const dropped = (name, isOver) => within(name, "readwrite", (store) => {
 /** Drops what is some days old and waits for nothing: neither for the desk nor for the site's log. */
 export async function prune() {
     const oldest = serverNow() - KEPT;
-    await dropped(ENTRIES, ({ since, state, tally }) => since < oldest && state !== "waiting" && !tally);
+    await dropped(ENTRIES, ({ since, state, tally }) => since < oldest && state !== "waiting" && ![tally ?? []].flat().length);
 }
 
 window.addEventListener("online", () => sendAll());

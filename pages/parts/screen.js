@@ -34,10 +34,10 @@ function focusedIn(place) {
     return way;
 }
 
-/** Whether an element is on the page and is seen: what is hidden would lose the focus.
+/** Whether an element is on the page and is seen: what is hidden would lose the focus. (Where its box is asked for, the whole page is laid out at once.)
  * @param {HTMLElement} it
  */
-const takesFocus = (it) => it.isConnected && it.getClientRects().length > 0;
+const takesFocus = (it) => it.isConnected && (/** @type {any} */ (it).checkVisibility?.() ?? it.getClientRects().length > 0);
 
 /** An element, or what is around it where that is hidden.
  * @param {HTMLElement} it @returns {HTMLElement}

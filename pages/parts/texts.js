@@ -67,12 +67,20 @@ export function manifestsIn(text) {
 /** @param {string} sheet */
 export const tripsThatStand = (sheet) => Number(/^TRIPS (\d+)$/m.exec(sheet)?.[1] ?? 0);
 
-/** The rows of the export, by the names of its header; numbers are numbers.
+/** The rows of the export that was read last, by their lines: a renewal changes few of them.
+ * @type {{ head: string, rows: Map<string, Row> }}
+ */
+let exported = { head: "", rows: new Map() };
+
+/** The rows of the export, by the names of its header; numbers are numbers. A line that was there before is the same row.
  * @param {string} csv @returns {Row[]}
  */
 export function rowsIn(csv) {
-    const [head, ...lines] = csv.trimEnd().split("\n").map((line) => line.split(","));
-    return lines.map((line) => /** @type {any} */ (Object.fromEntries(line.map((text, at) => [head[at], /^\d+$/.test(text) ? Number(text) : text]))));
+    const [head, ...lines] = csv.trimEnd().split("\n"), names = head.split(","), before = exported.head === head ? exported.rows : new Map();
+    const row = (/** @type {string} */ line) => /** @type {any} */ (Object.fromEntries(line.split(",").map((text, at) => [names[at], /^\d+$/.test(text) ? Number(text) : text])));
+    const rows = lines.map((line) => before.get(line) ?? row(line));
+    exported = { head, rows: new Map(lines.map((line, at) => [line, rows[at]])) };
+    return rows;
 }
 
 /** How each trip of a day is doing, by its number. now is the minute of that day: before it began it is negative, after it was over 1440.

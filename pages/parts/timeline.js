@@ -7,7 +7,7 @@ import { button, part, table } from "./element.js";
 import { LEAST_LATE } from "./lateness.js";
 import { riderLabel } from "./roster.js";
 import { aboardAt } from "./texts.js";
-import { t } from "./words.js";
+import { language, t } from "./words.js";
 
 /** @typedef {import("../types").Part} Part */
 /** @typedef {import("./texts.js").Manifest} Manifest */
@@ -132,9 +132,9 @@ export function rowFacts({ stops }, doings) {
         missed: count("missed-rider") + count("missed-operator"), silent: silent.length, longest: Math.max(0, ...silent) };
 }
 
-/** @param {Manifest} manifest @param {Doings} doings */
-function rowWords(manifest, doings) {
-    const { trips, ended, silent, longest } = rowFacts(manifest, doings), { stops } = manifest;
+/** @param {Manifest} manifest @param {ReturnType<typeof rowFacts>} facts */
+function rowWords(manifest, { trips, ended, silent, longest }) {
+    const { stops } = manifest;
     return [t("dispatcher.row", { vehicle: vehicleName(manifest.vehicle), trips, ended, from: clock(stops[0].at), to: clock(stops[stops.length - 1].at) }),
         silent > 0 && t("dispatcher.row-silent", { count: silent, time: Number.isFinite(longest) ? longTime(longest) : "" }), t("dispatcher.row-keys")].filter(Boolean).join(" ");
 }
@@ -186,10 +186,9 @@ function fromRowToRow(event) {
 }
 
 /** What a row's head says first: late, no update, or how many trips have ended.
- * @param {Manifest} manifest @param {Options} options
+ * @param {ReturnType<typeof rowFacts>} facts @param {import("./lateness.js").Late | undefined} late @param {number} notes
  */
-function headWords(manifest, { doings, lates, noted }) {
-    const { silent, missed, trips, ended, longest } = rowFacts(manifest, doings), late = lates?.get(manifest.vehicle), notes = noted?.(manifest) ?? 0;
+function headWords({ silent, missed, trips, ended, longest }, late, notes) {
     return [late && late.delay >= LEAST_LATE ? part("span", { class: "late" }, t("dispatcher.late-short", { minutes: late.delay }))
         : late && late.silent > 0 ? part("span", { class: "silent" }, t("dispatcher.no-update-short", { time: longTime(late.silent) })) : t("dispatcher.row-short", { trips, ended }),
     silent > 0 && part("span", { class: "silent" }, ` ${t("dispatcher.silent-short", { count: silent, time: Number.isFinite(longest) ? longTime(longest) : "" })}`),
@@ -209,7 +208,9 @@ function laneOf({ vehicle, stops, text }, hours, across, width, most, doings, ri
     if (last?.from === from) return last.made;
     const lines = wholeHours(hours).map((hour) => part("line", { class: "hour", x1: across(hour * HOUR), x2: across(hour * HOUR), y1: 0, y2: HEIGHT }));
     const windows = stops.filter(({ window }) => window).flatMap((stop, at) => windowShape(stop, across, at % 2 === 1, risks.has(Number(stop.trip))));
-    const made = part("g", {}, lines, stops.slice(1).map((next, at) => legShape(stops[at], next, across, most)), windows, stops.map((stop, at) => stopShape(stop, across, doings, at)));
+    // (each kind in a group of its own: what is there of it is found again at once)
+    const made = part("g", {}, part("g", { key: "hours" }, lines), part("g", { key: "ways" }, stops.slice(1).map((next, at) => legShape(stops[at], next, across, most))),
+        part("g", { key: "windows" }, windows), part("g", { key: "stops" }, stops.map((stop, at) => stopShape(stop, across, doings, at))));
     lanes.set(vehicle, { from, made });
     return made;
 }
@@ -226,11 +227,11 @@ const rows = new Map();
 
 /** @param {Manifest} manifest @param {[number, number]} hours @param {Across} across @param {number} width @param {number} most @param {Options} options */
 function row(manifest, hours, across, width, most, options) {
-    const { selected, now, doings, lates, duty } = options, { vehicle } = manifest, late = lates?.get(vehicle), risks = new Set([...late?.risks ?? [], ...late?.passed ?? []].map(({ trip }) => trip)), head = headWords(manifest, options);
-    const lane = laneOf(manifest, hours, across, width, most, doings, risks), words = rowWords(manifest, doings);
-    const from = [lane, now !== null && across(now), vehicle === selected, vehicleName(vehicle), duty?.(vehicle) ?? "", words, JSON.stringify(head)], last = rows.get(vehicle);
+    const { selected, now, doings, lates, duty } = options, { vehicle } = manifest, late = lates?.get(vehicle), risks = new Set([...late?.risks ?? [], ...late?.passed ?? []].map(({ trip }) => trip));
+    const lane = laneOf(manifest, hours, across, width, most, doings, risks), facts = rowFacts(manifest, doings), notes = options.noted?.(manifest) ?? 0, label = duty?.(vehicle) ?? "";
+    const from = [lane, now !== null && across(now), vehicle === selected, vehicleName(vehicle), label, language(), late?.delay, late?.silent, notes, ...Object.values(facts)], last = rows.get(vehicle);
     if (last && last.from.every((it, at) => it === from[at])) return last.made;
-    const made = rowPart(manifest, across, width, { now, isChosen: vehicle === selected, label: duty?.(vehicle) ?? "", head, words, lane });
+    const made = rowPart(manifest, across, width, { now, isChosen: vehicle === selected, label, head: headWords(facts, late, notes), words: rowWords(manifest, facts), lane });
     rows.set(vehicle, { from, made });
     return made;
 }

@@ -274,7 +274,10 @@ export function dayPicture() {
             : [part("div", { class: "finding" }, attentionBar(known.needs, { told: state.told, unplaced: state.unplaced, isToday: state.day === today(), go: show, review: look }), searchRow(state, known, finding)),
                 part("div", { class: known.one ? "day-view with-one" : "day-view" }, pictureCard(state, known, acts), oneVan(state, known, { close, noted: () => change(({ noted }) => ({ noted: noted + 1 })) }))]];
     } });
-    const fill = () => screen.element.classList.toggle("dispatch-fill", !screen.state.asTable && !screen.state.asRoom);
+    const fill = () => {
+        screen.element.classList.toggle("dispatch-fill", !screen.state.asTable && !screen.state.asRoom);
+        window.dispatchEvent(new Event("desk.look"));
+    };
     fill();
     let moved = false, leave = () => {};
     /** @type {any[]} */
@@ -292,17 +295,23 @@ export function dayPicture() {
     function follow() {
         leave();
         moved = false;
-        const { day } = screen.state, stops = [dayRead(day).watch(screen.element, () => heard(day)), driversRead().watch(screen.element, () => heard(day)), dutyRead().watch(screen.element, () => heard(day))];
+        const { day } = screen.state, stops = [dayRead(day).watch(screen.element, () => heardDay(day)), driversRead().watch(screen.element, () => heard(day)), dutyRead().watch(screen.element, () => heard(day))];
         leave = () => stops.forEach((act) => act());
     }
     /** @param {string} day */
-    async function heard(day) {
+    function heard(day) {
         if (screen.state.day !== day) return;
         if (isNews(day)) {
             screen.change({ now: nowOn(day) });
             searchAhead(knownOf(stateOf(screen.state)).manifests);
         }
         openFirst();
+    }
+    /** The day itself was told, and so it is time to look whom this browser has not placed.
+     * @param {string} day
+     */
+    async function heardDay(day) {
+        heard(day);
         const unplaced = await readUnplaced();
         if (screen.state.day === day && screen.state.unplaced !== unplaced) screen.change({ unplaced });
     }

@@ -12,7 +12,7 @@ import { makeScreen } from "../parts/screen.js";
 import { keepSubject } from "../parts/subject.js";
 import { manifestsIn, rowsIn } from "../parts/texts.js";
 import { fits, searchText } from "../parts/trip-search.js";
-import { t } from "../parts/words.js";
+import { language, t } from "../parts/words.js";
 import { dollars, statusOf, windowOf } from "./booking.js";
 import { dayBar, nowOn, STOP, theDay } from "./dispatcher-bar.js";
 import { saveCsv, spreadsheetOf } from "./dispatcher-files.js";
@@ -29,7 +29,7 @@ import { fromTripToTrip, toFirstRow } from "./dispatcher-rows.js";
 /** @typedef {Row & { planned: number, drop: number }} Planned a trip with the minutes of its planned pickup and drop */
 /** @typedef {(row: Row) => void} Tell */
 
-const NARROW = "(max-width: 48rem)", OUTCOMES = ["ridden", "missed-rider", "missed-operator"], MOST = 60, PROGRESS = 6;
+const NARROW = "(max-width: 48rem)", OUTCOMES = ["ridden", "missed-rider", "missed-operator"], MOST = 60, MOST_FOUND = 24, PROGRESS = 6;
 
 /** @type {[string, (row: Planned) => string][]} */
 const COLUMNS = [["window_from", windowOf], ["planned", ({ planned }) => clock(planned)], ["rider", ({ rider }) => riderLabel(rider)],
@@ -149,6 +149,26 @@ function columnsOf(state, sort, tell) {
     return [...columns, { head: t("dispatcher.how-it-ended"), cell: (/** @type {Row} */ row) => outcomeTools(row, state, tell, now) }];
 }
 
+/** The lines that were made, by trip, and of what: while somebody types in the search, none of them changes.
+ * @type {Map<number, { from: any[], made: import("../types").Part }>}
+ */
+const lines = new Map();
+
+/** A trip's line, as it was made before where it says the same.
+ * @param {State} state @param {Tell} tell @returns {(row: Planned, make: () => import("../types").Part) => import("../types").Part}
+ */
+function lineMade({ day, answers }, tell) {
+    const now = today(), notes = notesOn(day, toldNow(day)), words = language();
+    return (row, make) => {
+        const says = JSON.stringify([COLUMNS.map(([, cell]) => cell(row)), notes(row.vehicle, row.trip)]);
+        const from = [says, row.vehicle, answers[row.trip], mayTell(row, now), words, tell], last = lines.get(row.trip);
+        if (last?.from.every((it, at) => it === from[at])) return last.made;
+        const made = make();
+        lines.set(row.trip, { from, made });
+        return made;
+    };
+}
+
 /** @param {Row[]} rows @param {State} state @param {Tell} tell */
 function cardsOf(rows, state, tell) {
     const now = today();
@@ -165,7 +185,7 @@ function tripsCard(state, { sort, tell, endRest, search, more }) {
         part("input", { id: "trip-search", type: "search", autocomplete: "off", value: state.typed, "aria-describedby": "trip-search-hint", on: { input: (event) => search(event.target.value), keydown: toFirstRow } }),
         part("small", { id: "trip-search-hint" }, t("dispatcher.search-hint"))), part("p", { role: "status" }, t("dispatcher.shown", { shown: shown.length, all: all.length }))),
     part("div", { class: "tall", on: { keydown: (event) => fromTripToTrip(event, { search: "trip-search", more: drawn.length < shown.length ? more : null }) } }, matchMedia(NARROW).matches ? cardsOf(drawn, state, tell)
-        : table(t("dispatcher.trips-of-day"), columnsOf(state, sort, tell), drawn, { rowKey: ({ trip }) => trip, class: "day-trips" })),
+        : table(t("dispatcher.trips-of-day"), columnsOf(state, sort, tell), drawn, { rowKey: ({ trip }) => trip, rowMade: lineMade(state, tell), class: "day-trips" })),
     part("div", { class: "row" }, drawn.length < shown.length && button(t("dispatcher.show-more", { count: shown.length - drawn.length }), more),
         button(t("dispatcher.save-desk"), () => save(`trips-${day}.csv`, "text/csv", csv)), button(t("dispatcher.save-sheet"), () => saveCsv(`trips-${day}-names.csv`, spreadsheetOf(all)))),
     closing(state, all, endRest));
@@ -200,7 +220,7 @@ function actsOf(screen, renew) {
         await renew();
         screen.change((/** @type {Own} */ { bulk }) => ({ bulk: bulk && { ...bulk, done: rest.length, refused, running: false } }), { focus: "bulk" });
     };
-    const search = (/** @type {string} */ typed) => screen.change({ typed, most: MOST }), more = () => screen.change({ most: Infinity });
+    const search = (/** @type {string} */ typed) => screen.change({ typed, most: typed.trim() ? MOST_FOUND : MOST }), more = () => screen.change({ most: Infinity });
     return { sort, tell, endRest, search, more };
 }
 

@@ -14,7 +14,7 @@ import { evidenceList } from "./driver-evidence.js";
 import { placeNameAt, whoAt } from "./driver-read.js";
 import { LOOSE, logOf, namesOf, sheetName, shownDay } from "./driver-state.js";
 import { didWords, elsewhereWords, stopWords, TITLE } from "./driver-stop.js";
-import { noShowTold, noteTold, stopTold } from "./driver-told.js";
+import { noShowTold, noteTold, stopTold, undoneTold } from "./driver-told.js";
 
 /** @typedef {import("../parts/queue.js").Entry} Entry */
 /** @typedef {import("./driver-day.js").Shown} Shown */
@@ -28,20 +28,24 @@ const HELD = 60_000;
 /** For so long a no-show waits for what others tapped meanwhile. */
 const ASKED = 3000;
 
-/** What the site's log is told of a tap. One that was told later than it happened is no time of a drop.
+/** Whether a tap was told later than it happened, and is no time of a drop.
+ * @param {Shown} stop @param {What} what */
+const isUntold = ({ isNext }, what) => what === "ridden" && !isNext;
+
+/** What the site's log is told of a tap.
  * @param {State} state @param {Shown} stop @param {What} what @param {string} at */
 function toldOf({ vehicle, day }, stop, what, at) {
-    const { trip = 0, isNext } = stop;
-    if (!trip || (what === "ridden" && !isNext)) return null;
+    const { trip = 0 } = stop;
+    if (!trip || isUntold(stop, what)) return null;
     const evidence = what === "missed-rider" ? noShowTold({ vehicle, day, trip, at }, evidenceOf(stop, agency().wait_minutes, day, at)) : [];
-    return [stopTold({ vehicle, trip, what, at }), ...evidence];
+    return [stopTold({ vehicle, trip, what, at, isDrop: stop.what === "DROP" }), ...evidence];
 }
 
 /** @param {State} state @param {Shown} stop @param {What} what @param {string} at @returns {Tapped} */
 function tapOf(state, stop, what, at) {
     const { name, trip = 0, rider = 0 } = stop;
     const write = isOutcome(what) ? { path: `/trips/${trip}/outcome`, fields: { outcome: what }, number: 0, tries: 0 } : null;
-    return { sheet: sheetName(state.vehicle, state.day), tap: { stop: name, trip, rider, what, at }, state: write ? "waiting" : "kept", write,
+    return { sheet: sheetName(state.vehicle, state.day), tap: { stop: name, trip, rider, what, at, ...(isUntold(stop, what) ? { untold: true } : {}) }, state: write ? "waiting" : "kept", write,
         held: what === "missed-rider" ? HELD : 0, tally: toldOf(state, stop, what, at) };
 }
 
@@ -87,9 +91,12 @@ async function decided(state, stop, what, at) {
     return await sure(state, stop, meant, momentOf(what, at)) ? meant : null;
 }
 
-/** What stays of a tap that was taken back: that this phone was in use by then. The site's log may have been told of the tap, and nobody else tapped it.
+/** What stays of a tap that was taken back: that this phone was in use by then, and what the site's log is told, where it has the tap.
  * @param {Entry} entry @returns {Entry | null} */
-const markOf = (entry) => (entry.tap.what === "note" ? null : { ...entry, state: "kept", write: null, tally: null, tap: { ...entry.tap, what: "undone" } });
+function markOf(entry) {
+    const tally = undoneTold(entry.told ?? [], momentNow());
+    return entry.tap.what === "note" && !tally.length ? null : { ...entry, state: "kept", write: null, tally, told: [], tap: { ...entry.tap, what: "undone", text: undefined } };
+}
 
 /** Where this phone has no room: a tap is remembered while the page lives, and an outcome is sent at once or not told at all.
  * @param {Screen} screen @param {string} stop @param {Tapped} tap */
@@ -176,8 +183,10 @@ export function actsOf(screen, relog, refresh) {
             const { state } = screen, before = skipped(shownDay(state).stops, stop.name);
             if (before.length && !await asked({ question: t("driver.start-question"), detail: t("driver.start-detail", { count: before.length }),
                 yes: t("driver.start-yes") })) return;
+            // (one line tells dispatch how far the van has come: the last one of a trip)
+            const last = before.filter(({ trip }) => trip).at(-1);
             for (const it of before) {
-                const passed = { ...tapOf(state, it, "left", at), tally: null };
+                const skip = tapOf(state, it, "left", at), passed = it === last ? skip : { ...skip, tally: null };
                 await keep(passed).catch(() => loosely(screen, it.name, passed));
             }
             await relog();

@@ -4,7 +4,7 @@
 // the driver went on without either, the stop is passed, but never the drop of a rider aboard: that is next, in its order. An outcome that
 // the desk denied takes nobody back to its stop: the driver is elsewhere by then, and reads the denial there.
 
-import { carried } from "../parts/carried.js";
+import { progressOf } from "../parts/delay.js";
 
 /** @typedef {import("../parts/queue.js").Entry} Entry */
 /**
@@ -12,8 +12,9 @@ import { carried } from "../parts/carried.js";
  * @typedef {{ at: number, what: "DEPOT" | "PICK" | "DROP", place: number, load: number, chairs?: number, trip?: number, rider?: number,
  *     window?: [number, number] }} Stop
  * @typedef {"arrived" | "aboard" | "ridden" | "missed-rider" | "missed-operator" | "left" | "note"} What
- * @typedef {{ stop: string, trip: number, rider: number, what: What | "undone", at: string, seen?: boolean, text?: string, onRecord?: string }} Tap at is the
- *     moment, YYYY-MM-DDTHH:MM:SS; undone: a tap was taken back, which the site's log may have; onRecord is the outcome that the desk has where it is another
+ * @typedef {{ stop: string, trip: number, rider: number, what: What | "undone", at: string, seen?: boolean, text?: string, onRecord?: string, untold?: boolean }} Tap at
+ *     is the moment, YYYY-MM-DDTHH:MM:SS; undone: a tap was taken back, which the site's log may have; onRecord is the outcome that the desk has where it is
+ *     another; untold: the site's log is not told of the tap, since it was tapped later than it happened
  * @typedef {Stop & { name: string, done: boolean, isNext: boolean, party: { people: number, chairs: number }, promise: Window | null,
  *     arrived: Entry | null, came: Entry | null, aboard: Entry | null, outcome: Entry | null, denied: Entry | null, taps: Entry[], elsewhere: string | null,
  *     isOnRecord: boolean }} Shown promise and came are the window of the trip's pickup and the arrival there, at its drop as well; elsewhere is what
@@ -142,14 +143,32 @@ export const minuteOn = (moment, day) => Math.round((Date.parse(moment.slice(0, 
  * @param {Stop} stop @param {string} day @param {string} now */
 export const minutesUntil = (stop, day, now) => stop.at - minuteOn(now, day);
 
-/** By how many minutes the van is behind its plan: by this phone's last tap at a stop, or since the next stop is overdue. 0: it is not.
- * @param {Shown[]} stops @param {Entry[]} log @param {string} day @param {string} now */
-export function behindBy(stops, log, day, now) {
-    const next = stops.find(({ isNext }) => isNext);
-    if (!next) return 0;
-    const was = log.filter(({ tap }) => ["arrived", "aboard", "ridden"].includes(tap.what)).at(-1)?.tap, at = was ? stops.findIndex(({ name }) => name === was.stop) : -1;
-    const told = was && at >= 0 && at < stops.indexOf(next) ? carried(/** @type {any} */ (stops), at, stops.indexOf(next), minuteOn(was.at, day) - stops[at].at) : 0;
-    return Math.max(0, told, -minutesUntil(next, day, now));
+/** What a tap, and what others told of a trip, is called in the file of the day.
+ * @type {Record<string, string>} */
+const KINDS = { arrived: "arrived", aboard: "aboard", ridden: "dropped", left: "skipped", "missed-rider": "no-show", "missed-operator": "missed" };
+
+/** The taps of this phone and of others as the dispatcher's board has them.
+ * @param {Shown[]} stops @param {Entry[]} log @param {Known} known @param {string} day @returns {import("../parts/delay.js").Tap[]} */
+function tapsOf(stops, log, known, day) {
+    const mine = log.filter(({ tap }) => tap.trip && KINDS[tap.what] && !tap.untold).map(({ tap }) => ({ trip: tap.trip, kind: KINDS[tap.what], minute: minuteOn(tap.at, day),
+        stop: tap.stop.startsWith("DROP") ? "drop-off" : "pickup" }));
+    const others = stops.flatMap(({ what, trip = 0, elsewhere, isOnRecord }) => (what === "PICK" && elsewhere && !isOnRecord ? [{ trip, kind: KINDS[elsewhere] ?? elsewhere,
+        minute: known[trip]?.minute ?? 0 }] : []));
+    return [...others, ...mine];
+}
+
+/** The trips that have ended by what the desk has, as far as this phone knows.
+ * @param {Shown[]} stops */
+const endedIn = (stops) => new Map(stops.flatMap(({ trip, elsewhere, isOnRecord, outcome }) => {
+    const state = isOnRecord ? elsewhere : outcome?.state === "done" ? outcome.tap.what : null;
+    return trip !== undefined && state ? [[trip, { state, minutes: 0 }]] : [];
+}));
+
+/** By how many minutes the van is behind its plan, by the rule of the dispatcher's board. 0: it is not.
+ * @param {Shown[]} stops @param {Entry[]} log @param {string} day @param {string} now @param {Known} [known] */
+export function behindBy(stops, log, day, now, known = {}) {
+    const { delay, silent } = progressOf(/** @type {any} */ (stops), tapsOf(stops, log, known, day), /** @type {any} */ (endedIn(stops)), minuteOn(now, day));
+    return delay || silent;
 }
 
 /** The wait at a pickup, from the arrival on, but not before the promised window begins: a rider need not be ready earlier.

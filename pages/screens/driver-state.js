@@ -71,4 +71,5 @@ export const heldIn = (kept) => kept.filter((entry) => heldFor(entry) > 0);
 
 /** Minutes by which the van is behind its plan; 0 on a day that is not today.
  * @param {State} state */
-export const behind = (state) => (state.day === state.today ? behindBy(shownDay(state).stops, logOf(state), state.day, state.now) : 0);
+export const behind = (state) => (state.day === state.today ? behindBy(shownDay(state).stops, logOf(state), state.day, state.now,
+    state.read?.known) : 0);

@@ -10,8 +10,13 @@ import { eventPath, stopPath } from "../parts/tally.js";
 const EVENTS = { arrived: "arrived", aboard: "aboard", ridden: "dropped", left: "left", "missed-rider": "no-show-rider", "missed-operator": "no-show-agency" };
 const MINUTE = 60, LONGEST_WAIT = 1439;
 
-/** @param {{ vehicle: number, trip: number, what: What, at: string }} tap */
-export const stopTold = ({ vehicle, trip, what, at }) => stopPath({ vehicle, trip, event: String(EVENTS[what]), at });
+/** What can be tapped at both stops of a trip: it is told at which it was. */
+const AT_BOTH = ["left", "missed-rider", "missed-operator"];
+
+/** A tap at a stop.
+ * @param {{ vehicle: number, trip: number, what: What, at: string, isDrop?: boolean }} tap */
+export const stopTold = ({ vehicle, trip, what, at, isDrop = false }) => stopPath({ vehicle, trip, event: String(EVENTS[what]), at,
+    ...(AT_BOTH.includes(what) ? { stop: isDrop ? "drop-off" : "pickup" } : {}) });
 
 /** A no-show with its promised window, the arrival and the minutes of wait.
  * @param {{ vehicle: number, day: string, trip: number, at: string }} tap @param {Evidence} evidence */
@@ -23,3 +28,10 @@ export const noteTold = (note) => eventPath("notes", note);
 
 /** @param {{ vehicle: number, trip: number, record: any, told: any, at: string }} disagreement */
 export const disagreementTold = (disagreement) => eventPath("disagreements", disagreement);
+
+/** That what was told is taken back: an event for each, by its id.
+ * @param {string[]} told paths @param {string} at */
+export const undoneTold = (told, at) => told.map((path) => new URLSearchParams(path.slice(path.indexOf("?") + 1))).flatMap((fields) => {
+    const tap = fields.get("id"), vehicle = Number(fields.get("vehicle"));
+    return tap && vehicle && !fields.has("tap") ? [eventPath("undone", { vehicle, tap, at })] : [];
+});

@@ -1,7 +1,8 @@
 """Reads the site's log of what it was told: a line for each event, which `events.json` describes.
 
 A line is the time, the path, the query and whose keys the teller has, with tabs between them; older lines lack the last
-part. A line that can't be read is named and passed over. One that came twice, by its id, counts once.
+part. A line that can't be read is named and passed over. One that came twice, by its id, counts once. A tap that its
+driver took back counts no more.
 """
 
 import datetime
@@ -20,6 +21,10 @@ TELLERS = ("office", "dispatcher", "vehicle", "other")
 # How the site begins a line, and how one begins that was cut off at once.
 BEGUN = re.compile(rb"20|2\d{4}-")
 START = re.compile(rb"\d{4}-\d\d-\d\dT\d\d:\d\d:\d\d(?:[+-]\d\d:\d\d|Z)\t" + PREFIX.encode("ascii"))
+
+
+# What a driver can take back.
+TAKEN_BACK = ("stops", "no-shows", "notes")
 
 
 class UnreadableLog(Exception):
@@ -94,7 +99,18 @@ def read(paths: Iterable[str | Path]) -> Log:
         if not known.setdefault(told.id, told).says_the_same(told):
             broken.append((at, number, f"the id {told.id} stands before with other words"))
     said = [f"{names[at]}, line {number}: {why}" for at, number, why in sorted(broken)]
-    return Log([*known.values()], said)
+    return Log(standing(known.values()), said)
+
+
+def standing(events: Iterable[Told]) -> list[Told]:
+    """The events that count: those that their driver took back do not. A driver takes back what is of the own vehicle."""
+    found = [*events]
+    undone = {(it.fields["tap"], it.fields["vehicle"]) for it in found if it.kind == "undone"}
+    return [
+        it
+        for it in found
+        if it.kind not in TAKEN_BACK or (it.id, it.fields["vehicle"]) not in undone
+    ]
 
 
 def lines_in(path: str | Path) -> Iterator[bytes]:

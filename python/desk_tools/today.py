@@ -200,7 +200,7 @@ def moment_of(told: Told, zone: datetime.tzinfo) -> datetime.datetime:
 
 def day_of(known: Known, today: datetime.date, zone: datetime.tzinfo) -> dict[str, object]:
     """What was told of a day, as the file has it but for `made`."""
-    events = sorted(known.events.values(), key=lambda it: _at(it, zone))
+    events = sorted(event_log.standing(known.events.values()), key=lambda it: _at(it, zone))
     of: dict[str, list[Told]] = defaultdict(list)
     for it in events:
         if _is_of(it, today, zone):
@@ -236,7 +236,7 @@ def day_of(known: Known, today: datetime.date, zone: datetime.tzinfo) -> dict[st
 
 def no_shows_of(known: Known, zone: datetime.tzinfo) -> dict[str, object]:
     """What was seen of each no-show by its trip, as the file of no-shows has it but for `made`."""
-    events = sorted(known.events.values(), key=lambda it: _at(it, zone))
+    events = sorted(event_log.standing(known.events.values()), key=lambda it: _at(it, zone))
     return {
         "since": known.first_no_show.isoformat(),
         "no_shows": {
@@ -309,12 +309,17 @@ def _marked(denial: Told, marks: list[Told], zone: datetime.tzinfo) -> str | Non
 def _taps(
     events: list[Told], zone: datetime.tzinfo
 ) -> dict[str, dict[str, list[dict[str, object]]]]:
-    """The taps of each van, in the order in which they were."""
+    """The taps of each van, in the order in which they were, each with its stop where that was told."""
     found: dict[str, dict[str, list[dict[str, object]]]] = defaultdict(lambda: {"taps": []})
     for it in events:
         kind = KINDS[str(it.fields["event"])]
         found[str(it.fields["vehicle"])]["taps"].append(
-            {"trip": it.fields["trip"], "kind": kind, "minute": minute_of(it, zone)}
+            {
+                "trip": it.fields["trip"],
+                "kind": kind,
+                "minute": minute_of(it, zone),
+                **({"stop": it.fields["stop"]} if it.fields["stop"] else {}),
+            }
         )
     return found
 

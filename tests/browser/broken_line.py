@@ -494,14 +494,14 @@ STYLED = "return [...document.querySelectorAll('link[rel=stylesheet]')].every((i
 NOTES = "window.notes = 0; new MutationObserver(() => { if (document.querySelector('main > [role=alert]')) window.notes += 1; }).observe(document.querySelector('main'), { childList: true })"
 
 
-def opened(at):
-    """Signs in as the admin, and watches whether the screen is said not to come."""
+def opened(at, screen="admin"):
+    """Signs in, and watches whether the screen is said not to come."""
     at.browser.fresh()
-    at.browser.fill("Key", at.keys["admin"])
+    at.browser.fill("Key", at.keys[screen])
     at.browser.script(NOTES)
-    at.browser.fill("Screen", "admin")
+    at.browser.fill("Screen", screen)
     at.browser.press("Sign in")
-    at.browser.shown("admin")
+    at.browser.shown(screen)
     return at.browser.script("return window.notes")
 
 
@@ -512,6 +512,20 @@ def a_file_that_the_site_refuses_once_is_asked_for_again(at):
             same(f"how often {path} is said not to come", 0, opened(at))
             until(lambda: f"{path} is asked for {answers.asked} times", lambda: answers.asked >= 2)
             until("a style is missing", lambda: at.browser.script(STYLED))
+
+
+# Files of the dispatcher's screen: what is asked for by name, what these take, and words.
+OF_DISPATCHER = ["/screens/dispatcher.js", "/screens/dispatcher-day.js", "/parts/timeline.js", "/parts/delay.js", "/words/en/dispatcher.js"]
+
+
+@check
+def a_line_that_is_cut_while_the_dispatchers_files_come_keeps_no_screen_away(at):
+    for path in OF_DISPATCHER:
+        with given(at.town, path, is_cut=True, refusals=1) as answers:
+            same(f"how often {path} is said not to come", 0, opened(at, "dispatcher"))
+            at.browser.find("link", "Trips of the day")
+            until(lambda: f"{path} is asked for {answers.asked} times", lambda: answers.asked >= 2)
+    at.browser.forget_errors()
 
 
 @check

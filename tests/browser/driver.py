@@ -1,8 +1,10 @@
 """The driver's phone: what is shown next, what is kept without a line, and what the desk has of it in the end."""
+import datetime
 import hashlib
 import json
 import re
 import shutil
+import time
 import urllib.parse
 
 from selenium.webdriver.common.keys import Keys
@@ -1082,6 +1084,9 @@ const watch = new MutationObserver(() => {
     if (it && it.getClientRects().length && !window.sight) { window.sight = performance.now(); watch.disconnect(); }
 });
 watch.observe(document, { childList: true, subtree: true, attributes: true });
+const real = window.fetch;
+window.asked = [];
+window.fetch = (path, ...more) => { window.asked.push(String(path)); return real(path, ...more); };
 """
 # Seconds: 3 are aimed at, and the machine may be busy. Bytes are those of pages that esbuild has packed.
 # (the form needs the browser's stores, for what a browser keeps that refuses them, and so far the addresses)
@@ -1117,9 +1122,9 @@ def the_odometer_is_kept_and_told_the_sites_log_once(at):
     same("the pull-in", [("48310", "48214", None)], [(it["odometer"], it["first_pickup"], it.get("last_drop")) for it in back])
 
 
-def first_sight(at, what, selector, kept):
+def first_sight(at, what, selector, kept, wrong=0):
     """The seconds until something is seen on a phone that has nothing of these pages, the bytes that came, and when each file for the van's
-    driver was asked for, in milliseconds."""
+    driver was asked for, in milliseconds. `wrong` is by how many seconds the phone's clock is wrong."""
     at.browser.driver.get(f"{at.browser.origin}/icon.svg")
     at.browser.devtools("Storage.clearDataForOrigin", origin=at.browser.origin, storageTypes="all")
     at.browser.script("sessionStorage.clear(); for (const [name, value] of Object.entries(arguments[0])) sessionStorage.setItem(name, value)", kept)
@@ -1127,8 +1132,11 @@ def first_sight(at, what, selector, kept):
     made = at.browser.devtools("Page.addScriptToEvaluateOnNewDocument", source=SIGHT % json.dumps(selector))
     at.browser.line(**SLOW)
     try:
-        at.browser.go("#driver")
-        milliseconds = until(f"{what} is not seen", lambda: at.browser.script("return window.sight"))
+        # (a phone whose clock has the agency's day, or another one)
+        noon = datetime.datetime.fromisoformat(f"{TOMORROW}T12:00:00+00:00").timestamp()
+        with at.browser.clock(seconds=round(noon - time.time()) + wrong):
+            at.browser.go("#driver")
+            milliseconds = until(f"{what} is not seen", lambda: at.browser.script("return window.sight"))
         loaded = at.browser.script("return performance.getEntriesByType('resource').map((it) => [it.name, it.transferSize, it.startTime])")
         sent = sum(it[1] for it in loaded if it[2] < milliseconds)
         asked = {urllib.parse.urlsplit(it[0]).path: it[2] for it in loaded if "/drivers/" in it[0]}
@@ -1163,3 +1171,13 @@ def the_first_sight_on_a_phones_line_is_soon_there(at):
             # (what is asked for late keeps the driver waiting for one more answer)
             holds(f"the driver's files are not asked for at once: {asked}", not asked or max(asked.values()) - min(asked.values()) < SLOW["milliseconds"])
     same("the driver's files", ["addresses.json", "outcomes.json", "places.json", "roster.csv"], sorted(path.rpartition("/")[2] for path in asked))
+
+
+@check
+def the_day_is_asked_for_before_the_agencys_file_is_there_and_a_wrong_date_costs_one_more_question(at):
+    at.town.set_clock(TOMORROW, "05:30")
+    with at.browser.screen(**PHONE):
+        for wrong, days in [(0, [TOMORROW]), (86_400, [AFTER, TOMORROW]), (-40 * 86_400, ["2025-01-30", TOMORROW])]:
+            first_sight(at, "the next stop", ".driver-stop h2", {"desk.key": at.keys["driver 1"], "desk.subject.vehicle": "1"}, wrong)
+            at.browser.sees("All stops", "Tuesday, March 11")
+            same(f"the manifests that are asked for, where the phone is {wrong} seconds wrong", days, [it[-10:] for it in at.browser.script("return window.asked") if "/manifest/" in it][:len(days)])

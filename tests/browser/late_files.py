@@ -1,4 +1,4 @@
-"""A file of the pages that the site gives late, refuses some times, or gives with another content."""
+"""A file of the pages that the site gives late, refuses some times, or gives with another content; refusals may be lines that are cut."""
 import contextlib
 import http.server
 import threading
@@ -42,16 +42,21 @@ class Answer(http.server.BaseHTTPRequestHandler):
         """Nothing is said of a request."""
 
 
+# In place of a refusal the site closes the connection without a word.
+CUT = "        proxy_intercept_errors on;\n        error_page 503 = @cut;\n"
+
+
 @contextlib.contextmanager
-def given(town, path, **how):
-    """Meanwhile the site gives this file of the pages as Answers has it."""
+def given(town, path, is_cut=False, **how):
+    """Meanwhile the site gives this file of the pages as Answers has it. is_cut: where that refuses, the connection is closed."""
     conf = f"{town.folder}/nginx.conf"
     with open(conf, encoding="utf-8") as text:
         plain = text.read()
     if plain.count(BEFORE) != 1:
         raise Trouble("the site's file has another form than late_files.py knows")
     with Answers(path, **how) as answers:
-        passed = f"    location = {path} {{\n        proxy_pass http://127.0.0.1:{answers.server_port};\n    }}\n"
+        passed = f"    location = {path} {{\n{CUT if is_cut else ''}        proxy_pass http://127.0.0.1:{answers.server_port};\n    }}\n"
+        passed += "    location @cut {\n        return 444;\n    }\n" if is_cut else ""
         try:
             use(town, conf, plain.replace(BEFORE, passed + BEFORE))
             yield answers

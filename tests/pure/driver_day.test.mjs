@@ -1,6 +1,8 @@
 import assert from "node:assert/strict";
 import { test } from "node:test";
 
+import { progressOf } from "../../pages/parts/delay.js";
+import { lateOf } from "../../pages/parts/lateness.js";
 import { behindBy, choicesAt, dayOf, doubtWords, evidenceOf, leftOpen, minuteOn, othersHave, skipped } from "../../pages/screens/driver-day.js";
 
 const DAY = "2025-03-11";
@@ -76,14 +78,78 @@ test("where the van came late, the agency's fault comes first, and nothing is ta
     }
 });
 
-test("how far the van is behind is told by the last tap, or by the next stop's time", () => {
+test("how far the van is behind is told by the last tap, or by the next rider's stop", () => {
     const told = (log, now) => behindBy(dayOf(STOPS, log).stops, log, DAY, at(now));
     assert.equal(told([], 470), 0);
-    assert.deepEqual([told([], 491), told([], 529)], [11, 49]);
+    // (nobody waits at the depot)
+    assert.deepEqual([told([], 491), told([], 529)], [0, 14]);
     const log = [entry("out", "left", at(480)), entry("PICK 9", "arrived", at(526)), entry("PICK 9", "aboard", at(528))];
     assert.equal(told(log, 529), 13);
     assert.equal(told(log, 560), 20);
     assert.equal(told([entry("out", "left", at(480)), entry("PICK 9", "aboard", at(511))], 512), 0);
+    // (who waits at a pickup is not late there)
+    assert.equal(told([entry("PICK 9", "arrived", at(514))], 521), 0);
+    // (an outcome that was told later than it happened is no time of a drop)
+    assert.equal(told([{ ...entry("DROP 9", "ridden", at(700), "done"), tap: { ...entry("DROP 9", "ridden", at(700)).tap, untold: true } }], 700), 0);
+});
+
+// Three trips, two of them together in the van.
+const SHARED = [
+    { at: 480, what: "DEPOT", place: 5, load: 0 },
+    { at: 515, what: "PICK", place: 2, load: 1, trip: 1, rider: 1001, window: [510, 525] },
+    { at: 525, what: "PICK", place: 3, load: 2, trip: 2, rider: 1002, window: [520, 540] },
+    { at: 545, what: "DROP", place: 4, load: 1, trip: 1, rider: 1001 },
+    { at: 560, what: "DROP", place: 4, load: 0, trip: 2, rider: 1002 },
+    { at: 640, what: "PICK", place: 2, load: 1, trip: 3, rider: 1003, window: [630, 650] },
+    { at: 660, what: "DROP", place: 3, load: 0, trip: 3, rider: 1003 },
+    { at: 700, what: "DEPOT", place: 5, load: 0 },
+];
+const ON_BOARD = { arrived: "arrived", aboard: "aboard", ridden: "dropped", left: "skipped", "missed-rider": "no-show", "missed-operator": "missed" };
+/** Of so many a number below it, by a fixed row of numbers. */
+const numbers = (seed) => () => ((seed = (seed * 1103515245 + 12345) % 2 ** 31) / 2 ** 31);
+
+/** A driver's taps: some stops in their order, each with what can be tapped there. */
+function tapped(chance) {
+    const log = [];
+    let minute = 470 + Math.floor(chance() * 60);
+    for (const stop of SHARED.filter(({ trip }) => trip)) {
+        if (chance() < 0.2) continue;
+        const shown = dayOf(SHARED, log).stops.find(({ name }) => name === `${stop.what} ${stop.trip}`);
+        const choices = choicesAt(shown, true), what = choices[Math.floor(chance() * choices.length)];
+        minute += Math.floor(chance() * 25);
+        if (what) log.push({ state: "kept", denied: null, tap: { stop: shown.name, trip: stop.trip, rider: stop.rider, what, at: at(minute) } });
+    }
+    return { log, minute };
+}
+
+test("the phone and the board say the same delay, before the first tap and after each", () => {
+    for (let seed = 1; seed <= 400; seed += 1) {
+        const { log, minute } = tapped(numbers(seed));
+        for (let count = 0; count <= log.length; count += 1) {
+            const some = log.slice(0, count), from = count ? Number(some[count - 1].tap.at.slice(11, 13)) * 60 + Number(some[count - 1].tap.at.slice(14, 16)) : 470;
+            const taps = some.map(({ tap }) => ({ trip: tap.trip, kind: ON_BOARD[tap.what], minute: Number(tap.at.slice(11, 13)) * 60 + Number(tap.at.slice(14, 16)),
+                ...(["left", "missed-rider", "missed-operator"].includes(tap.what) ? { stop: tap.stop.startsWith("DROP") ? "drop-off" : "pickup" } : {}) }));
+            for (let now = from; now <= minute + 30; now += 7) {
+                const board = lateOf({ vehicle: 9, day: DAY, lines: [], text: "", stops: SHARED }, taps, new Map(), now);
+                assert.equal(behindBy(dayOf(SHARED, some).stops, some, DAY, at(now)), board.delay || board.silent, `seed ${seed}, ${count} taps, ${now}`);
+            }
+        }
+    }
+});
+
+test("what another phone or dispatch told counts on the phone as on the board", () => {
+    const aboard = { 1: { how: "aboard", minute: 540 } }, record = { 1: { how: "ridden", minute: null }, 2: { how: "missed-rider", minute: null } };
+    assert.equal(behindBy(dayOf(SHARED, [], aboard).stops, [], DAY, at(541), aboard), lateOf({ vehicle: 9, stops: SHARED }, [{ trip: 1, kind: "aboard", minute: 540 }], new Map(), 541).delay);
+    const doings = new Map([[1, { state: "ridden", minutes: 0 }], [2, { state: "missed-rider", minutes: 0 }]]);
+    assert.deepEqual([behindBy(dayOf(SHARED, [], record).stops, [], DAY, at(652), record), lateOf({ vehicle: 9, stops: SHARED }, [], doings, 652).delay], [12, 12]);
+});
+
+test("a skip is of the stop that was skipped", () => {
+    const reached = (...taps) => progressOf(SHARED, taps, new Map(), 700).far;
+    assert.deepEqual([reached({ trip: 1, kind: "skipped", minute: 600, stop: "pickup" }), reached({ trip: 1, kind: "skipped", minute: 600, stop: "drop-off" })], [0, 2]);
+    // (an older page does not say which: once the pickup was told of, it is the drop-off)
+    for (const kind of ["aboard", "skipped"]) assert.equal(reached({ trip: 1, kind, minute: 520 }, { trip: 1, kind: "skipped", minute: 600 }), 2);
+    assert.equal(reached({ trip: 1, kind: "skipped", minute: 600 }), 0);
 });
 
 test("what is left of a day that is over is told by the taps alone", () => {

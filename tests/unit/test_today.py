@@ -63,6 +63,40 @@ def test_taps_stand_by_van_in_the_order_in_which_they_were() -> None:
     assert told["vehicles"]["9"] == {"taps": [{"trip": 154, "kind": "no-show", "minute": 556}]}
 
 
+def test_a_skip_has_the_stop_that_was_skipped() -> None:
+    told = made(
+        stop(1, event="left", stop="drop-off"),
+        stop(2, "2026-12-07T09:13:00", "no-show-rider", stop="pickup"),
+        stop(3, "2026-12-07T09:14:00", "left"),
+    )
+    assert [it.get("stop") for it in told["vehicles"]["109"]["taps"]] == [
+        "drop-off",
+        "pickup",
+        None,
+    ]
+
+
+def test_a_tap_that_was_taken_back_counts_no_more() -> None:
+    def undone(number: int, tap: int, vehicle: int = 109) -> bytes:
+        return line(
+            "undone", number, vehicle=vehicle, tap=f"{tap:026}", at="2026-12-07T09:17:00"
+        )
+
+    seen = {"day": "2026-12-07", "from": 545, "to": 560, "wait": 5, "arrived": 552}
+    lines = [
+        stop(1),
+        stop(2, "2026-12-07T09:15:00", "aboard"),
+        stop(3, "2026-12-07T09:16:00", "no-show-rider"),
+        line("no-shows", 4, vehicle=109, trip=154, at="2026-12-07T09:16:00", **seen),
+    ]
+    whole = made(*lines)
+    assert len(whole["vehicles"]["109"]["taps"]) == 3 and whole["no_shows"]
+    told = made(undone(5, 3), *lines, undone(6, 4), undone(7, 2, vehicle=9))
+    assert [it["kind"] for it in told["vehicles"]["109"]["taps"]] == ["arrived", "aboard"]
+    assert (told["no_shows"], told["unreviewed"]["no_shows"]) == ([], [])
+    assert made(*lines, undone(8, 3), undone(9, 2), undone(10, 1))["vehicles"] == {}
+
+
 def test_a_tap_that_comes_a_day_late_is_of_its_own_day() -> None:
     late = stop(1, "2026-12-06T23:59:59")
     assert made(late)["vehicles"] == {}
