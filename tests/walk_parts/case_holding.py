@@ -2,7 +2,7 @@
 
 import time
 from collections.abc import Iterator
-from typing import TYPE_CHECKING
+from typing import TYPE_CHECKING, Any
 
 from walk_parts import cases, shown
 from walk_parts.asked import DONE, REPLY
@@ -19,10 +19,10 @@ PATIENCE = 10.0
 SCREENS = ("#clerk/file", "#examiner", "#officer", "#rider/standing", "#rider/letters")
 
 
-def faults(walker: "Walker") -> Iterator[tuple[str, str, float]]:
-    """What a case shows otherwise than the desk has it. What agrees is counted."""
-    rider, language, town = walker.look.subject, walker.look.language, walker.town
-    case = walker.browser.script(cases.CASE) if rider and walker.look.address.startswith(SCREENS) else {"standings": [], "letters": [], "done": []}
+def faults(walker: "Walker", given: dict[str, Any] | None) -> Iterator[tuple[str, str, float]]:
+    """What a case shows otherwise than the desk has it: given is what stands there. What agrees is counted."""
+    rider, language, town = walker.look.subject or 0, walker.look.language, walker.town
+    case = given or {"standings": [], "letters": [], "done": []}
     for it in case["standings"]:
         day = cases.first_day(it["verdict"], language)
         standing = town.ask("third clerk", f"/riders/{rider}/standing/{day}") if day else {"standing": "none", "suspended": False}

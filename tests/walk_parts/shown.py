@@ -4,6 +4,7 @@ from dataclasses import dataclass
 from typing import Any
 
 from walk_parts import speech
+from walk_parts.cases import CASE
 from walk_parts.words import Words
 
 TRIPS = """
@@ -59,6 +60,9 @@ const plain = (text) => (text ?? "").replace(/\\s+/g, " ").trim();
 const seen = (it) => it.checkVisibility({ visibilityProperty: true });
 return [...document.querySelectorAll(".fault, [role=alert]")].filter(seen).map((it) => plain(it.textContent)).filter(Boolean);
 """
+# What is compared after each step, in one call: trips always, and of the others those that are named.
+ALL = "const wanted = arguments[0];\nreturn {" + ", ".join(f"{name}: {name == 'trips' and 'true' or f'wanted.includes({name!r})'} ? (() => {{ {script} }})() : null" for name, script in (
+    ("trips", TRIPS), ("card", CARD), ("day", DAY_TRIPS), ("stops", STOPS), ("case", CASE))) + " };"
 TICKS = {"presumed", "appeal-overdue", "granted", "visitor"}
 
 

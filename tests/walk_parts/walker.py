@@ -26,6 +26,8 @@ from walk_parts.words import Words
 
 # Seconds after which a comparison counts, after which a list has to know what another device wrote, and a new day.
 PATIENCE, OUTSIDE, NEW_DAY = 10.0, 42.0, 55.0
+# How often somebody stays until the page has read by itself what another device wrote, or the new day. Else the steps go on, and each holds what is shown.
+STAYS = 0.25
 # The hour from which on the next thing that the clock does is to pass midnight; and so many windows.
 LATE, MOST_WINDOWS = 20, 3
 # How much more often the one thing is done that is mostly done.
@@ -57,6 +59,7 @@ class Walker:
         self.choice = random.Random(report.seed)
         self.recorded, self.offline, self.grace = 0, 0, 0.0
         self.stale: dict[int, float] = {}
+        self.stays = False
         self.windows: list[Window] = []
         self.here: Window
         self.look: Look
@@ -125,8 +128,7 @@ class Walker:
             self.browser.script("sessionStorage.setItem('desk.subject.rider', arguments[0])", self.here.holder.split()[1])
             self.browser.reload()
         self.here.task = None
-        self.page.still()
-        self.look = self.page.look()
+        self.look = self.page.still()
         self.note_parts()
 
     def note_parts(self) -> None:
@@ -139,8 +141,7 @@ class Walker:
         with contextlib.suppress(WebDriverException):
             self.browser.devtools("Page.bringToFront")
         self.here = window
-        self.page.still()
-        self.look = self.page.look()
+        self.look = self.page.still()
         self.note_parts()
 
     # What is done next.
@@ -338,7 +339,7 @@ class Walker:
     def time_passes(self, midnight: bool) -> None:
         """The town's clock goes on: by some hours, or beyond midnight."""
         now, more = self.town.now(), self.choice.choice([10, 60, 200])
-        self.grace = time.monotonic() + NEW_DAY
+        self.grace, self.stays = time.monotonic() + NEW_DAY, self.choice.random() < STAYS
         if midnight or now.hour >= LATE:
             self.town.goes_to((now + datetime.timedelta(days=1)).replace(hour=0, minute=5))
         else:
@@ -348,7 +349,7 @@ class Walker:
         """Another device cancels or books a trip of the rider who is shown, beside the site."""
         rider = self.look.subject or self.some_rider()[0]
         stands = [it for it in self.town.trips(rider) if it["status"] == "booked" and it["day"] > self.town.today]
-        self.stale[rider] = time.monotonic() + OUTSIDE
+        self.stale[rider], self.stays = time.monotonic() + OUTSIDE, self.choice.random() < STAYS
         if stands and self.choice.random() < 0.5:
             self.town.ask("third clerk", f"/trips/{self.choice.choice(stands)['trip']}/cancel", {})
         else:
@@ -407,14 +408,11 @@ class Walker:
 
     def settle(self) -> None:
         """Waits until the page is still and nothing is under way, as long as a person would."""
-        self.page.still()
         end = time.monotonic() + (1.0 if self.offline else PATIENCE)
-        while time.monotonic() < end:
-            self.look = self.page.look()
-            if not self.look.busy and not self.town.recorder.open:
-                return
+        self.look = self.page.still()
+        while time.monotonic() < end and (self.look.busy or self.town.recorder.open):
             time.sleep(0.05)
-            self.page.still()
+            self.look = self.page.still()
 
     # What has to hold.
 
@@ -426,14 +424,10 @@ class Walker:
         began = time.monotonic()
         while True:
             faults = list(self.faults(act, loaded))
-            if not faults:
+            if all(self.report.is_known(rule, text) or self.may_wait(since, began) for rule, text, since in faults):
                 break
-            if all(self.report.is_known(rule, text) for rule, text, _ in faults):
-                break
-            now = time.monotonic()
-            patience = max([began + PATIENCE, *(it for _, _, it in faults)])
-            if now > patience:
-                for rule, text, _ in faults:
+            if late := [it for it in faults if time.monotonic() > max(began + PATIENCE, it[2])]:
+                for rule, text, _ in late:
                     self.report.breaks(rule, text, self.here.role)
                 break
             time.sleep(0.3)
@@ -442,6 +436,10 @@ class Walker:
         self.legs(loaded)
         case_holding.hold_entry(self, loaded)
         self.errors()
+
+    def may_wait(self, since: float, began: float) -> bool:
+        """Whether what counts from a moment on is left for later steps: nobody stays to see the page read again by itself."""
+        return not self.stays and since > began + PATIENCE
 
     def legs(self, loaded: float) -> None:
         """What came of a form that was sent, once it has come to its end."""
@@ -563,8 +561,11 @@ class Walker:
     def faults_of_lists(self) -> list[tuple[str, str, float]]:
         """Lists and cards that differ from the desk's present answer."""
         found: list[tuple[str, str, float]] = []
-        halves = self.halves()
-        for card in self.browser.script(shown.TRIPS):
+        halves, look, role = self.halves(), self.look, self.here.role
+        wanted = [name for name, is_shown in (("card", role == "clerk" and look.address.startswith("#clerk")), ("day", role == "dispatcher"), ("stops", role == "driver"),
+                                              ("case", look.subject and look.address.startswith(case_holding.SCREENS))) if is_shown]
+        given = self.browser.script(shown.ALL, wanted)
+        for card in given["trips"]:
             if card["empty"] and "…" in card["text"]:
                 found.append(("what is shown has an age", f"the list of rider {card['rider']} is not read: {card['text'][:100]}", self.grace))
                 continue
@@ -573,31 +574,31 @@ class Walker:
                 found.append(("what is shown has an age", fault, max(self.grace, self.stale.get(card["rider"], 0.0))))
             else:
                 self.report.holds("what is shown has an age")
-        found.extend(self.faults_of_days(halves))
-        found.extend(case_holding.faults(self))
-        card = self.browser.script(shown.CARD) if self.here.role == "clerk" and self.look.address.startswith("#clerk") else None
-        if card and self.look.subject:
-            standing = self.town.ask("third clerk", f"/riders/{self.look.subject}/standing/{self.town.today}")
-            fault = shown.fault_of_card(card, standing, self.words, self.look.language)
+        found.extend(self.faults_of_days(given["day"], given["stops"], halves))
+        found.extend(case_holding.faults(self, given["case"]))
+        card = given["card"]
+        if card and look.subject:
+            standing = self.town.ask("third clerk", f"/riders/{look.subject}/standing/{self.town.today}")
+            fault = shown.fault_of_card(card, standing, self.words, look.language)
             if fault:
                 found.append(("what is shown has an age", fault, self.grace))
             else:
                 self.report.holds("what is shown has an age")
         return found
 
-    def faults_of_days(self, halves: tuple[str, str]) -> list[tuple[str, str, float]]:
+    def faults_of_days(self, trips: dict[str, Any] | None, stops: dict[str, Any] | None, halves: tuple[str, str]) -> list[tuple[str, str, float]]:
         """The trips of a day at the dispatcher's, and the stops at a driver's."""
         rule, fault = "what is shown has an age", None
-        if self.here.role == "dispatcher" and (given := self.browser.script(shown.DAY_TRIPS)):
-            if not re.fullmatch(r"\d{4}-\d\d-\d\d", given["day"]):
+        if trips:
+            if not re.fullmatch(r"\d{4}-\d\d-\d\d", trips["day"]):
                 return []
-            csv = self.town.ask("dispatcher", f"/days/{given['day']}/trips.csv")
-            fault = shown.fault_of_day(given, csv, self.words, self.look.language, halves) if isinstance(csv, str) else None
-        elif self.here.role == "driver" and (given := self.browser.script(shown.STOPS)):
-            if self.look.language == "en" and given["day"] != speech.day_long(self.town.today):
+            csv = self.town.ask("dispatcher", f"/days/{trips['day']}/trips.csv")
+            fault = shown.fault_of_day(trips, csv, self.words, self.look.language, halves) if isinstance(csv, str) else None
+        elif stops:
+            if self.look.language == "en" and stops["day"] != speech.day_long(self.town.today):
                 return []
             text = self.town.ask("driver 1", f"/vehicles/1/manifest/{self.town.today}")
-            fault = shown.fault_of_stops(given, text, halves) if isinstance(text, str) and self.look.language == "en" else None
+            fault = shown.fault_of_stops(stops, text, halves) if isinstance(text, str) and self.look.language == "en" else None
         else:
             return []
         if fault:
