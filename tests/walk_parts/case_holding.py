@@ -54,7 +54,8 @@ def told(walker: "Walker", rule: str, fault: str | None) -> Iterator[tuple[str, 
 def said_as_done(walker: "Walker", done: list[list[str]]) -> Iterator[tuple[str, str, float]]:
     """What is said to be done was accepted since the page was loaded."""
     key, rider = walker.town.keys[walker.here.holder], walker.look.subject
-    for kind, text in done:
+    for form, text in done:
+        kind = cases.done_kind(form, text, walker.words)
         entry = cases.ENTRIES.get(kind, kind)
         taken = [it for it in walker.town.recorder.of_key(key, walker.look.loaded / 1000)
                  if it.is_done and it.path == f"/riders/{rider}/entries" and it.fields.get("entry") == entry]
@@ -110,7 +111,7 @@ def hold_entry(walker: "Walker", loaded: float) -> None:
 def fault_of_entry(walker: "Walker", permit: Permit, at: int) -> str | None:
     """What is wrong of an entry that was confirmed, or None."""
     tries = [it for it in walker.town.recorder.since(at) if it.key == permit.key and it.path == f"/riders/{permit.rider}/entries" and it.fields.get("entry") == permit.entry]
-    says, denials = [kind for kind, _ in walker.browser.script(cases.CASE)["done"]], walker.browser.script(shown.FAULTS)
+    says, denials = [cases.done_kind(kind, text, walker.words) for kind, text in walker.browser.script(cases.CASE)["done"]], walker.browser.script(shown.FAULTS)
     if not tries:
         return f"{permit} ({permit.path}) was confirmed, and nothing was asked"
     if any(it.is_done for it in tries):

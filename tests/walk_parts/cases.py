@@ -20,7 +20,8 @@ const letters = [...document.querySelectorAll(".card")].filter((it) => seen(it) 
         letters: [...card.querySelectorAll(":scope > ol.letters > li")].map((it) => ({ heading: plain(it.querySelector("h3")?.textContent), text: it.querySelector("pre")?.textContent ?? "",
             whole: plain(it.innerText), offers: Boolean(it.querySelector(":scope > .row button.danger")), parts: [...it.querySelectorAll(":scope > p")].map((one) => plain(one.textContent)) })) }));
 const done = [...[...document.querySelectorAll("details.entry[data-entry] p.good")].map((it) => [it.closest("details").dataset.entry, it]),
-    ...[...document.querySelectorAll("[id^=answer-letter-] p.good")].map((it) => ["appeal", it])].filter(([, it]) => seen(it)).map(([kind, it]) => [kind, plain(it.textContent)]);
+    ...[...document.querySelectorAll("[id^=answer-letter-] p.good")].map((it) => ["appeal", it]),
+    ...[...document.querySelectorAll("[id^=appeals-] p.good")].map((it) => ["", it])].filter(([, it]) => seen(it)).map(([kind, it]) => [kind, plain(it.textContent)]);
 return { standings, letters, done };
 """
 ROWS = HEAD + """
@@ -112,6 +113,11 @@ def begin_of(words: Words, key: str, language: str) -> str:
     """How a text begins, up to its first value."""
     pattern = words.patterns[language][key].pattern
     return re.sub(r"\\(.)", r"\1", pattern.split("(.+?)")[0])
+
+
+def done_kind(kind: str, text: str, words: Words) -> str:
+    """Which kind of entry is said to be done: that of its form, or by its words where the form has gone with what it decided."""
+    return kind or next((it for it in KINDS if words.is_text(text, f"cases.done-{it}")), text)
 
 
 def kind_of(name: str, words: Words) -> str | None:
