@@ -55,6 +55,11 @@ return [...document.querySelectorAll(".legs > li")].filter((it) => seen(it) && !
     window: plain(it.querySelector(".ticket .window")?.textContent), offer: Boolean(it.querySelector(".offer")), waiting: it.classList.contains("waiting") && it.textContent.includes("…"),
     refused: Boolean(it.querySelector(".refused")), inner: Boolean(it.closest(".inner")) }));
 """
+LEFT = """
+const plain = (text) => (text ?? "").replace(/\\s+/g, " ").trim();
+const seen = (it) => it.checkVisibility({ visibilityProperty: true });
+return [...document.querySelectorAll("[data-sent-list] li, #notes li")].filter((it) => seen(it) && it.matches(".left, .unsent")).map((it) => plain(it.textContent)).filter(Boolean);
+"""
 FAULTS = """
 const plain = (text) => (text ?? "").replace(/\\s+/g, " ").trim();
 const seen = (it) => it.checkVisibility({ visibilityProperty: true });

@@ -127,7 +127,7 @@ class Walker:
         if self.here.role == "rider" and self.choice.random() < 0.9:
             self.browser.script("sessionStorage.setItem('desk.subject.rider', arguments[0])", self.here.holder.split()[1])
             self.browser.reload()
-        self.here.task = None
+        self.here.task, self.confirmed = None, None
         self.look = self.page.still()
         self.note_parts()
 
@@ -242,7 +242,7 @@ class Walker:
         self.confirmed = (permit, self.town.recorder.count(), self.place())
 
     def place(self) -> str:
-        """The window and the part of the screen. Who leaves it before a form is sent has withdrawn it."""
+        """The window and the part of the screen. Who leaves it before a form is sent is told so."""
         return f"{self.here.handle} {self.look.address}"
 
     def number_in(self, text: str, key: str) -> int | None:
@@ -448,6 +448,8 @@ class Walker:
         permit, at, place = self.confirmed
         if place != self.place() or self.look.loaded != loaded or self.offline or not permit.rider or self.look.subject != permit.rider:
             self.confirmed = None
+            if place.split(" ")[0] == self.here.handle and not self.offline and permit in self.ledger.permits:
+                self.left(permit, at)
             return
         end = time.monotonic() + PATIENCE
         while True:
@@ -480,6 +482,19 @@ class Walker:
             self.report.breaks(rule, text, self.here.role)
         if not checks:
             self.report.holds(asked.DONE, len(found) or 1)
+
+    def left(self, permit: Permit, at: int) -> None:
+        """Who leaves a form that was sent reads that nothing of it went out; or something did, and then it goes on."""
+        end = time.monotonic() + PATIENCE
+        while fault := asked.left_unsaid(permit, [it for it in self.town.recorder.since(at) if it.key == permit.key], self.browser.script(shown.LEFT)):
+            self.look = self.page.look()
+            if self.look.sign or self.look.dialog or not self.look.signed_in:
+                return
+            if time.monotonic() > end:
+                self.report.breaks(*fault, self.here.role)
+                return
+            time.sleep(0.2)
+        self.report.holds(asked.DONE)
 
     def leg(self, leg: dict[str, Any], permit: Permit, trips: dict[int, dict[str, Any]], sent: dict[str, Any]) -> list[asked.Fault | None]:
         """One leg: as it was said, or denied as the desk itself denies it; and what has to be counted of it. sent is what was asked last: who comes along."""
