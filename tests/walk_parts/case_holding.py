@@ -26,7 +26,8 @@ def faults(walker: "Walker", given: dict[str, Any] | None) -> Iterator[tuple[str
     for it in case["standings"]:
         day = cases.first_day(it["verdict"], language)
         standing = town.ask("third clerk", f"/riders/{rider}/standing/{day}") if day else {"standing": "none", "suspended": False}
-        yield from told(walker, AGE, cases.fault_of_standing(it, standing, walker.words, language) if day else f"a standing without a day: {it['verdict']!r}")
+        suspension = cases.suspension_on(day, town.letters(rider)) if day and standing.get("suspended") else None
+        yield from told(walker, AGE, cases.fault_of_standing(it, standing, walker.words, language, suspension) if day else f"a standing without a day: {it['verdict']!r}")
     texts = walker.words.texts[language]
     for it in case["letters"]:
         if it["letters"] or it["says"] == texts["cases.letters-none"]:
