@@ -360,6 +360,15 @@ def at_the_stop(walker: "Walker") -> Task:
             yield walker.answer_dialog(0.8)
 
 
+def home(walker: "Walker") -> Act | None:
+    """Goes back to the screen of one's own role, for whoever is curious at another one; None for who is there, or has no choice."""
+    if walker.look.address.startswith(f"#{walker.here.role}"):
+        return None
+    screens = field(walker, "common.screen", ("list",))
+    own = next((it for it in screens.choices if walker.words.is_text(it, f"signing.{walker.here.role}")), None) if screens else None
+    return choose(walker, screens, own) if screens and own else None
+
+
 HARMLESS = ("button", "summary", "link", "checkbox", "radio", "list", "combo")
 
 

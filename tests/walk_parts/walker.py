@@ -30,6 +30,8 @@ PATIENCE, OUTSIDE, NEW_DAY = 10.0, 42.0, 55.0
 STAYS = 0.25
 # The hour from which on the next thing that the clock does is to pass midnight; and so many windows.
 LATE, MOST_WINDOWS = 20, 3
+# How often somebody who looked at another role's screen goes back to the own one.
+RETURNS = 0.3
 # How much more often the one thing is done that is mostly done.
 MOSTLY = 10
 # Steps after which a walk that ends at its first breach holds what was counted against the log.
@@ -170,6 +172,9 @@ class Walker:
         if self.choice.random() < 0.06:
             for act in acts.anything(self):
                 return act
+        if self.choice.random() < RETURNS and (home := acts.home(self)):
+            self.here.task = None
+            return home
         for _ in range(12):
             if self.here.task is None:
                 weights = self.tasks()
