@@ -370,7 +370,9 @@ class Walker:
             self.choice = random.Random(f"{self.report.seed} {self.number}")
             self.one_step()
             if first and self.number % OFTEN == 0 and not self.report.breaches:
+                here = self.here
                 self.at_the_end()
+                self.go_to(here)
         self.at_the_end()
 
     def one_step(self) -> None:
@@ -395,8 +397,9 @@ class Walker:
             self.recover()
             return
         except WebDriverException as error:
+            # (what was not pressed was not confirmed)
             self.report.did(self.number, f"(not done: {str(error).splitlines()[0][:100]})")
-            self.here.task = None
+            self.here.task, self.confirmed, self.entered = None, None, None
         try:
             self.settle()
             self.hold(act, loaded)
@@ -683,6 +686,7 @@ class Walker:
         """Whoever sits at a window leaves what stands there in one of the ways in which people do: then nothing is held back any more."""
         with contextlib.suppress(WebDriverException, Trouble):
             self.go_to(window)
+            window.task, self.confirmed, self.entered = None, None, None
             self.browser.line()
             if self.look.dialog:
                 self.page.keys("\ue00c")
