@@ -30,6 +30,7 @@ Task = Iterator[Act]
 PLACES_TYPED = 4
 # Seconds in which a form says what is wrong in its fields; and how often somebody is gone before the desk has answered.
 SENT, LEAVES = 0.15, 0.06
+OPEN = "return Boolean(document.querySelector('dialog[open]'))"
 
 
 def press(walker: "Walker", control: Control, by_key: bool | None = None) -> Act:
@@ -55,7 +56,7 @@ def leave_at_once(walker: "Walker", control: Control) -> Act | None:
         with walker.town.recorder.hold():
             walker.page.press(control, True)
             time.sleep(SENT)
-            if not walker.browser.script(shown.FAULTS):
+            if not walker.browser.script(shown.FAULTS) and not walker.browser.script(OPEN):
                 walker.page.press(other, False)
     return Act(f"Enter on {control.kind} {control.name!r}, and on to {other.name!r} before the desk answers", do)
 
