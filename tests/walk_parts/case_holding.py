@@ -15,8 +15,6 @@ AGE = "what is shown has an age"
 # Lists of what waits that a reader has from the site's log in place of the night's list.
 LIVE = {"clerk": {"offers", "in-part"}, "dispatcher": {"offers"}, "examiner": {"in-part"}, "officer": set[str]()}
 PATIENCE = 10.0
-# The parts of screens that show a case.
-SCREENS = ("#clerk/file", "#examiner", "#officer", "#rider/standing", "#rider/letters")
 
 
 def faults(walker: "Walker", given: dict[str, Any] | None) -> Iterator[tuple[str, str, float]]:

@@ -10,8 +10,10 @@ from selenium.common.exceptions import JavascriptException, WebDriverException
 from selenium.webdriver.common.action_chains import ActionChains
 from selenium.webdriver.common.keys import Keys
 
+from walk_parts import shown
+
 # Milliseconds without a change after which a page is still, and after which it counts as still in any case.
-QUIET, MOST = 90, 2500
+QUIET, MOST = 60, 2500
 # Seconds that a script may take.
 SCRIPT = 20
 
@@ -48,7 +50,7 @@ return { controls, texts, denials, address: location.hash, language: document.do
     sign: plain(document.querySelector("#line")?.textContent), notes: plain(document.querySelector("#notes")?.innerText),
     signedIn: !document.body.classList.contains("signed-out") && Boolean(sessionStorage.getItem("desk.key")), busy: [...document.querySelectorAll(".legs .waiting")].some((it) => it.textContent.includes("…")),
     subject: Number(sessionStorage.getItem("desk.subject.rider")) || null, vehicle: Number(sessionStorage.getItem("desk.subject.vehicle")) || null,
-    loaded: performance.timeOrigin };
+    loaded: performance.timeOrigin, shown: """ + shown.ALL + """ };
 """
 STILL = """
 const [quiet, most, done] = arguments;
@@ -85,7 +87,7 @@ class Control:
 
 @dataclass
 class Look:
-    """What is on the page at a moment. Of a denial: what it says, the whole of it, and whether the page keeps it beyond a reload."""
+    """What is on the page at a moment. Of a denial: what it says, the whole of it, and whether the page keeps it beyond a reload; shown is what is held against the desk."""
 
     controls: list[Control]
     texts: list[tuple[str, str]]
@@ -103,6 +105,7 @@ class Look:
     vehicle: int | None
     loaded: float
     at: int
+    shown: dict[str, Any]
     whole: str = field(default="")
 
     def of(self, kind: str, name: str = "") -> list[Control]:
@@ -121,7 +124,7 @@ def look_of(given: dict[str, Any]) -> Look:
     texts = [(text, language) for text, language in given["texts"]]
     return Look(controls, texts, [(a, b, c) for a, b, c in given["denials"]], given["address"], given["language"],
                 given["dialog"], given["focus"], given["sign"], given["notes"], given["signedIn"], given["hidden"], given["busy"],
-                given["subject"], given["vehicle"], given["loaded"], given["at"], "\n".join(text for text, _ in texts))
+                given["subject"], given["vehicle"], given["loaded"], given["at"], given["shown"], "\n".join(text for text, _ in texts))
 
 
 class Page:

@@ -65,9 +65,12 @@ const plain = (text) => (text ?? "").replace(/\\s+/g, " ").trim();
 const seen = (it) => it.checkVisibility({ visibilityProperty: true });
 return [...document.querySelectorAll(".fault, [role=alert]")].filter(seen).map((it) => plain(it.textContent)).filter(Boolean);
 """
-# What is compared after each step, in one call: trips always, and of the others those that are named.
-ALL = "const wanted = arguments[0];\nreturn {" + ", ".join(f"{name}: {name == 'trips' and 'true' or f'wanted.includes({name!r})'} ? (() => {{ {script} }})() : null" for name, script in (
-    ("trips", TRIPS), ("card", CARD), ("day", DAY_TRIPS), ("stops", STOPS), ("case", CASE))) + " };"
+# The parts of screens that show a case.
+SCREENS = ("#clerk/file", "#examiner", "#officer", "#rider/standing", "#rider/letters")
+IS_CASE = f"{list(SCREENS)}.some((it) => location.hash.startsWith(it))"
+# What is compared after each step, as a value of a script: trips, the card of a rider, the trips of a day, a driver's stops, a case.
+ALL = "{ " + ", ".join(f"{name}: (() => {{ {script} }})()" for name, script in (
+    ("trips", TRIPS), ("card", CARD), ("day", DAY_TRIPS), ("stops", STOPS), ("case", f"if (!{IS_CASE}) return null; {CASE}"))) + " }"
 TICKS = {"presumed", "appeal-overdue", "granted", "visitor"}
 
 

@@ -36,6 +36,8 @@ RETURNS = 0.3
 MOSTLY = 10
 # Steps after which a walk that ends at its first breach holds what was counted against the log.
 OFTEN = 40
+# Steps after which the browser's console is read.
+READ = 4
 BREAKS = [LOST, UNHEARD, HALF, NO_MEMORY, NO_STORE, NONSENSE, CROWDED]
 RARE = ("suspended", "suspension appealed", "conditional", "presumed", "temporary")
 NO_ANSWERS = ("common.no-go-back", "common.no")
@@ -443,7 +445,8 @@ class Walker:
             self.look = self.page.look()
         self.legs(loaded)
         case_holding.hold_entry(self, loaded)
-        self.errors()
+        if self.number % READ == 0:
+            self.errors()
 
     def may_wait(self, since: float, began: float) -> bool:
         """Whether what counts from a moment on is left for later steps: nobody stays to see the page read again by itself."""
@@ -584,10 +587,7 @@ class Walker:
     def faults_of_lists(self) -> list[tuple[str, str, float]]:
         """Lists and cards that differ from the desk's present answer."""
         found: list[tuple[str, str, float]] = []
-        halves, look, role = self.halves(), self.look, self.here.role
-        wanted = [name for name, is_shown in (("card", role == "clerk" and look.address.startswith("#clerk")), ("day", role == "dispatcher"), ("stops", role == "driver"),
-                                              ("case", look.subject and look.address.startswith(case_holding.SCREENS))) if is_shown]
-        given = self.browser.script(shown.ALL, wanted)
+        halves, look, role, given = self.halves(), self.look, self.here.role, self.look.shown
         for card in given["trips"]:
             if card["empty"] and "…" in card["text"]:
                 found.append(("what is shown has an age", f"the list of rider {card['rider']} is not read: {card['text'][:100]}", self.grace))
@@ -597,10 +597,10 @@ class Walker:
                 found.append(("what is shown has an age", fault, max(self.grace, self.stale.get(card["rider"], 0.0))))
             else:
                 self.report.holds("what is shown has an age")
-        found.extend(self.faults_of_days(given["day"], given["stops"], halves))
-        found.extend(case_holding.faults(self, given["case"]))
+        found.extend(self.faults_of_days(given["day"] if role == "dispatcher" else None, given["stops"] if role == "driver" else None, halves))
+        found.extend(case_holding.faults(self, given["case"] if look.subject else None))
         card = given["card"]
-        if card and look.subject:
+        if card and look.subject and role == "clerk" and look.address.startswith("#clerk"):
             standing = self.town.ask("third clerk", f"/riders/{look.subject}/standing/{self.town.today}")
             fault = shown.fault_of_card(card, standing, self.words, look.language)
             if fault:
@@ -664,6 +664,7 @@ class Walker:
 
     def at_the_end(self) -> None:
         """What was counted is in the site's log, and nothing waits."""
+        self.errors()
         self.browser.line()
         self.offline = 0
         self.town.recorder.planned.clear()
