@@ -9,7 +9,7 @@ import pytest
 TOP = Path(__file__).resolve().parents[2]
 sys.path[:0] = [str(TOP / "tests"), str(TOP / "tests/browser")]
 
-from walk_parts import cases  # pylint: disable=wrong-import-position
+from walk_parts import cases, speech  # pylint: disable=wrong-import-position
 from walk_parts.ledger import Ledger, Permit, Write
 from walk_parts.recorder import Recorder
 from walk_parts.words import Words, read_words
@@ -144,6 +144,14 @@ def test_a_standing_is_that_of_its_day(words: Words) -> None:
     assert "days" in str(cases.fault_of_standing(shown, suspended, words, "en", None))
     assert "suspension" in str(cases.fault_of_standing(shown, desk, words, "en", None))
     assert "denies" in str(fault(text, {"denied": "desk.unknown"}))
+
+
+def test_a_window_in_a_sentence_has_its_article() -> None:
+    halves = ("a. m.", "p. m.")
+    assert "12:48 y la 1:18 p. m." in speech.in_words(speech.window(768, 798, halves))
+    assert "12:48 y las 1:18 p. m." not in speech.in_words(speech.window(768, 798, halves))
+    assert "11:45 y las 11:59 p. m." in speech.in_words(speech.window(1425, 1439, halves))
+    assert "10:00 AM and 1:00 PM" in speech.in_words(speech.window(600, 780))
 
 
 PAGE = """<main><section id=first><h2>First</h2><table><thead><tr><th>Rider</th></tr></thead><tbody>

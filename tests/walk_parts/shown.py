@@ -93,7 +93,7 @@ def fault_of_trips(shown: dict[str, Any], trips: list[dict[str, Any]], names: Na
     for number, trip in wanted.items():
         text = rows[number]
         window = speech.window(trip["window_from"], trip["window_to"], halves)
-        if not any(window.replace(speech.DASH, between) in text for between in (speech.DASH, " and ", " y ", " y las ")):
+        if not any(it in text for it in speech.in_words(window)):
             return f"trip {number} of rider {shown['rider']} has the window {window}, but {text[:200]!r}"
         for end in ("from", "to"):
             name = names.places.get(trip[end])
