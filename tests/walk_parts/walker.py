@@ -26,8 +26,8 @@ from walk_parts.words import Words
 
 # Seconds after which a comparison counts, after which a list has to know what another device wrote, and a new day.
 PATIENCE, OUTSIDE, NEW_DAY = 10.0, 42.0, 55.0
-# How often somebody stays until the page has read by itself what another device wrote, or the new day. Else the steps go on, and each holds what is shown.
-STAYS = 0.25
+# Seconds by which the clock of a page goes on then, so that it reads again by itself at once.
+HALF_A_MINUTE = 31
 # The hour from which on the next thing that the clock does is to pass midnight; and so many windows.
 LATE, MOST_WINDOWS = 20, 3
 # How often somebody who looked at another role's screen goes back to the own one.
@@ -63,7 +63,6 @@ class Walker:
         self.choice = random.Random(report.seed)
         self.recorded, self.offline, self.grace = 0, 0, 0.0
         self.stale: dict[int, float] = {}
-        self.stays = False
         self.windows: list[Window] = []
         self.here: Window
         self.look: Look
@@ -346,21 +345,28 @@ class Walker:
     def time_passes(self, midnight: bool) -> None:
         """The town's clock goes on: by some hours, or beyond midnight."""
         now, more = self.town.now(), self.choice.choice([10, 60, 200])
-        self.grace, self.stays = time.monotonic() + NEW_DAY, self.choice.random() < STAYS
+        self.grace = time.monotonic() + NEW_DAY
         if midnight or now.hour >= LATE:
             self.town.goes_to((now + datetime.timedelta(days=1)).replace(hour=0, minute=5))
         else:
             self.town.goes_to(now + datetime.timedelta(minutes=more))
+        self.half_a_minute()
+
+    def half_a_minute(self) -> None:
+        """So much passes by the clock of this page: what it shows is due to be read again."""
+        with contextlib.suppress(WebDriverException):
+            self.browser.passes(HALF_A_MINUTE)
 
     def outside(self) -> None:
         """Another device cancels or books a trip of the rider who is shown, beside the site."""
         rider = self.look.subject or self.some_rider()[0]
         stands = [it for it in self.town.trips(rider) if it["status"] == "booked" and it["day"] > self.town.today]
-        self.stale[rider], self.stays = time.monotonic() + OUTSIDE, self.choice.random() < STAYS
+        self.stale[rider] = time.monotonic() + OUTSIDE
         if stands and self.choice.random() < 0.5:
             self.town.ask("third clerk", f"/trips/{self.choice.choice(stands)['trip']}/cancel", {})
         else:
             self.town.book_one(rider, self.choice.choice(self.bookable()), self.choice)
+        self.half_a_minute()
 
     # The loop.
 
@@ -434,7 +440,7 @@ class Walker:
         began = time.monotonic()
         while True:
             faults = list(self.faults(act, loaded))
-            if all(self.report.is_known(rule, text) or self.may_wait(since, began) for rule, text, since in faults):
+            if all(self.report.is_known(rule, text) for rule, text, _ in faults):
                 break
             if late := [it for it in faults if time.monotonic() > max(began + PATIENCE, it[2])]:
                 for rule, text, _ in late:
@@ -447,10 +453,6 @@ class Walker:
         case_holding.hold_entry(self, loaded)
         if self.number % READ == 0:
             self.errors()
-
-    def may_wait(self, since: float, began: float) -> bool:
-        """Whether what counts from a moment on is left for later steps: nobody stays to see the page read again by itself."""
-        return not self.stays and since > began + PATIENCE
 
     def legs(self, loaded: float) -> None:
         """What came of a form that was sent, once it has come to its end."""
@@ -545,6 +547,7 @@ class Walker:
         if "trip" in reply:
             self.town.ask("third clerk", f"/trips/{reply['trip']}/cancel", {})
             self.stale[fields["rider"]] = time.monotonic() + OUTSIDE
+            self.half_a_minute()
         return reply
 
     def halves(self) -> tuple[str, str]:
