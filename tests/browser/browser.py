@@ -41,7 +41,7 @@ def started(options, tries=3):
 
 
 class Browser:
-    def __init__(self, origin, folder, size=(1280, 900), preferences=None):
+    def __init__(self, origin, folder, size=(1280, 900), preferences=None, logs=("browser", "performance")):
         self.origin, self.folder, self.ignored = origin, folder, []
         options = Options()
         options.binary_location = "/usr/bin/chromium"
@@ -54,7 +54,7 @@ class Browser:
             options.add_argument(argument)
         options.add_experimental_option("excludeSwitches", ["hide-scrollbars"])
         options.add_experimental_option("prefs", preferences or {})
-        options.set_capability("goog:loggingPrefs", {"browser": "ALL", "performance": "ALL"})
+        options.set_capability("goog:loggingPrefs", {it: "ALL" for it in logs})
         RemoteConnection.set_timeout(LONGEST)
         self.driver = started(options)
         self.driver.set_script_timeout(PATIENCE)

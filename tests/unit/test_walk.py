@@ -9,7 +9,7 @@ import pytest
 TOP = Path(__file__).resolve().parents[2]
 sys.path[:0] = [str(TOP / "tests"), str(TOP / "tests/browser")]
 
-from walk_parts import cases  # pylint: disable=wrong-import-position
+from walk_parts import cases, speech  # pylint: disable=wrong-import-position
 from walk_parts.ledger import Ledger, Permit, Write
 from walk_parts.recorder import Recorder
 from walk_parts.words import Words, read_words
@@ -129,7 +129,29 @@ def test_a_standing_is_that_of_its_day(words: Words) -> None:
     assert "verdict" in str(fault(text.replace("✓", "✗"), desk))
     assert "last day" in str(fault(text.replace("30", "29"), desk))
     assert "suspension" in str(fault(text, {**desk, "suspended": True}))
+    days = f"✗ Rider 7 may not ride. Suspended from Wednesday, May 14, 2025 through Tuesday, May 27, 2025. {text}"
+    letter = (4, "DATE 2025-05-13\nDECISION suspended\nFROM 2025-05-14\nTO 2025-05-27\n")
+    later = (5, "DATE 2025-05-15\nDECISION suspension overturned\n")
+    held = cases.suspension_on("2025-05-19", [letter])
+    assert held == ("2025-05-14", "2025-05-27")
+    assert cases.suspension_on("2025-05-28", [letter]) is None
+    assert cases.suspension_on("2025-05-19", [letter, later]) is None
+    shown = {"verdict": "✗ Rider 7 may not ride.", "text": days, "age": ""}
+    suspended = {**desk, "suspended": True}
+    assert cases.fault_of_standing(shown, suspended, words, "en", held) is None
+    other = ("2025-05-14", "2025-05-28")
+    assert "days" in str(cases.fault_of_standing(shown, suspended, words, "en", other))
+    assert "days" in str(cases.fault_of_standing(shown, suspended, words, "en", None))
+    assert "suspension" in str(cases.fault_of_standing(shown, desk, words, "en", None))
     assert "denies" in str(fault(text, {"denied": "desk.unknown"}))
+
+
+def test_a_window_in_a_sentence_has_its_article() -> None:
+    halves = ("a. m.", "p. m.")
+    assert "12:48 y la 1:18 p. m." in speech.in_words(speech.window(768, 798, halves))
+    assert "12:48 y las 1:18 p. m." not in speech.in_words(speech.window(768, 798, halves))
+    assert "11:45 y las 11:59 p. m." in speech.in_words(speech.window(1425, 1439, halves))
+    assert "10:00 AM and 1:00 PM" in speech.in_words(speech.window(600, 780))
 
 
 PAGE = """<main><section id=first><h2>First</h2><table><thead><tr><th>Rider</th></tr></thead><tbody>

@@ -2,13 +2,14 @@
 
 import random
 import re
+import time
 from collections.abc import Callable, Iterator
 from dataclasses import dataclass
 from typing import TYPE_CHECKING
 
 from selenium.webdriver.common.keys import Keys
 
-from walk_parts import speech
+from walk_parts import shown, speech
 from walk_parts.page import Control
 
 if TYPE_CHECKING:
@@ -27,6 +28,9 @@ class Act:
 
 Task = Iterator[Act]
 PLACES_TYPED = 4
+# Seconds in which a form says what is wrong in its fields; and how often somebody is gone before the desk has answered.
+SENT, LEAVES = 0.15, 0.06
+OPEN = "return Boolean(document.querySelector('dialog[open]'))"
 
 
 def press(walker: "Walker", control: Control, by_key: bool | None = None) -> Act:
@@ -38,6 +42,23 @@ def press(walker: "Walker", control: Control, by_key: bool | None = None) -> Act
         walker.before_press(control)
         walker.page.press(control, keyed, twice)
     return Act(f"{'twice ' if twice else ''}{'Enter on' if keyed else 'click on'} {control.kind} {control.name!r}", do, keyed)
+
+
+def leave_at_once(walker: "Walker", control: Control) -> Act | None:
+    """Sends a form and goes to another part before the desk has answered anything; None where there is no other part."""
+    others = [it for it in walker.look.of("link") if it.name in walker.parts]
+    other = walker.choice.choice(others) if others else None
+    if not other:
+        return None
+
+    def do() -> None:
+        walker.before_press(control)
+        with walker.town.recorder.hold():
+            walker.page.press(control, True)
+            time.sleep(SENT)
+            if not walker.browser.script(shown.FAULTS) and not walker.browser.script(OPEN):
+                walker.page.press(other, False)
+    return Act(f"Enter on {control.kind} {control.name!r}, and on to {other.name!r} before the desk answers", do)
 
 
 def type_into(walker: "Walker", control: Control, text: str) -> Act:
@@ -181,7 +202,7 @@ def book(walker: "Walker") -> Task:
     yield from fill_place(walker, "booking.to", end)
     yield from fill_when(walker, several=True)
     if sends := button(walker, "booking.book", submits=True):
-        yield press(walker, sends[-1])
+        yield (walker.choice.random() < LEAVES and leave_at_once(walker, sends[-1])) or press(walker, sends[-1])
         yield from after_booking(walker)
     sends = button(walker, "booking.book", submits=True)
     if sends and walker.choice.random() < 0.2:
@@ -232,7 +253,7 @@ def change(walker: "Walker") -> Task:
         yield press(walker, walker.choice.choice(changes))
         yield from fill_when(walker, several=False)
         if sends := button(walker, "booking.change-of", submits=True):
-            yield press(walker, sends[0])
+            yield (walker.choice.random() < LEAVES and leave_at_once(walker, sends[0])) or press(walker, sends[0])
             yield from after_booking(walker)
         if closes := button(walker, "booking.leave"):
             if walker.choice.random() < 0.5:
@@ -338,6 +359,15 @@ def at_the_stop(walker: "Walker") -> Task:
         yield press(walker, walker.choice.choice(found))
         if walker.look.dialog:
             yield walker.answer_dialog(0.8)
+
+
+def home(walker: "Walker") -> Act | None:
+    """Goes back to the screen of one's own role, for whoever is curious at another one; None for who is there, or has no choice."""
+    if walker.look.address.startswith(f"#{walker.here.role}"):
+        return None
+    screens = field(walker, "common.screen", ("list",))
+    own = next((it for it in screens.choices if walker.words.is_text(it, f"signing.{walker.here.role}")), None) if screens else None
+    return choose(walker, screens, own) if screens and own else None
 
 
 HARMLESS = ("button", "summary", "link", "checkbox", "radio", "list", "combo")

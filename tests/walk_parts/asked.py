@@ -125,6 +125,13 @@ def not_changed(legs: list[dict[str, Any]], permit: Permit, words: Words) -> Ite
             yield PLAN, f"the change of trip {permit.trip} is denied, and told as {leg['heading'][:120]!r}"
 
 
+def left_unsaid(permit: Permit, exchanges: list[Exchange], says: list[str]) -> Fault | None:
+    """A form that was left before anything went out, of which nothing is said."""
+    if any(it.is_write for it in exchanges) or says:
+        return None
+    return DONE, f"{permit} was confirmed and its part left, nothing was asked, and nothing says so"
+
+
 def never_asked(permit: Permit, exchanges: list[Exchange], is_told: bool) -> Fault | None:
     """A yes that led to nothing at all."""
     asked = any(it.is_write for it in exchanges)

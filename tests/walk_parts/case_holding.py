@@ -2,7 +2,7 @@
 
 import time
 from collections.abc import Iterator
-from typing import TYPE_CHECKING
+from typing import TYPE_CHECKING, Any
 
 from walk_parts import cases, shown
 from walk_parts.asked import DONE, REPLY
@@ -15,18 +15,17 @@ AGE = "what is shown has an age"
 # Lists of what waits that a reader has from the site's log in place of the night's list.
 LIVE = {"clerk": {"offers", "in-part"}, "dispatcher": {"offers"}, "examiner": {"in-part"}, "officer": set[str]()}
 PATIENCE = 10.0
-# The parts of screens that show a case.
-SCREENS = ("#clerk/file", "#examiner", "#officer", "#rider/standing", "#rider/letters")
 
 
-def faults(walker: "Walker") -> Iterator[tuple[str, str, float]]:
-    """What a case shows otherwise than the desk has it. What agrees is counted."""
-    rider, language, town = walker.look.subject, walker.look.language, walker.town
-    case = walker.browser.script(cases.CASE) if rider and walker.look.address.startswith(SCREENS) else {"standings": [], "letters": [], "done": []}
+def faults(walker: "Walker", given: dict[str, Any] | None) -> Iterator[tuple[str, str, float]]:
+    """What a case shows otherwise than the desk has it: given is what stands there. What agrees is counted."""
+    rider, language, town = walker.look.subject or 0, walker.look.language, walker.town
+    case = given or {"standings": [], "letters": [], "done": []}
     for it in case["standings"]:
         day = cases.first_day(it["verdict"], language)
         standing = town.ask("third clerk", f"/riders/{rider}/standing/{day}") if day else {"standing": "none", "suspended": False}
-        yield from told(walker, AGE, cases.fault_of_standing(it, standing, walker.words, language) if day else f"a standing without a day: {it['verdict']!r}")
+        suspension = cases.suspension_on(day, town.letters(rider)) if day and standing.get("suspended") else None
+        yield from told(walker, AGE, cases.fault_of_standing(it, standing, walker.words, language, suspension) if day else f"a standing without a day: {it['verdict']!r}")
     texts = walker.words.texts[language]
     for it in case["letters"]:
         if it["letters"] or it["says"] == texts["cases.letters-none"]:
@@ -54,7 +53,8 @@ def told(walker: "Walker", rule: str, fault: str | None) -> Iterator[tuple[str, 
 def said_as_done(walker: "Walker", done: list[list[str]]) -> Iterator[tuple[str, str, float]]:
     """What is said to be done was accepted since the page was loaded."""
     key, rider = walker.town.keys[walker.here.holder], walker.look.subject
-    for kind, text in done:
+    for form, text in done:
+        kind = cases.done_kind(form, text, walker.words)
         entry = cases.ENTRIES.get(kind, kind)
         taken = [it for it in walker.town.recorder.of_key(key, walker.look.loaded / 1000)
                  if it.is_done and it.path == f"/riders/{rider}/entries" and it.fields.get("entry") == entry]
@@ -110,7 +110,7 @@ def hold_entry(walker: "Walker", loaded: float) -> None:
 def fault_of_entry(walker: "Walker", permit: Permit, at: int) -> str | None:
     """What is wrong of an entry that was confirmed, or None."""
     tries = [it for it in walker.town.recorder.since(at) if it.key == permit.key and it.path == f"/riders/{permit.rider}/entries" and it.fields.get("entry") == permit.entry]
-    says, denials = [kind for kind, _ in walker.browser.script(cases.CASE)["done"]], walker.browser.script(shown.FAULTS)
+    says, denials = [cases.done_kind(kind, text, walker.words) for kind, text in walker.browser.script(cases.CASE)["done"]], walker.browser.script(shown.FAULTS)
     if not tries:
         return f"{permit} ({permit.path}) was confirmed, and nothing was asked"
     if any(it.is_done for it in tries):

@@ -20,7 +20,8 @@ const letters = [...document.querySelectorAll(".card")].filter((it) => seen(it) 
         letters: [...card.querySelectorAll(":scope > ol.letters > li")].map((it) => ({ heading: plain(it.querySelector("h3")?.textContent), text: it.querySelector("pre")?.textContent ?? "",
             whole: plain(it.innerText), offers: Boolean(it.querySelector(":scope > .row button.danger")), parts: [...it.querySelectorAll(":scope > p")].map((one) => plain(one.textContent)) })) }));
 const done = [...[...document.querySelectorAll("details.entry[data-entry] p.good")].map((it) => [it.closest("details").dataset.entry, it]),
-    ...[...document.querySelectorAll("[id^=answer-letter-] p.good")].map((it) => ["appeal", it])].filter(([, it]) => seen(it)).map(([kind, it]) => [kind, plain(it.textContent)]);
+    ...[...document.querySelectorAll("[id^=answer-letter-] p.good")].map((it) => ["appeal", it]),
+    ...[...document.querySelectorAll("[id^=appeals-] p.good")].map((it) => ["", it])].filter(([, it]) => seen(it)).map(([kind, it]) => [kind, plain(it.textContent)]);
 return { standings, letters, done };
 """
 ROWS = HEAD + """
@@ -53,16 +54,26 @@ def first_day(text: str, language: str) -> str | None:
     return f"{found[3]}-{speech.MONTHS_ES.index(found[2]) + 1:02}-{int(found[1]):02}"
 
 
-def fault_of_standing(shown: dict[str, Any], standing: dict[str, Any], words: Words, language: str) -> str | None:
-    """How a standing differs from the desk's of that day, or None."""
+def suspension_on(day: str, letters: list[tuple[int, str]]) -> tuple[str, str] | None:
+    """The first and the last day of the suspension that holds on a day, by the rider's letters; None where they have none."""
+    known = [lines_of(text) for _, text in letters]
+    found = [at for at, it in enumerate(known) if it.get("DECISION") == "suspended" and it["FROM"] <= day <= it["TO"]]
+    is_lifted = not found or any(it.get("DECISION") == "suspension overturned" for it in known[found[-1] + 1:])
+    return None if is_lifted else (known[found[-1]]["FROM"], known[found[-1]]["TO"])
+
+
+def fault_of_standing(shown: dict[str, Any], standing: dict[str, Any], words: Words, language: str, suspension: tuple[str, str] | None = None) -> str | None:
+    """How a standing differs from the desk's of that day, or None. suspension has the days of the one that holds, as far as a letter has them."""
     if shown["age"]:
         return None
     text, kind = shown["text"], standing.get("standing", "none")
     if "denied" in standing:
         return f"the standing says {shown['verdict']!r}, and the desk denies {standing['denied']}"
     texts, may = words.texts[language], kind in RIDES and not standing["suspended"]
+    has_days = begin_of(words, "cases.suspended-days", language) in text
     wanted = [("verdict", shown["verdict"].startswith("✓" if may else "✗")), ("reason", texts.get(f"cases.why-{kind}", "") in text),
-              ("suspension", (texts["cases.suspended"] in text) == bool(standing["suspended"])),
+              ("suspension", (texts["cases.suspended"] in text or has_days) == bool(standing["suspended"])),
+              ("days of the suspension", not has_days or (suspension is not None and all(speech.day_of(it, language) in text for it in suspension))),
               ("last day", not standing.get("until") or speech.day_of(standing["until"], language) in text)]
     several = standing.get("conditions") or []
     wanted += [("choice of conditions", len(several) < 2 or (" or " if language == "en" else " o ") in text)]
@@ -112,6 +123,11 @@ def begin_of(words: Words, key: str, language: str) -> str:
     """How a text begins, up to its first value."""
     pattern = words.patterns[language][key].pattern
     return re.sub(r"\\(.)", r"\1", pattern.split("(.+?)")[0])
+
+
+def done_kind(kind: str, text: str, words: Words) -> str:
+    """Which kind of entry is said to be done: that of its form, or by its words where the form has gone with what it decided."""
+    return kind or next((it for it in KINDS if words.is_text(text, f"cases.done-{it}")), text)
 
 
 def kind_of(name: str, words: Words) -> str | None:

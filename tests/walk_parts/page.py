@@ -10,8 +10,12 @@ from selenium.common.exceptions import JavascriptException, WebDriverException
 from selenium.webdriver.common.action_chains import ActionChains
 from selenium.webdriver.common.keys import Keys
 
+from walk_parts import shown
+
 # Milliseconds without a change after which a page is still, and after which it counts as still in any case.
-QUIET, MOST = 90, 2500
+QUIET, MOST = 60, 2500
+# Seconds that a script may take.
+SCRIPT = 20
 
 LOOK = scripts.NAMING + """
 const shown = (it) => it && seen(it) && !it.closest("[inert]");
@@ -46,16 +50,21 @@ return { controls, texts, denials, address: location.hash, language: document.do
     sign: plain(document.querySelector("#line")?.textContent), notes: plain(document.querySelector("#notes")?.innerText),
     signedIn: !document.body.classList.contains("signed-out") && Boolean(sessionStorage.getItem("desk.key")), busy: [...document.querySelectorAll(".legs .waiting")].some((it) => it.textContent.includes("…")),
     subject: Number(sessionStorage.getItem("desk.subject.rider")) || null, vehicle: Number(sessionStorage.getItem("desk.subject.vehicle")) || null,
-    loaded: performance.timeOrigin };
+    loaded: performance.timeOrigin, shown: """ + shown.ALL + """ };
 """
 STILL = """
 const [quiet, most, done] = arguments;
 let waits = setTimeout(end, quiet);
 const watch = new MutationObserver(() => { clearTimeout(waits); waits = setTimeout(end, quiet); });
 const last = setTimeout(end, most);
-function end() { watch.disconnect(); clearTimeout(last); clearTimeout(waits); done(); }
+function end() { watch.disconnect(); clearTimeout(last); clearTimeout(waits); done(told()); }
 watch.observe(document, { subtree: true, childList: true, attributes: true, characterData: true });
 """
+# A wait until the page is still, and the look at it then: in one call, since each call costs more than what it does.
+STILL_LOOK = f"const told = () => {{ try {{ return look(); }} catch (error) {{ return null; }} }};\nconst look = () => {{ {LOOK} }};\n{STILL}"
+# The element of a control of the last look, with the focus or in the middle of the window.
+FOCUSED = "const it = window.walkElements?.[arguments[0]] ?? null; it.focus(); return it;"
+IN_VIEW = "const it = window.walkElements?.[arguments[0]] ?? null; it.scrollIntoView({ block: 'center' }); return it;"
 
 
 @dataclass(frozen=True)
@@ -78,7 +87,7 @@ class Control:
 
 @dataclass
 class Look:
-    """What is on the page at a moment. Of a denial: what it says, the whole of it, and whether the page keeps it beyond a reload."""
+    """What is on the page at a moment. Of a denial: what it says, the whole of it, and whether the page keeps it beyond a reload; shown is what is held against the desk."""
 
     controls: list[Control]
     texts: list[tuple[str, str]]
@@ -96,6 +105,7 @@ class Look:
     vehicle: int | None
     loaded: float
     at: int
+    shown: dict[str, Any]
     whole: str = field(default="")
 
     def of(self, kind: str, name: str = "") -> list[Control]:
@@ -114,7 +124,7 @@ def look_of(given: dict[str, Any]) -> Look:
     texts = [(text, language) for text, language in given["texts"]]
     return Look(controls, texts, [(a, b, c) for a, b, c in given["denials"]], given["address"], given["language"],
                 given["dialog"], given["focus"], given["sign"], given["notes"], given["signedIn"], given["hidden"], given["busy"],
-                given["subject"], given["vehicle"], given["loaded"], given["at"], "\n".join(text for text, _ in texts))
+                given["subject"], given["vehicle"], given["loaded"], given["at"], given["shown"], "\n".join(text for text, _ in texts))
 
 
 class Page:
@@ -122,14 +132,16 @@ class Page:
 
     def __init__(self, browser: Browser) -> None:
         self.browser = browser
+        browser.driver.set_script_timeout(SCRIPT)
 
-    def still(self) -> None:
-        """Waits until the page has stopped to change."""
+    def still(self) -> Look:
+        """Waits until the page has stopped to change, and looks at it."""
         try:
-            self.browser.driver.set_script_timeout(20)
-            self.browser.driver.execute_async_script(STILL, QUIET, MOST)
+            if given := self.browser.driver.execute_async_script(STILL_LOOK, QUIET, MOST):
+                return look_of(given)
         except WebDriverException:
             time.sleep(QUIET / 1000)
+        return self.look()
 
     def look(self) -> Look:
         """What is there now. A page that is being loaded is looked at once it is there."""
@@ -148,13 +160,11 @@ class Page:
 
     def press(self, control: Control, by_key: bool, twice: bool = False) -> None:
         """A click, or the focus and a key; twice as by a hand that trembles."""
-        element = self.element(control)
+        element = self.browser.script(FOCUSED if by_key else IN_VIEW, control.at)
         if by_key:
-            self.browser.script("arguments[0].focus()", element)
             key = Keys.SPACE if control.kind in ("checkbox", "radio", "summary") else Keys.ENTER
             ActionChains(self.browser.driver).send_keys(*([key] * (2 if twice else 1))).perform()
         else:
-            self.browser.script("arguments[0].scrollIntoView({ block: 'center' })", element)
             if twice:
                 ActionChains(self.browser.driver).double_click(element).perform()
             else:
@@ -162,8 +172,7 @@ class Page:
 
     def type_into(self, control: Control, text: str) -> None:
         """Replaces what is in a field by a text, by keys."""
-        element = self.element(control)
-        self.browser.script("arguments[0].focus()", element)
+        self.browser.script(FOCUSED, control.at)
         keys = ActionChains(self.browser.driver).key_down(Keys.CONTROL).send_keys("a").key_up(Keys.CONTROL)
         keys.send_keys(Keys.DELETE).send_keys(text).perform()
 

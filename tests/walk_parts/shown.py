@@ -4,6 +4,7 @@ from dataclasses import dataclass
 from typing import Any
 
 from walk_parts import speech
+from walk_parts.cases import CASE
 from walk_parts.words import Words
 
 TRIPS = """
@@ -54,11 +55,22 @@ return [...document.querySelectorAll(".legs > li")].filter((it) => seen(it) && !
     window: plain(it.querySelector(".ticket .window")?.textContent), offer: Boolean(it.querySelector(".offer")), waiting: it.classList.contains("waiting") && it.textContent.includes("…"),
     refused: Boolean(it.querySelector(".refused")), inner: Boolean(it.closest(".inner")) }));
 """
+LEFT = """
+const plain = (text) => (text ?? "").replace(/\\s+/g, " ").trim();
+const seen = (it) => it.checkVisibility({ visibilityProperty: true });
+return [...document.querySelectorAll("[data-sent-list] li, #notes li")].filter((it) => seen(it) && it.matches(".left, .unsent")).map((it) => plain(it.textContent)).filter(Boolean);
+"""
 FAULTS = """
 const plain = (text) => (text ?? "").replace(/\\s+/g, " ").trim();
 const seen = (it) => it.checkVisibility({ visibilityProperty: true });
 return [...document.querySelectorAll(".fault, [role=alert]")].filter(seen).map((it) => plain(it.textContent)).filter(Boolean);
 """
+# The parts of screens that show a case.
+SCREENS = ("#clerk/file", "#examiner", "#officer", "#rider/standing", "#rider/letters")
+IS_CASE = f"{list(SCREENS)}.some((it) => location.hash.startsWith(it))"
+# What is compared after each step, as a value of a script: trips, the card of a rider, the trips of a day, a driver's stops, a case.
+ALL = "{ " + ", ".join(f"{name}: (() => {{ {script} }})()" for name, script in (
+    ("trips", TRIPS), ("card", CARD), ("day", DAY_TRIPS), ("stops", STOPS), ("case", f"if (!{IS_CASE}) return null; {CASE}"))) + " }"
 TICKS = {"presumed", "appeal-overdue", "granted", "visitor"}
 
 
@@ -81,7 +93,7 @@ def fault_of_trips(shown: dict[str, Any], trips: list[dict[str, Any]], names: Na
     for number, trip in wanted.items():
         text = rows[number]
         window = speech.window(trip["window_from"], trip["window_to"], halves)
-        if not any(window.replace(speech.DASH, between) in text for between in (speech.DASH, " and ", " y ", " y las ")):
+        if not any(it in text for it in speech.in_words(window)):
             return f"trip {number} of rider {shown['rider']} has the window {window}, but {text[:200]!r}"
         for end in ("from", "to"):
             name = names.places.get(trip[end])

@@ -18,6 +18,12 @@ def window(start: int, end: int, halves: tuple[str, str] = ("AM", "PM")) -> str:
     return f"{one.split(' ')[0] if same else one}{DASH}{other}"
 
 
+def in_words(between: str) -> tuple[str, ...]:
+    """The ways in which a window stands in a sentence; Spanish has its article before the second time: y las 12:15, y la 1:15."""
+    article = "la" if between.partition(DASH)[2].startswith("1:") else "las"
+    return tuple(between.replace(DASH, it) for it in (DASH, " and ", " y ", f" y {article} "))
+
+
 def day_short(day: str) -> str:
     """Mon, Mar 10."""
     it = datetime.date.fromisoformat(day)

@@ -26,12 +26,18 @@ from walk_parts.words import Words
 
 # Seconds after which a comparison counts, after which a list has to know what another device wrote, and a new day.
 PATIENCE, OUTSIDE, NEW_DAY = 10.0, 42.0, 55.0
+# Seconds by which the clock of a page goes on then, so that it reads again by itself at once.
+HALF_A_MINUTE = 31
 # The hour from which on the next thing that the clock does is to pass midnight; and so many windows.
 LATE, MOST_WINDOWS = 20, 3
+# How often somebody who looked at another role's screen goes back to the own one.
+RETURNS = 0.3
 # How much more often the one thing is done that is mostly done.
 MOSTLY = 10
 # Steps after which a walk that ends at its first breach holds what was counted against the log.
 OFTEN = 40
+# Steps after which the browser's console is read.
+READ = 4
 BREAKS = [LOST, UNHEARD, HALF, NO_MEMORY, NO_STORE, NONSENSE, CROWDED]
 RARE = ("suspended", "suspension appealed", "conditional", "presumed", "temporary")
 NO_ANSWERS = ("common.no-go-back", "common.no")
@@ -124,9 +130,8 @@ class Walker:
         if self.here.role == "rider" and self.choice.random() < 0.9:
             self.browser.script("sessionStorage.setItem('desk.subject.rider', arguments[0])", self.here.holder.split()[1])
             self.browser.reload()
-        self.here.task = None
-        self.page.still()
-        self.look = self.page.look()
+        self.here.task, self.confirmed = None, None
+        self.look = self.page.still()
         self.note_parts()
 
     def note_parts(self) -> None:
@@ -139,8 +144,7 @@ class Walker:
         with contextlib.suppress(WebDriverException):
             self.browser.devtools("Page.bringToFront")
         self.here = window
-        self.page.still()
-        self.look = self.page.look()
+        self.look = self.page.still()
         self.note_parts()
 
     # What is done next.
@@ -169,6 +173,9 @@ class Walker:
         if self.choice.random() < 0.06:
             for act in acts.anything(self):
                 return act
+        if self.choice.random() < RETURNS and (home := acts.home(self)):
+            self.here.task = None
+            return home
         for _ in range(12):
             if self.here.task is None:
                 weights = self.tasks()
@@ -241,7 +248,7 @@ class Walker:
         self.confirmed = (permit, self.town.recorder.count(), self.place())
 
     def place(self) -> str:
-        """The window and the part of the screen. Who leaves it before a form is sent has withdrawn it."""
+        """The window and the part of the screen. Who leaves it before a form is sent is told so."""
         return f"{self.here.handle} {self.look.address}"
 
     def number_in(self, text: str, key: str) -> int | None:
@@ -343,6 +350,12 @@ class Walker:
             self.town.goes_to((now + datetime.timedelta(days=1)).replace(hour=0, minute=5))
         else:
             self.town.goes_to(now + datetime.timedelta(minutes=more))
+        self.half_a_minute()
+
+    def half_a_minute(self) -> None:
+        """So much passes by the clock of this page: what it shows is due to be read again."""
+        with contextlib.suppress(WebDriverException):
+            self.browser.passes(HALF_A_MINUTE)
 
     def outside(self) -> None:
         """Another device cancels or books a trip of the rider who is shown, beside the site."""
@@ -353,6 +366,7 @@ class Walker:
             self.town.ask("third clerk", f"/trips/{self.choice.choice(stands)['trip']}/cancel", {})
         else:
             self.town.book_one(rider, self.choice.choice(self.bookable()), self.choice)
+        self.half_a_minute()
 
     # The loop.
 
@@ -364,7 +378,9 @@ class Walker:
             self.choice = random.Random(f"{self.report.seed} {self.number}")
             self.one_step()
             if first and self.number % OFTEN == 0 and not self.report.breaches:
+                here = self.here
                 self.at_the_end()
+                self.go_to(here)
         self.at_the_end()
 
     def one_step(self) -> None:
@@ -389,8 +405,9 @@ class Walker:
             self.recover()
             return
         except WebDriverException as error:
+            # (what was not pressed was not confirmed)
             self.report.did(self.number, f"(not done: {str(error).splitlines()[0][:100]})")
-            self.here.task = None
+            self.here.task, self.confirmed, self.entered = None, None, None
         try:
             self.settle()
             self.hold(act, loaded)
@@ -407,14 +424,11 @@ class Walker:
 
     def settle(self) -> None:
         """Waits until the page is still and nothing is under way, as long as a person would."""
-        self.page.still()
         end = time.monotonic() + (1.0 if self.offline else PATIENCE)
-        while time.monotonic() < end:
-            self.look = self.page.look()
-            if not self.look.busy and not self.town.recorder.open:
-                return
+        self.look = self.page.still()
+        while time.monotonic() < end and (self.look.busy or self.town.recorder.open):
             time.sleep(0.05)
-            self.page.still()
+            self.look = self.page.still()
 
     # What has to hold.
 
@@ -426,14 +440,10 @@ class Walker:
         began = time.monotonic()
         while True:
             faults = list(self.faults(act, loaded))
-            if not faults:
-                break
             if all(self.report.is_known(rule, text) for rule, text, _ in faults):
                 break
-            now = time.monotonic()
-            patience = max([began + PATIENCE, *(it for _, _, it in faults)])
-            if now > patience:
-                for rule, text, _ in faults:
+            if late := [it for it in faults if time.monotonic() > max(began + PATIENCE, it[2])]:
+                for rule, text, _ in late:
                     self.report.breaks(rule, text, self.here.role)
                 break
             time.sleep(0.3)
@@ -441,7 +451,8 @@ class Walker:
             self.look = self.page.look()
         self.legs(loaded)
         case_holding.hold_entry(self, loaded)
-        self.errors()
+        if self.number % READ == 0:
+            self.errors()
 
     def legs(self, loaded: float) -> None:
         """What came of a form that was sent, once it has come to its end."""
@@ -450,6 +461,8 @@ class Walker:
         permit, at, place = self.confirmed
         if place != self.place() or self.look.loaded != loaded or self.offline or not permit.rider or self.look.subject != permit.rider:
             self.confirmed = None
+            if place.split(" ")[0] == self.here.handle and not self.offline and permit in self.ledger.permits:
+                self.left(permit, at)
             return
         end = time.monotonic() + PATIENCE
         while True:
@@ -482,6 +495,19 @@ class Walker:
             self.report.breaks(rule, text, self.here.role)
         if not checks:
             self.report.holds(asked.DONE, len(found) or 1)
+
+    def left(self, permit: Permit, at: int) -> None:
+        """Who leaves a form that was sent reads that nothing of it went out; or something did, and then it goes on."""
+        end = time.monotonic() + PATIENCE
+        while fault := asked.left_unsaid(permit, [it for it in self.town.recorder.since(at) if it.key == permit.key], self.browser.script(shown.LEFT)):
+            self.look = self.page.look()
+            if self.look.sign or self.look.dialog or not self.look.signed_in:
+                return
+            if time.monotonic() > end:
+                self.report.breaks(*fault, self.here.role)
+                return
+            time.sleep(0.2)
+        self.report.holds(asked.DONE)
 
     def leg(self, leg: dict[str, Any], permit: Permit, trips: dict[int, dict[str, Any]], sent: dict[str, Any]) -> list[asked.Fault | None]:
         """One leg: as it was said, or denied as the desk itself denies it; and what has to be counted of it. sent is what was asked last: who comes along."""
@@ -521,6 +547,7 @@ class Walker:
         if "trip" in reply:
             self.town.ask("third clerk", f"/trips/{reply['trip']}/cancel", {})
             self.stale[fields["rider"]] = time.monotonic() + OUTSIDE
+            self.half_a_minute()
         return reply
 
     def halves(self) -> tuple[str, str]:
@@ -563,8 +590,8 @@ class Walker:
     def faults_of_lists(self) -> list[tuple[str, str, float]]:
         """Lists and cards that differ from the desk's present answer."""
         found: list[tuple[str, str, float]] = []
-        halves = self.halves()
-        for card in self.browser.script(shown.TRIPS):
+        halves, look, role, given = self.halves(), self.look, self.here.role, self.look.shown
+        for card in given["trips"]:
             if card["empty"] and "…" in card["text"]:
                 found.append(("what is shown has an age", f"the list of rider {card['rider']} is not read: {card['text'][:100]}", self.grace))
                 continue
@@ -573,31 +600,31 @@ class Walker:
                 found.append(("what is shown has an age", fault, max(self.grace, self.stale.get(card["rider"], 0.0))))
             else:
                 self.report.holds("what is shown has an age")
-        found.extend(self.faults_of_days(halves))
-        found.extend(case_holding.faults(self))
-        card = self.browser.script(shown.CARD) if self.here.role == "clerk" and self.look.address.startswith("#clerk") else None
-        if card and self.look.subject:
-            standing = self.town.ask("third clerk", f"/riders/{self.look.subject}/standing/{self.town.today}")
-            fault = shown.fault_of_card(card, standing, self.words, self.look.language)
+        found.extend(self.faults_of_days(given["day"] if role == "dispatcher" else None, given["stops"] if role == "driver" else None, halves))
+        found.extend(case_holding.faults(self, given["case"] if look.subject else None))
+        card = given["card"]
+        if card and look.subject and role == "clerk" and look.address.startswith("#clerk"):
+            standing = self.town.ask("third clerk", f"/riders/{look.subject}/standing/{self.town.today}")
+            fault = shown.fault_of_card(card, standing, self.words, look.language)
             if fault:
                 found.append(("what is shown has an age", fault, self.grace))
             else:
                 self.report.holds("what is shown has an age")
         return found
 
-    def faults_of_days(self, halves: tuple[str, str]) -> list[tuple[str, str, float]]:
+    def faults_of_days(self, trips: dict[str, Any] | None, stops: dict[str, Any] | None, halves: tuple[str, str]) -> list[tuple[str, str, float]]:
         """The trips of a day at the dispatcher's, and the stops at a driver's."""
         rule, fault = "what is shown has an age", None
-        if self.here.role == "dispatcher" and (given := self.browser.script(shown.DAY_TRIPS)):
-            if not re.fullmatch(r"\d{4}-\d\d-\d\d", given["day"]):
+        if trips:
+            if not re.fullmatch(r"\d{4}-\d\d-\d\d", trips["day"]):
                 return []
-            csv = self.town.ask("dispatcher", f"/days/{given['day']}/trips.csv")
-            fault = shown.fault_of_day(given, csv, self.words, self.look.language, halves) if isinstance(csv, str) else None
-        elif self.here.role == "driver" and (given := self.browser.script(shown.STOPS)):
-            if self.look.language == "en" and given["day"] != speech.day_long(self.town.today):
+            csv = self.town.ask("dispatcher", f"/days/{trips['day']}/trips.csv")
+            fault = shown.fault_of_day(trips, csv, self.words, self.look.language, halves) if isinstance(csv, str) else None
+        elif stops:
+            if self.look.language == "en" and stops["day"] != speech.day_long(self.town.today):
                 return []
             text = self.town.ask("driver 1", f"/vehicles/1/manifest/{self.town.today}")
-            fault = shown.fault_of_stops(given, text, halves) if isinstance(text, str) and self.look.language == "en" else None
+            fault = shown.fault_of_stops(stops, text, halves) if isinstance(text, str) and self.look.language == "en" else None
         else:
             return []
         if fault:
@@ -640,6 +667,7 @@ class Walker:
 
     def at_the_end(self) -> None:
         """What was counted is in the site's log, and nothing waits."""
+        self.errors()
         self.browser.line()
         self.offline = 0
         self.town.recorder.planned.clear()
@@ -662,6 +690,7 @@ class Walker:
         """Whoever sits at a window leaves what stands there in one of the ways in which people do: then nothing is held back any more."""
         with contextlib.suppress(WebDriverException, Trouble):
             self.go_to(window)
+            window.task, self.confirmed, self.entered = None, None, None
             self.browser.line()
             if self.look.dialog:
                 self.page.keys("\ue00c")
