@@ -39,7 +39,7 @@ local CALLER = { "id", "role", "subject", "digest", "name" }
 
 -- The first parts of the paths that have to do with riders, callers or vans. (The last ones are asked for where the desk is away.)
 local RECORDED = {}
-for name in ("callers policy places places.json addresses.json routes vehicles riders trips days staff own drivers record tally away.html away.json"):gmatch("%S+") do
+for name in ("callers policy places places.json routes vehicles riders trips days staff own drivers record tally away.html away.json"):gmatch("%S+") do
     RECORDED[name] = true
 end
 
@@ -528,7 +528,7 @@ function journal.report()
 end
 
 local function asked(v)
-    return v.http_desk_key, v.http_desk_from, v.request_uri, v.uri, get_method(), ngx.status
+    return v.http_desk_key, v.desk_from, v.request_uri, v.uri, get_method(), ngx.status
 end
 
 local function asked_of_write(v)
@@ -544,13 +544,13 @@ end
 local function is_plain_write(v, key, uri, status)
     local number, body, reply = asked_of_write(v)
     if status == 401 or uri == "/callers" or not (number and body and reply) or #body > REFUSED or reply == "" then return false end
-    return #number <= 10 and is_all(IS_DIGIT, number) and is_all(IS_ASCII, body) and is_all(IS_ASCII, reply) and without(key, body) == body
+    return number ~= "" and #number <= 10 and is_all(IS_DIGIT, number) and is_all(IS_ASCII, body) and is_all(IS_ASCII, reply) and without(key, body) == body
 end
 
--- Whether nginx may write the line of this request by itself.
-local function is_plain(v, key, from, sent, uri, method, status)
-    return key and sent and status > 99 and is_plain_path(key, sent, uri) and is_all(IS_PLAIN, from)
-        and (method == "GET" or method == "POST" and is_plain_write(v, key, uri, status))
+-- The digits of the caller where nginx may write the line of this request by itself, else false.
+local function plain_caller(v, key, from, sent, uri, method, status)
+    return key and from and from ~= "" and sent and status > 99 and is_plain_path(key, sent, uri) and is_all(IS_PLAIN, from)
+        and (method == "GET" or method == "POST" and is_plain_write(v, key, uri, status)) and digits_of(key)
 end
 
 -- A request to the desk by the site, which says whose it is. What the site itself asks about a key has "-" for its address.
@@ -558,12 +558,8 @@ function journal.door()
     local v = ngx.var
     local sent_key, from, sent, uri, method, status = asked(v)
     if from == "-" or status == 429 then return end
-    local key, is_told = key_of(sent_key), from ~= nil and from ~= ""
-    if is_told and is_plain(v, key, from, sent, uri, method, status) then
-        set_who(v, method, digits_of(key))
-    else
-        make_line(v, "site", is_told and from or v.remote_addr)
-    end
+    local is_done, who = pcall(plain_caller, v, key_of(sent_key), from, sent, uri, method, status)
+    if is_done and who then set_who(v, method, who) else make_line(v, "site", from ~= "" and from or v.remote_addr) end
 end
 
 -- A request to the desk by a program of this machine.
@@ -580,6 +576,6 @@ function journal.reply()
 end
 
 -- (these have loops behind what they call)
-for _, it in ipairs { line_of, write_fields, make_line, is_plain, journal.door, journal.site } do jit.off(it) end
+for _, it in ipairs { line_of, write_fields, make_line, plain_caller, journal.door, journal.site } do jit.off(it) end
 
 package.loaded.desk_journal = journal
