@@ -1,5 +1,5 @@
 -- A line of the record for each request, as JSON in ASCII: docs/RECORDS.md says what stands in it. No line has a key.
--- deploy/desk.nginx calls what stands at the end of this file, after the request is answered. Of a plain request the
+-- deploy/desk.nginx calls what stands at the end of this file, after the request is answered. Of a plain read the
 -- caller's digits alone are set, and nginx writes the line by itself, which costs less.
 --
 -- LuaJIT compiles a function that has no loop and makes no function, and a loop by itself. nginx's variables cost
@@ -468,11 +468,6 @@ local function set_line(v, told)
     v.desk_line = told
 end
 
--- (one of them, so that nginx writes one line)
-local function set_who(v, method, who)
-    if method == "GET" then v.desk_reader = who else v.desk_writer = who end
-end
-
 -- Makes the line. What stays of one that could not be made: that there was a request, and why.
 local function make_line(v, door, from)
     local is_made, told = pcall(line_of, v, door, from)
@@ -528,38 +523,55 @@ function journal.report()
 end
 
 local function asked(v)
-    return v.http_desk_key, v.desk_from, v.request_uri, v.uri, get_method(), ngx.status
+    return v.http_desk_key, v.desk_from, v.request_uri, get_method(), ngx.status
 end
 
 local function asked_of_write(v)
-    return v.http_desk_number, v.request_body, v.desk_reply
+    return v.http_desk_number, v.request_body, v.desk_reply, floor(now() * 1000 + 0.5), floor(start_time() * 1000 + 0.5)
 end
 
--- Whether a path stands in the line as it was sent: it has no sign that means something else, and no key.
-local function is_plain_path(key, sent, uri)
-    return sent == uri and #sent <= PATH and is_all(IS_OF_PATH, sent) and without_spelled(key, sent) == sent and without_packed(key, sent) == sent
+local function set_reader(v, who)
+    v.desk_reader = who
 end
 
--- Whether nginx may write the line of this write: all of it is ASCII, whole, and has no key.
-local function is_plain_write(v, key, uri, status)
-    local number, body, reply = asked_of_write(v)
-    if status == 401 or uri == "/callers" or not (number and body and reply) or #body > REFUSED or reply == "" then return false end
-    return number ~= "" and #number <= 10 and is_all(IS_DIGIT, number) and is_all(IS_ASCII, body) and is_all(IS_ASCII, reply) and without(key, body) == body
+-- Whether a path stands in the line as it was sent: nginx reads it as the same one, and it has no key.
+local function is_plain_path(key, sent)
+    return is_all(IS_OF_PATH, sent) and #sent <= PATH and not find(sent, "//", 1, true) and not find(sent, "/.", 1, true)
+        and without_spelled(key, sent) == sent and without_packed(key, sent) == sent
 end
 
--- The digits of the caller where nginx may write the line of this request by itself, else false.
-local function plain_caller(v, key, from, sent, uri, method, status)
-    return key and from and from ~= "" and sent and status > 99 and is_plain_path(key, sent, uri) and is_all(IS_PLAIN, from)
-        and (method == "GET" or method == "POST" and is_plain_write(v, key, uri, status)) and digits_of(key)
+-- Whether a body and a reply stand in the line as they were sent, but for what JSON escapes.
+local function is_plain_body(key, number, body, reply)
+    return number and body and reply and number ~= "" and #number <= 10 and #body <= REFUSED and reply ~= "" and is_all(IS_DIGIT, number)
+        and is_all(IS_ASCII, body) and is_all(IS_ASCII, reply) and without(key, body) == body
+end
+
+-- Makes the line of a plain write, and says whether it is one.
+local function make_plain_line(v, key, from, sent, status)
+    if status == 401 or sent == "/callers" then return false end
+    local number, body, reply, finish, start = asked_of_write(v)
+    if not is_plain_body(key, number, body, reply) then return false end
+    set_line(v, joined(finish, "site", from, digits_of(key), ',"number":"' .. number .. '"', "POST", sent, "", status, max(0, finish - start),
+        ',"body":' .. json.encode(body) .. ',"reply":' .. json.encode(reply)))
+    return true
+end
+
+-- Makes the line of a plain request, or leaves that of a read to nginx; and says whether it is one.
+local function is_made_plain(v, key, from, sent, method, status)
+    if not (key and from and from ~= "" and sent and status > 99 and is_all(IS_PLAIN, from) and is_plain_path(key, sent)) then return false end
+    if method == "POST" then return make_plain_line(v, key, from, sent, status) end
+    if method ~= "GET" then return false end
+    set_reader(v, digits_of(key))
+    return true
 end
 
 -- A request to the desk by the site, which says whose it is. What the site itself asks about a key has "-" for its address.
 function journal.door()
     local v = ngx.var
-    local sent_key, from, sent, uri, method, status = asked(v)
+    local sent_key, from, sent, method, status = asked(v)
     if from == "-" or status == 429 then return end
-    local is_done, who = pcall(plain_caller, v, key_of(sent_key), from, sent, uri, method, status)
-    if is_done and who then set_who(v, method, who) else make_line(v, "site", from ~= "" and from or v.remote_addr) end
+    local is_done, is_made = pcall(is_made_plain, v, key_of(sent_key), from, sent, method, status)
+    if not (is_done and is_made) then make_line(v, "site", from ~= "" and from or v.remote_addr) end
 end
 
 -- A request to the desk by a program of this machine.
@@ -576,6 +588,6 @@ function journal.reply()
 end
 
 -- (these have loops behind what they call)
-for _, it in ipairs { line_of, write_fields, make_line, plain_caller, journal.door, journal.site } do jit.off(it) end
+for _, it in ipairs { line_of, write_fields, make_line, make_plain_line, is_made_plain, journal.door, journal.site } do jit.off(it) end
 
 package.loaded.desk_journal = journal

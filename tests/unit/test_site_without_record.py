@@ -26,6 +26,6 @@ def settings() -> str:
 def test_no_lua_is_left_and_no_variable_without_its_meaning() -> None:
     text = settings()
     assert not re.search(r"(?m)^ *\w+_by_lua_", text)
-    assert not re.search(r"\$desk_(line|reader|writer|told|reply)\b", text)
+    assert not re.search(r"\$desk_(line|reader|told|reply)\b", text)
     for name in set(re.findall(r"\$(desk_\w+)\b", text)):
         assert re.search(rf"(?m)^ *(map .*|set |auth_request_set )\${name}\b", text), name
