@@ -19,7 +19,9 @@ PROGRAM, FILE, KEYS = "/usr/bin/desk", "/var/lib/desk/desk.db", "/var/lib/desk-s
 AGENCY, SERVED, WATCH = "/etc/desk/agency.json", "/var/lib/desk-site", "/etc/desk/watch.conf"
 NGINX, SITE, FILES_OF_NGINX = "/etc/nginx/nginx.conf", "/etc/nginx/conf.d/desk.conf", "/etc/nginx/modules-enabled/90-desk.conf"
 TLS, UNITS, SHIPPED = "/etc/ssl/desk", "/etc/systemd/system", "/lib/systemd/system"
-JAVASCRIPT = "/usr/lib/nginx/modules/ngx_http_js_module.so"
+# By which the site keeps its record, as files and as Debian's packages.
+LUA = ("/usr/lib/nginx/modules/ngx_http_lua_module.so", "/usr/lib/*/lua/5.1/cjson.so")
+LUA_PACKAGES = ("libnginx-mod-http-lua", "lua-cjson")
 CONNECTIONS, TOLD = 16_384, "/var/log/desk/tally.log"
 
 
@@ -142,10 +144,14 @@ def make_log():
         shutil.chown(TOLD, "www-data", "adm")
 
 
+def has_lua():
+    return all(glob.glob(it) for it in LUA)
+
+
 def make_record():
     """The folder of the record, and the key that signs each day of it."""
-    if not os.path.exists(JAVASCRIPT):
-        raise Failure("nginx has no JavaScript, by which the site keeps its record: apt install libnginx-mod-http-js")
+    if not has_lua():
+        raise Failure(f"nginx has no Lua, by which the site keeps its record: apt install {' '.join(LUA_PACKAGES)}")
     os.makedirs("/var/log/desk", exist_ok=True)
     run(f"{TOP}/bin/journal", "begin")
 
@@ -209,10 +215,10 @@ def send_test(alarm, lines):
 
 
 def install_nginx(lines):
-    """nginx and its JavaScript, by apt, where they are not installed. It listens from now on, as a desk is set up."""
-    if shutil.which("nginx") and os.path.exists(JAVASCRIPT):
+    """nginx and its Lua, by apt, where they are not installed. It listens from now on, as a desk is set up."""
+    if shutil.which("nginx") and has_lua():
         return True
-    words = ["apt-get", "install", "--yes", "--quiet", "nginx", "libnginx-mod-http-js", "openssl"]
+    words = ["apt-get", "install", "--yes", "--quiet", "nginx", *LUA_PACKAGES, "openssl"]
     given = {"env": {**os.environ, "DEBIAN_FRONTEND": "noninteractive"}, "capture_output": True, "text": True}
     ran = subprocess.run(words, stdin=subprocess.DEVNULL, check=False, **given)
     if ran.returncode and not shutil.which("nginx"):

@@ -1,4 +1,4 @@
-"""deploy/site over a machine that has no JavaScript in nginx: the settings name nothing that is not there."""
+"""deploy/site over a machine that has no Lua in nginx: the settings name nothing that is not there."""
 
 import importlib.machinery
 import importlib.util
@@ -23,9 +23,9 @@ def settings() -> str:
     return text
 
 
-def test_no_javascript_is_left_and_no_variable_without_its_meaning() -> None:
+def test_no_lua_is_left_and_no_variable_without_its_meaning() -> None:
     text = settings()
-    assert not re.search(r"(?m)^ *js_", text)
-    assert not re.search(r"\$desk_(line|digits|told|logged|is_read|is_no_read)\b", text)
-    for name in set(re.findall(r"\$(desk_is_\w+|desk_asked)\b", text)):
-        assert re.search(rf"(?m)^map .*\${name} \{{", text), name
+    assert not re.search(r"(?m)^ *\w+_by_lua_", text)
+    assert not re.search(r"\$desk_(line|reader|told|reply)\b", text)
+    for name in set(re.findall(r"\$(desk_\w+)\b", text)):
+        assert re.search(rf"(?m)^ *(map .*|set |auth_request_set )\${name}\b", text), name

@@ -16,7 +16,7 @@ SUITE = "bookworm"
 # What a machine has before the desk is installed: systemd, what the package takes, and what the trials use.
 PACKAGES = (
     "adduser apt-utils ca-certificates curl dbus debconf dehydrated e2fsprogs faketime gnupg iproute2 libjemalloc2 "
-    "libnginx-mod-http-js logrotate nginx openssh-client openssh-server openssl procps python3 rsync sqlite3 systemd "
+    "libnginx-mod-http-lua logrotate lua-cjson nginx openssh-client openssh-server openssl procps python3 rsync sqlite3 systemd "
     "systemd-sysv systemd-timesyncd tzdata"
 ).split()
 # What a machine of these trials has no use for, or what would wait for a network that never comes.

@@ -1,4 +1,4 @@
-"""A line of the record as deploy/journal.js writes it, read back."""
+"""A line of the record as deploy/journal.lua and nginx write it, read back."""
 
 import base64
 import binascii
@@ -12,7 +12,7 @@ DONE, UNKNOWN_FROM = 200, 499
 # Paths by which the desk takes writes; others are the site's own.
 OF_DESK = re.compile(r"/(callers|policy|places|routes|vehicles|riders|trips)(/|$)")
 MOMENT = re.compile(r"\d{4}-\d\d-\d\dT\d\d:\d\d:\d\d\.\d{3}Z")
-# The moment of a plain read, as nginx itself writes it: seconds since 1970.
+# The moment of a request, as the site writes it: seconds since 1970.
 SECONDS = re.compile(r"(\d{9,11})\.(\d{3})")
 EPOCH = datetime(1970, 1, 1, tzinfo=timezone.utc)
 
