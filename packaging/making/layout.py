@@ -35,6 +35,8 @@ OF_PROOF = """ Every function of the program is proved to meet its contract. The
  the proof is in /usr/share/doc/desk/receipt.json."""
 OF_TRIAL = """ This package is for trial: its program need not be proved. Do not use it for
  real trips."""
+# Whose files say of themselves what they are called.
+OF_TOOLS = ("bin/", "python/desk_tools/")
 SCRIPTS = ["config", "preinst", "postinst", "prerm", "postrm"]
 
 
@@ -48,11 +50,13 @@ def as_packed(text, commands):
     """A document's text with the names of the package. `commands` are the tools of bin/ that it has."""
     for pattern, new in DOCUMENTS:
         text = pattern.sub(new, text)
+    lines = text.splitlines(keepends=True)
+    return "".join(it if COPIES.match(it) else with_tools(it, commands) for it in lines)
 
-    def named(found):
-        return f"desk-{found[1]}" if found[1] in commands else found[0]
 
-    return "".join(it if COPIES.match(it) else TOOL.sub(named, it) for it in text.splitlines(keepends=True))
+def with_tools(text, commands):
+    """A text that calls the tools of bin/ by their installed names, as in what a tool says of itself."""
+    return TOOL.sub(lambda it: f"desk-{it[1]}" if it[1] in commands else it[0], text)
 
 
 class Layout:
@@ -71,6 +75,8 @@ class Layout:
         if b"\0" not in content:
             for old, new in PLACES:
                 content = content.replace(old.encode(), new.encode())
+            if source.startswith(OF_TOOLS):
+                content = with_tools(content.decode(), commands_of(self.top)).encode()
         self.write(name, content, mode)
 
     def document(self, source, name):
