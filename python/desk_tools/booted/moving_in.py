@@ -29,8 +29,6 @@ def check(town: Town) -> None:
         if wanted:
             what = f"what this prints: {commands[:80]}"
             checks.equal(what, DATE.sub("DAY", wanted), DATE.sub("DAY", got))
-    trips = machine.run("sqlite3 -readonly /var/lib/desk/desk.db 'SELECT count(*) FROM trips'")
-    checks.equal("the first trip is in the desk's file", "1", trips.output.strip())
     names = machine.run("cat /var/lib/desk-site/staff/places.json").output
     checks.has("the pages have the places' names", "North End Clinic", names)
     checks.has("the agency keeps its name", office.AGENCY, names_of(town))
