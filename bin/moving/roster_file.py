@@ -6,9 +6,11 @@ is right is used.
 import collections
 import csv
 import io
+import pathlib
 import re
 
 from moving.limits import HIGHEST_NUMBER, Wrong
+from moving.typed import cells, sheets
 
 COLUMNS = ("rider", "name", "telephone", "language", "home", "usual", "aid", "note", "attendant", "reminder", "mail")
 NEEDED, LISTED = ("rider", "name"), {"home", "usual"}
@@ -16,95 +18,66 @@ DRIVERS_COLUMNS = ("rider", "name", "note")
 # What a roster holds, as far as it is right, and a sentence for each thing that is wrong.
 Roster = collections.namedtuple("Roster", "columns riders faults")
 NUMBER, LANGUAGE = re.compile(r"0*[1-9][0-9]{0,9}"), re.compile(r"[a-z]{2,3}(-[A-Za-z0-9]{2,8})*")
-DIGIT, PARTS, BROKEN = re.compile(r"[0-9]"), re.compile(r"[\s;]+"), re.compile("[\udc80-\udcff]")
-# How other encodings begin, and what parts columns elsewhere.
-MARKS = {b"\xff\xfe": "UTF-16", b"\xfe\xff": "UTF-16", b"PK": "a workbook and no CSV"}
+DIGIT, PARTS = re.compile(r"[0-9]"), re.compile(r"[\s;]+")
 # How a rider is reminded of trips: bin/reminders has the same channels.
 REMINDERS, MAIL = ("sms", "mail", "voice", "none"), re.compile(r"[^\s@,;<>\"]+@[A-Za-z0-9][A-Za-z0-9.-]*")
-OTHER_COMMAS = {";": "semicolons", "\t": "tabs"}
 
 
 def read(path, known_places=None):
     """The roster of a file. Where the places are known, a home or a usual place has to be one of them."""
     try:
         with open(path, "rb") as file:
-            content = file.read()
+            content = file.read(sheets.MOST_BYTES + 1)
     except OSError as error:
         raise Wrong(f"{path} can't be read: {error.strerror}") from None
     return of_bytes(content, path, known_places)
 
 
 def of_bytes(content, path, known_places=None):
-    """The roster of these bytes of a file."""
-    found = next((said for mark, said in MARKS.items() if content.startswith(mark)), None)
-    if found:
-        raise Wrong(f"{path} is {found}: save it as CSV UTF-8")
-    faults = []
-    rows = rows_of(content.removeprefix(b"\xef\xbb\xbf").decode("utf-8", "surrogateescape"), faults)
-    header = header_of(next(rows, (1, []))[1], path, faults)
-    riders, seen = [], {}
-    for row, fields in rows:
-        if any(fields):
-            rider = rider_of(header, fields, known_places, lambda said, row=row: faults.append(f"row {row}: {said}"))
-            there = seen.setdefault(rider["rider"], row) if rider else row
-            if there != row:
-                faults.append(f"row {row}: rider {rider['rider']} stands in row {there} already")
-            elif rider:
-                riders.append(rider)
-    faults.sort(key=lambda it: int(it.split(":")[0][4:]))
-    return Roster([it for it in COLUMNS if it in header.values()], riders, faults)
-
-
-def rows_of(text, faults):
-    """Each row with its number. One whose quotation marks are wrong is named, and the next line is read on."""
-    all_lines, at, row = list(io.StringIO(text, newline="")), 0, 0
-    while at < len(all_lines):
-        reader = csv.reader(all_lines[at:], strict=True)
-        start = at
-        try:
-            for fields in reader:
-                row += 1
-                at = start + reader.line_num
-                yield row, fields
-        except csv.Error as error:
-            row += 1
-            faults.append(f"row {row}: its quotation marks are wrong ({error}), so it is left out")
-            at += 1
-
-
-def header_of(fields, path, faults):
-    """The known columns by their places in a row."""
-    names = [it.strip().lower() for it in fields]
-    other = next((it for it in OTHER_COMMAS if len(names) == 1 and it in names[0]), None)
-    if other:
-        raise Wrong(f"{path} has {OTHER_COMMAS[other]} between its columns: save it with commas")
+    """The roster of these bytes of a file, in whatever form a spreadsheet saved it."""
+    try:
+        sheet = sheets.of_bytes(content, pathlib.Path(path), {it: () for it in COLUMNS})
+    except sheets.Unreadable as error:
+        raise Wrong(str(error)) from None
     for name in NEEDED:
-        if name not in names:
+        if name not in sheet.header:
             raise Wrong(f"{path} has no column {name} in its first row, which has to name the columns")
-    for name in COLUMNS:
-        if names.count(name) > 1:
-            faults.append(f"row 1: the column {name} stands twice, and the first one is read")
-    header = {names.index(it): it for it in COLUMNS if it in names}
-    header[len(names)] = None
-    return header
+    faults, riders, seen = [], [], {}
+    for row, fields, reason in rows_of(sheet):
+        faults += [f"row {row}: {reason}"] if reason else []
+        rider = rider_of(fields, known_places, lambda said, row=row: faults.append(f"row {row}: {said}")) if fields else None
+        there = seen.setdefault(rider["rider"], row) if rider else row
+        if there != row:
+            faults.append(f"row {row}: rider {rider['rider']} stands in row {there} already")
+        elif rider:
+            riders.append(rider)
+    return Roster([it for it in COLUMNS if it in sheet.header], riders, faults)
 
 
-def rider_of(header, fields, known_places, said):
+def rows_of(sheet):
+    """Each row with its cells, and what is wrong with the row as a whole. What is right of it is used all the same."""
+    rows = [(it.number, it.fields, "") for it in sheet.rows]
+    for it in sheet.refused:
+        is_lost = len(it.cells) == 1
+        mended = {name: mended_cell(cell) for name, cell in zip(sheet.header, it.cells) if name}
+        rows.append((it.number, {} if is_lost else mended, f"{it.reason}, so it is left out" if is_lost else it.reason))
+    return sorted(rows, key=lambda it: it[0])
+
+
+def mended_cell(cell):
+    """A cell without the signs that no cell has; one that is too long is left out."""
+    return " ".join(sheets.WRONG_SIGN.sub("", cell).split()) if len(cell) <= sheets.MOST_SIGNS else ""
+
+
+def rider_of(fields, known_places, said):
     """The rider of a row, or None where it has no number or no name."""
-    rider = {name: fields[at].strip() for at, name in header.items() if name and at < len(fields)}
-    most = next(it for it, name in header.items() if name is None)
-    if len(fields) > most and any(fields[most:]):
-        said(f"it has {len(fields)} fields, and the first row has {most}: is there a comma without quotation marks?")
-    for name, value in rider.items():
-        if not value.isascii() and BROKEN.search(value):
-            byte = ord(BROKEN.search(value)[0]) - 0xDC00
-            said(f"{name} has the byte {byte:#04x}, which is not UTF-8: save the file as CSV UTF-8")
-            rider[name] = BROKEN.sub("\ufffd", value)
-    if not NUMBER.fullmatch(rider.get("rider", "")) or int(rider["rider"]) > HIGHEST_NUMBER:
+    rider = {name: fields[name] for name in COLUMNS if name in fields}
+    try:
+        rider["rider"] = str(cells.number(rider.get("rider", "")))
+    except cells.WrongCell:
         return said(f"rider {rider.get('rider', '')!r} is no number from 1 to {HIGHEST_NUMBER}")
     if not rider.get("name"):
         return said("name is missing")
-    rider["rider"], rider["name"] = str(int(rider["rider"])), " ".join(rider["name"].split())
     return checked(rider, known_places, said)
 
 

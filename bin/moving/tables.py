@@ -1,6 +1,5 @@
 """Tables that an agency writes as CSV, a record a row. A row that can't be read is refused, and the others go on."""
 import collections
-import csv
 import datetime
 import os
 import pathlib
@@ -78,6 +77,8 @@ def minute(text):
 
 def time_of_day(text):
     """A time of a 24-hour clock, or one with am or pm."""
+    # (a spreadsheet adds seconds)
+    text = re.sub(r"^(\d{1,2}:\d\d):00\b", r"\1", text)
     found = re.fullmatch(r"(\d{1,2}):([0-5]\d)\s*([ap])\.?m\.?", text.lower())
     if not found:
         return minute(text)
@@ -91,7 +92,7 @@ def days(text):
     found = set()
     for part in filter(None, re.split(r"[\s;]+", text)):
         first, _, last = part.partition("..")
-        at, end = (datetime.date.fromisoformat(day(it)) for it in (first, last or first))
+        at, end = (datetime.date.fromisoformat(any_day(it)) for it in (first, last or first))
         if (end - at).days not in range(MOST_SKIPPED):
             raise ValueError(f"are no days from one to another, {MOST_SKIPPED} at most")
         while at <= end:
@@ -179,7 +180,7 @@ COLUMNS = {
     "orders": {
         "order": NAME, "rider": NUMBER, "weekdays": Column(weekdays, REQUIRED), "wish": Column(time_of_day, REQUIRED),
         "by": Column(time_of_day, None), "from": NUMBER, "to": NUMBER, "companions": Column(whole(0, 255), 0),
-        "attendant": Column(yes_or_no, False), "first_day": Column(day, FIRST_DAY), "last_day": Column(day, LAST_DAY),
+        "attendant": Column(yes_or_no, False), "first_day": Column(any_day, FIRST_DAY), "last_day": Column(any_day, LAST_DAY),
         "skip_days": Column(days, frozenset()),
     },
     "riders": {
@@ -200,21 +201,6 @@ def value_of(name, column, fields):
         return column.read(text)
     except ValueError as error:
         raise ValueError(f"{name} {text!r} {error}") from None
-
-
-def lines_in(path, columns, named=str.strip):
-    """The names in the first line of a table, and its other lines, each as its number and a dict."""
-    try:
-        with open(path, encoding="utf-8-sig", newline="") as file:
-            reader = csv.DictReader(file)
-            reader.fieldnames = [named(it) for it in reader.fieldnames or []]
-            rows = [(reader.line_num, it) for it in reader]
-    except (OSError, UnicodeDecodeError, csv.Error) as error:
-        raise Wrong(f"{path} can't be read: {error}") from None
-    for name, column in columns.items():
-        if column.default is REQUIRED and name not in reader.fieldnames:
-            raise Wrong(f"{path} has no column {name}; its first line has to name the columns {', '.join(columns)}")
-    return reader.fieldnames, rows
 
 
 def sheet_of(path, columns):
@@ -246,9 +232,18 @@ def records_in(path, kind, fault_of, key=("number",)):
             known[tuple(record[it] for it in key)] = row.number
             records.append(record)
             rows.cells[LABELS[kind].format_map(record)] = row.cells
-            forms.update((name, cells.day(row.fields[name])[1]) for name, it in columns.items() if it.read is any_day and row.fields.get(name))
+            forms.update(forms_in(columns, row.fields))
         except ValueError as error:
             refused.append(Refused(f"line {row.number} of {path}", str(error)))
     refused += [Refused(f"line {it.number} of {path}", it.reason) for it in sheet.refused]
-    notes = [f"{name}: {count} days were read as {form}" for (name, form), count in sorted(forms.items()) if form != cells.ISO]
-    return records, refused, [*(f"the column {it} is not read" for it in sheet.header if it not in columns), *sheet.notes, *notes], rows
+    return records, refused, [*(f"the column {it} is not read" for it in sheet.header if it not in columns), *sheet.notes, *notes_of(forms)], rows
+
+
+def forms_in(columns, fields):
+    """In which form the days of a row stand, by their columns."""
+    return [(name, cells.day(fields[name])[1]) for name, it in columns.items() if it.read is any_day and fields.get(name)]
+
+
+def notes_of(forms):
+    """How days were read that do not stand as YYYY-MM-DD."""
+    return [f"{name}: {count} days were read as {form}" for (name, form), count in sorted(forms.items()) if form != cells.ISO]

@@ -3,9 +3,9 @@ import os
 import sys
 
 sys.path.append(os.path.join(os.path.dirname(os.path.realpath(__file__)), "..", "..", "python"))
-from desk_tools import ending, event_log, events, holidays, miles, offers, outbox, review, sponsors, telling, today
+from desk_tools import ending, event_log, events, holidays, miles, offers, outbox, review, sponsors, telling, today, warehouse
 from desk_tools.counting import counted
 from desk_tools.letters import on_record
 from desk_tools.reminders import kept, settings as reminder_settings
 from desk_tools.review import fixed_route, month, page, tables
-from desk_tools.town import addresses, corridor, people as cutting, joining, places, sheets, site_addresses
+from desk_tools.town import addresses, cells, corridor, people as cutting, joining, places, sheets, site_addresses

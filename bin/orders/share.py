@@ -26,11 +26,14 @@ def hour_of(minute):
 def capacity_in(path):
     """What the agency says is available, by weekday and hour."""
     found = {}
-    for line, fields in tables.lines_in(path, CAPACITY)[1]:
+    sheet = tables.sheet_of(path, CAPACITY)
+    if sheet.refused:
+        raise Wrong(f"line {sheet.refused[0].number} of {path}: {sheet.refused[0].reason}")
+    for line in sheet.rows:
         try:
-            row = {name: tables.value_of(name, column, fields) for name, column in CAPACITY.items()}
+            row = {name: tables.value_of(name, column, line.fields) for name, column in CAPACITY.items()}
         except ValueError as error:
-            raise Wrong(f"line {line} of {path}: {error}") from None
+            raise Wrong(f"line {line.number} of {path}: {error}") from None
         found.update({(weekday, row["hour"]): row["trips"] for weekday in row["weekday"]})
     return found
 

@@ -1,6 +1,6 @@
 """The table of standing orders: weekly trips of riders, a line for each, as docs/STANDING-ORDERS.md has it."""
+import collections
 import datetime
-import re
 
 from moving import tables
 
@@ -33,17 +33,12 @@ class Order:
         return self.weekdays & other.weekdays and self.first <= other.last and other.first <= self.last
 
 
-def column_name(text):
-    return re.sub(r"[\s_-]+", "_", text.strip().lower())
-
-
 def orders_in(path):
-    """The orders of a table, what is wrong in other lines, and the columns that are not read."""
-    header, rows = tables.lines_in(path, COLUMNS, column_name)
-    orders, faults, named = [], [], {}
-    for line, fields in rows:
-        if not any(it for it in fields.values() if isinstance(it, str) and it.strip()):
-            continue
+    """The orders of a table, what is wrong in other lines, and notes on how the table was read."""
+    sheet = tables.sheet_of(path, COLUMNS)
+    orders, named, forms = [], {}, collections.Counter()
+    faults = [(it.number, it.reason) for it in sheet.refused]
+    for line, fields in ((it.number, it.fields) for it in sheet.rows):
         try:
             order = order_of(line, fields)
             there = next((it for it in named.get(order.key, []) if fields.get("order") or it.meets(order)), None)
@@ -52,14 +47,15 @@ def orders_in(path):
                                  f"it is the same trip as line {there.line}")
             named.setdefault(order.key, []).append(order)
             orders.append(order)
+            forms.update(tables.forms_in(COLUMNS, fields))
         except ValueError as error:
-            faults.append((f"line {line} of {path}", str(error)))
-    return orders, faults, [it for it in header if it not in COLUMNS]
+            faults.append((line, str(error)))
+    unread = [f"the column {it} is not read" for it in sheet.header if it not in COLUMNS]
+    told = [(f"line {line} of {path}", said) for line, said in sorted(faults)]
+    return orders, told, [*unread, *sheet.notes, *tables.notes_of(forms)]
 
 
 def order_of(line, fields):
-    if None in fields:
-        raise ValueError("it has more fields than the first line")
     order = Order(line, {name: tables.value_of(name, column, fields) for name, column in COLUMNS.items()})
     if order.first > order.last:
         raise ValueError("its last day is before its first")

@@ -6,6 +6,7 @@ import importlib
 import json
 import os
 import pathlib
+import re
 import shutil
 import stat
 import sys
@@ -22,11 +23,40 @@ PLACES = [
     ("/usr/local/bin/desk", "/usr/bin/desk"),
     ("/usr/local/share/desk/pages", "/usr/share/desk/pages"),
 ]
+# Documents lie beside each other in the package.
+DOCUMENTS = [
+    (re.compile(r"(?<![\w/.-])deploy/README\.md"), "RUNNING.md"),
+    (re.compile(r"(?<![\w/.-])(?:docs|deploy)/([A-Z-]+\.md|openapi\.yaml|pictures/)"), r"\1"),
+    (re.compile("`bin/office`"), "`desk-demo`"),
+]
+# The tools of bin/ have names of their own there, but where a line copies them from the sources.
+TOOL, COPIES = re.compile(r"(?<![\w/.-])bin/([a-z][\w-]*)(?![\w/.-]*/)"), re.compile(r"\s*(cp|install) ")
 OF_PROOF = """ Every function of the program is proved to meet its contract. The receipt of
  the proof is in /usr/share/doc/desk/receipt.json."""
 OF_TRIAL = """ This package is for trial: its program need not be proved. Do not use it for
  real trips."""
+# Whose files say of themselves what they are called.
+OF_TOOLS = ("bin/", "python/desk_tools/")
 SCRIPTS = ["config", "preinst", "postinst", "prerm", "postrm"]
+
+
+def commands_of(top):
+    """The tools of bin/ that the package has, but for the demonstration office."""
+    names = sorted(os.listdir(f"{top}/bin"))
+    return [it for it in names if it not in OF_SOURCES and it != "office" and os.path.isfile(f"{top}/bin/{it}")]
+
+
+def as_packed(text, commands):
+    """A document's text with the names of the package. `commands` are the tools of bin/ that it has."""
+    for pattern, new in DOCUMENTS:
+        text = pattern.sub(new, text)
+    lines = text.splitlines(keepends=True)
+    return "".join(it if COPIES.match(it) else with_tools(it, commands) for it in lines)
+
+
+def with_tools(text, commands):
+    """A text that calls the tools of bin/ by their installed names, as in what a tool says of itself."""
+    return TOOL.sub(lambda it: f"desk-{it[1]}" if it[1] in commands else it[0], text)
 
 
 class Layout:
@@ -45,7 +75,16 @@ class Layout:
         if b"\0" not in content:
             for old, new in PLACES:
                 content = content.replace(old.encode(), new.encode())
+            if source.startswith(OF_TOOLS):
+                content = with_tools(content.decode(), commands_of(self.top)).encode()
         self.write(name, content, mode)
+
+    def document(self, source, name):
+        """A document, in which others and the tools have the names that they have in the package."""
+        self.copy(source, name)
+        with open(f"{self.root}/{name}", encoding="utf-8") as file:
+            text = file.read()
+        self.write(name, as_packed(text, commands_of(self.top)))
 
     def write(self, name, content, mode=0o644):
         content = content.encode() if isinstance(content, str) else content
@@ -121,11 +160,12 @@ def put_documents(layout, version, day, changes, helps, proof, bill):
     shared = "usr/share/doc/desk"
     for name in sorted(os.listdir(f"{layout.top}/docs")):
         if name.endswith((".md", ".yaml")):
-            layout.copy(f"docs/{name}", f"{shared}/{name}")
+            layout.document(f"docs/{name}", f"{shared}/{name}")
     layout.copy_tree("docs/pictures", f"{shared}/pictures")
-    layout.copy("deploy/README.md", f"{shared}/RUNNING.md")
+    layout.document("README.md", f"{shared}/README.md")
+    layout.document("deploy/README.md", f"{shared}/RUNNING.md")
     if os.path.exists(f"{layout.top}/deploy/BACKUPS.md"):
-        layout.copy("deploy/BACKUPS.md", f"{shared}/BACKUPS.md")
+        layout.document("deploy/BACKUPS.md", f"{shared}/BACKUPS.md")
     layout.copy_tree("examples", f"{shared}/examples")
     crates = receipt.kits_crates(layout.kit, sources.crates_of(layout.top)[1])
     layout.write(f"{shared}/copyright", licences.copyright_text(layout.kit, crates))

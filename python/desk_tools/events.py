@@ -381,8 +381,10 @@ def _path(event: Event) -> str:
         "400": {{ $ref: "#/components/responses/BadRequest" }}
         "401": {{ $ref: "#/components/responses/Unauthorized" }}
         "403": {{ $ref: "#/components/responses/Forbidden" }}
-        "429": {{ description: "too many at once: send the same again after a pause" }}
-        "502": {{ description: "the desk does not answer: send the same again after a pause" }}
+        "429": {{ $ref: "#/components/responses/TooMany" }}
+        "502": {{ $ref: "#/components/responses/Away" }}
+        "503": {{ $ref: "#/components/responses/Unavailable" }}
+        "504": {{ $ref: "#/components/responses/NotInTime" }}
 """
 
 

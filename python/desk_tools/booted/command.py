@@ -33,6 +33,7 @@ from desk_tools.booted import (
     acme,
     follow_ups,
     machines,
+    moving_in,
     nights,
     office,
     packages,
@@ -64,7 +65,7 @@ SLOW: dict[str, Callable[[Town], None]] = {
 # And these by --all once all else was tried: the desk is gone then.
 LAST: dict[str, Callable[[Town], None]] = {"removing": removing.check}
 # On a machine of its own, by --all.
-SETUPS, TWO = "setups", "two"
+SETUPS, TWO, MOVING_IN = "setups", "two", "moving_in"
 # After so many seconds all is ended and counts as failed. The package and the root are made before that time begins.
 MOST, MOST_OF_ALL, MOST_TO_MAKE = 600, 3_600, 600
 PREFIX = "desk-booted-"
@@ -81,7 +82,9 @@ def words_of(arguments: list[str]) -> argparse.Namespace:
     )
     words.add_argument("--all", action="store_true", help="the slow parts too, and two machines")
     words.add_argument(
-        "--only", choices=[*PARTS, *SLOW, *LAST, SETUPS, TWO], help="this part alone, and the setup"
+        "--only",
+        choices=[*PARTS, *SLOW, *LAST, SETUPS, TWO, MOVING_IN],
+        help="this part alone, and the setup",
     )
     words.add_argument("--keep", type=Path, help="a folder in which the machines stay, to look at")
     words.add_argument(
@@ -124,7 +127,7 @@ def parts_of(told: argparse.Namespace) -> dict[str, Callable[[Town], None]]:
     if told.only:
         return (
             {}
-            if told.only in (SETUPS, TWO)
+            if told.only in (SETUPS, TWO, MOVING_IN)
             else {**first, told.only: {**PARTS, **SLOW, **LAST}[told.only]}
         )
     return {**first, **SLOW, **PARTS, **LAST} if told.all else PARTS
@@ -164,6 +167,12 @@ def try_all(told: argparse.Namespace, folder: Path, checks: Checks) -> None:
             office.install(machine, office.bring(machine, package))
             setups.check(town)
             setups.check_migration(town)
+    if told.all or told.only == MOVING_IN:
+        checks.step(MOVING_IN)
+        with Machine(roots.unpacked(folder / MOVING_IN), MOVING_IN.replace("_", "-")) as machine:
+            town = Town(machine, package, checks, is_whole=True)
+            office.install(machine, office.bring(machine, package))
+            moving_in.check(town)
     if told.all or told.only == TWO:
         two.check(folder, package, checks)
 

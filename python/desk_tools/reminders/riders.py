@@ -1,13 +1,14 @@
 """Whom a reminder goes to: what the roster says of each rider's channel and address."""
 
-import csv
 import re
 from dataclasses import dataclass
 from pathlib import Path
 
 from desk_tools.reminders.settings import CHANNELS, LANGUAGES, MAIL, NONE, Wrong
+from desk_tools.town import cells, sheets
+from desk_tools.town.cells import HIGHEST_NUMBER
 
-HIGHEST_NUMBER = 4_294_967_295
+COLUMNS = ("rider", "name", "language", "reminder", "telephone", "mail")
 # A number that a machine may dial: one number, and nothing else beside it.
 TELEPHONE = re.compile(r"\+?[0-9 ().\-/]+", re.ASCII)
 LEAST_DIGITS, MOST_DIGITS = 7, 15
@@ -56,32 +57,27 @@ def dialed(text: str) -> str:
 def read(path: Path) -> tuple[dict[int, Rider], list[str]]:
     """The riders by their numbers, and a sentence for each row that can't be used."""
     riders: dict[int, Rider] = {}
-    faults: list[str] = []
     try:
-        with open(path, encoding="utf-8-sig", newline="") as file:
-            rows = csv.DictReader(file)
-            heads = {it.strip().lower(): it for it in rows.fieldnames or [] if it}
-            if not {"rider", "name"} <= set(heads):
-                raise Wrong(f"{path} is no roster: its first row has no columns rider and name")
-            for row, fields in enumerate(rows, 2):
-                texts = {name: (fields.get(head) or "").strip() for name, head in heads.items()}
-                _take(riders, faults, row, texts)
-    except OSError as error:
-        raise Wrong(f"{path}: {error.strerror}") from None
-    except (ValueError, csv.Error) as error:
-        raise Wrong(f"{path} is no roster: {error}") from None
+        sheet = sheets.read(path, {it: () for it in COLUMNS})
+    except sheets.Unreadable as error:
+        raise Wrong(str(error)) from None
+    if not {"rider", "name"} <= set(sheet.header):
+        raise Wrong(f"{path} is no roster: its first row has no columns rider and name")
+    faults = [f"row {it.number}: {it.reason}" for it in sheet.refused]
+    for row in sheet.rows:
+        _take(riders, faults, row.number, row.fields)
     return riders, faults
 
 
 def _take(riders: dict[int, Rider], faults: list[str], row: int, texts: dict[str, str]) -> None:
-    if not any(texts.values()):
+    try:
+        number = cells.number(texts.get("rider", ""))
+    except cells.WrongCell:
+        said = f"rider {texts.get('rider', '')[:40]!r} is no number from 1 to {HIGHEST_NUMBER}"
+        faults.append(f"row {row}: {said}")
         return
-    number = texts["rider"]
-    if not re.fullmatch("[0-9]{1,20}", number, re.ASCII) or not 1 <= int(number) <= HIGHEST_NUMBER:
-        faults.append(f"row {row}: rider {number[:40]!r} is no number from 1 to {HIGHEST_NUMBER}")
-        return
-    if int(number) in riders:
-        faults.append(f"row {row}: rider {int(number)} stands above already")
+    if number in riders:
+        faults.append(f"row {row}: rider {number} stands above already")
         return
     channel = texts.get("reminder", "").lower() or NONE
     if channel not in (*CHANNELS, NONE):
@@ -90,9 +86,9 @@ def _take(riders: dict[int, Rider], faults: list[str], row: int, texts: dict[str
         )
         channel = NONE
     language = texts.get("language", "").lower().split("-")[0]
-    riders[int(number)] = Rider(
-        int(number),
-        " ".join(texts["name"].split()),
+    riders[number] = Rider(
+        number,
+        texts.get("name", ""),
         language if language in LANGUAGES else LANGUAGES[0],
         channel,
         texts.get("telephone", ""),
