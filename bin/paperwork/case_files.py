@@ -2,16 +2,12 @@
 the desk; the days here are told beforehand."""
 import collections
 
-from moving.typed import on_record
+from moving.typed import law, on_record
 
-# After so many days without an answer an application is presumed granted (37.125(c)). Only the day is told by it.
-DAYS_UNTIL_PRESUMED = 21
 # From so many days on an application stands first.
 DAYS_UNTIL_PRESSING = 15
 # An appeal stands first that was not heard for so many days.
 DAYS_UNTIL_UNHEARD = 30
-# So many days after its hearing an appeal against a refusal is overdue (37.125(g)). Only the day is told by it.
-DAYS_UNTIL_OVERDUE = 30
 # A grant is listed where it ends within so many days.
 DAYS_BEFORE_END = 60
 
@@ -48,7 +44,7 @@ def part_waiting(entries):
 
 def presumed_on(complete):
     """The number of the first day of the presumption."""
-    return complete.day + DAYS_UNTIL_PRESUMED
+    return complete.day + law.DAYS_UNTIL_PRESUMED
 
 
 def appeal(entries):
@@ -73,7 +69,7 @@ def overdue_on(pending):
     """The number of the day on which an appeal is overdue, or None where no day is counted yet."""
     if not is_against(pending, "refuse") or not pending.heard:
         return None
-    return pending.heard.day + DAYS_UNTIL_OVERDUE
+    return pending.heard.day + law.DAYS_UNTIL_OVERDUE
 
 
 def grant(entries):

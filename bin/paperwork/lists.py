@@ -4,9 +4,9 @@ docs/WORKLIST.md says what each means.
 """
 import collections
 
-from moving.limits import DAYS_TO_APPEAL, MANY_VERSIONS, MOST_VERSIONS
+from moving.limits import MANY_VERSIONS, MOST_VERSIONS
 from moving.tally_log import AGENCY
-from moving.typed import offers as told_offers
+from moving.typed import law, offers as told_offers
 from moving.typed import today as day_file
 from paperwork import case_files, copies
 from paperwork.corrected import OUTCOMES
@@ -73,8 +73,8 @@ def first(files, desk, now, names):
     rows = [(*names.rider(rider), reader, said, day_of(day), f"{now - day} days") for day, rider, reader, said in sorted(found)]
     return Listed(
         "first", "What comes first", "examiner and officer",
-        f"Applications from day {case_files.DAYS_UNTIL_PRESSING} on, of the {case_files.DAYS_UNTIL_PRESUMED} days after which the rider is presumed "
-        f"eligible. Appeals that nobody heard for {case_files.DAYS_UNTIL_UNHEARD} days, or that were heard and not decided for {case_files.DAYS_UNTIL_OVERDUE}.",
+        f"Applications from day {case_files.DAYS_UNTIL_PRESSING} on, of the {law.DAYS_UNTIL_PRESUMED} days after which the rider is presumed "
+        f"eligible. Appeals that nobody heard for {case_files.DAYS_UNTIL_UNHEARD} days, or that were heard and not decided for {law.DAYS_UNTIL_OVERDUE}.",
         ("Rider", "Name", "Who decides", "What waits", "Since", "How long"), rows)
 
 
@@ -105,7 +105,7 @@ def applications(files, now, names):
              days_from(now, case_files.presumed_on(it))) for rider, it in found]
     return Listed(
         "applications", "Applications to decide", "examiner",
-        f"Complete and not answered. {case_files.DAYS_UNTIL_PRESUMED} days after it was complete, the rider is "
+        f"Complete and not answered. {law.DAYS_UNTIL_PRESUMED} days after it was complete, the rider is "
         "presumed eligible until somebody decides.",
         ("Rider", "Name", "Complete on", "Presumed from", "When"), rows)
 
@@ -136,7 +136,7 @@ def appeals(files, now, names):
             f"caller {against.author}" if against else ""))
     return Listed(
         "appeals", "Appeals to decide", "officer",
-        f"An appeal against a refusal is overdue {case_files.DAYS_UNTIL_OVERDUE} days after its hearing, and the rider "
+        f"An appeal against a refusal is overdue {law.DAYS_UNTIL_OVERDUE} days after its hearing, and the rider "
         "may ride until somebody decides. No suspension holds while an appeal against it waits. Who decided before may "
         "not decide the appeal.",
         ("Rider", "Name", "Against", "Filed on", "Heard on", "Overdue from", "When", "Decided before by"), rows)
@@ -490,7 +490,7 @@ def told(entry, entries):
     if entry.kind == "appeal":
         return f"against entry {entry.a}"
     if entry.kind == "refuse":
-        return f"{entry.words} (may be appealed until {day_of(entry.day + DAYS_TO_APPEAL)})"
+        return f"{entry.words} (may be appealed until {day_of(entry.day + law.DAYS_TO_APPEAL)})"
     return entry.words
 
 

@@ -30,6 +30,8 @@ from desk_tools.tables import KEYS, ROLES
 # Where the program is installed: by the package, and by hand.
 INSTALLED = (Path("/usr/bin/desk"), Path("/usr/local/bin/desk"))
 SECONDS, TRIES, MOST_CALLERS, MOST_HOURS, NOON = 60, 20, 1_000, 24, 12
+# The version of the tables that the program serves.
+VERSION = 2
 FAULT = re.compile(r"fault (\d+) row (\d+)")
 # The faults of a port that another program has, and of rows of no sound state; the row is the table's number.
 NO_PORT, UNSOUND = "6", "31"
@@ -150,7 +152,7 @@ def served(program: Path, copy: Path, today: datetime.date | None = None) -> Ite
         file = Path(name, "desk.db")
         try:
             shutil.copyfile(copy, file)
-            migrated(program, file)
+            bring_up(program, file)
             keys = put_callers(file)
         except (OSError, sqlite3.Error) as error:
             raise Refused(f"{copy} can't be copied for the desk: {error}") from None
@@ -163,12 +165,18 @@ def served(program: Path, copy: Path, today: datetime.date | None = None) -> Ite
             ended(process)
 
 
-def migrated(program: Path, file: Path) -> None:
-    """Makes a file of an older version one of this program's. One that is not older stays as it is."""
+def bring_up(program: Path, file: Path) -> None:
+    """Makes a file of an older version one of this program's. Raises Refused where `desk migrate` does not take it."""
+    with contextlib.closing(sqlite3.connect(file)) as database:
+        if database.execute("SELECT version FROM desk").fetchall() == [(VERSION,)]:
+            return
     words = [str(program), "migrate", str(file)]
-    subprocess.run(
-        words, capture_output=True, stdin=subprocess.DEVNULL, check=False, timeout=SECONDS
+    ran = subprocess.run(
+        words, capture_output=True, stdin=subprocess.DEVNULL, text=True, check=False
     )
+    if ran.returncode:
+        said = why(ran.stderr.strip())
+        raise Refused(f"the desk does not bring it up to version {VERSION}: {said}")
 
 
 def put_callers(file: Path) -> dict[int, str]:
