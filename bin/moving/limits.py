@@ -1,4 +1,5 @@
 """What the desk takes, and what ends a command."""
+from moving.typed import law
 
 LEAST_WIDTH, GREATEST_WIDTH = 3_960, 7_920
 GREATEST_COORDINATE, HIGHEST_NUMBER, LAST_MINUTE = 1_000_000, 4_294_967_295, 1_439
@@ -6,7 +7,7 @@ MOST_ROUTES, MOST_POINTS, MOST_PLACES, MOST_SEATS, MOST_CHAIRS = 50, 200, 100, 3
 # A vehicle has room for so many versions, for good; from the second number on that is said.
 MOST_VERSIONS, MANY_VERSIONS = 20, 15
 # Days: how long a decision may be appealed, and how far ahead a trip may be booked.
-DAYS_TO_APPEAL, DAYS_AHEAD = 60, 14
+DAYS_TO_APPEAL, DAYS_AHEAD = law.DAYS_TO_APPEAL, law.DAYS_AHEAD
 
 # How a command ends: all is done, something was refused, the words or the input are wrong, the desk did not answer.
 DONE, SOME_REFUSED, WRONG, NOT_ANSWERED = range(4)

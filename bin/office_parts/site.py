@@ -71,14 +71,14 @@ class DriversFiles:
         self.ended.set()
 
 
-def list_waiting(top, folder, work):
-    """Makes the page of what waits. Where the file cannot be read, the desk says so when it opens it."""
+def list_waiting(top, folder, work, program):
+    """Makes the page of what waits, by the program of the office. Where the file cannot be read, the desk says so when it opens it."""
     copy = f"{work}/copy.db"
     for end_of_name in "", "-wal":
         if os.path.exists(f"{folder}/{building.DATABASE}{end_of_name}"):
             shutil.copy(f"{folder}/{building.DATABASE}{end_of_name}", f"{copy}{end_of_name}")
     words = [sys.executable, f"{top}/bin/worklist", copy, "--html", f"{folder}/{SITE}/{WAITING}"]
-    words += ["--agency", f"{folder}/{building.AGENCY}", "--roster", f"{folder}/{building.ROSTER}"]
+    words += ["--agency", f"{folder}/{building.AGENCY}", "--roster", f"{folder}/{building.ROSTER}", "--program", program]
     subprocess.run(words, capture_output=True, stdin=subprocess.DEVNULL, check=False)
 
 

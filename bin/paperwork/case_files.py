@@ -1,17 +1,13 @@
-"""What stands in a rider's case file on a day, as docs/RULES.md has it. The desk decides by its own rules; these only
-tell people what waits."""
+"""What a rider's case file has: which entry waits for another one, and from which day on. What stands on a day is asked of
+the desk; the days here are told beforehand."""
 import collections
 
-from moving.typed import on_record
+from moving.typed import law, on_record
 
-# After so many days without an answer an application is presumed granted (37.125(c)).
-DAYS_UNTIL_PRESUMED = 21
 # From so many days on an application stands first.
 DAYS_UNTIL_PRESSING = 15
 # An appeal stands first that was not heard for so many days.
 DAYS_UNTIL_UNHEARD = 30
-# So many days after its hearing an appeal against a refusal is overdue (37.125(g)).
-DAYS_UNTIL_OVERDUE = 30
 # A grant is listed where it ends within so many days.
 DAYS_BEFORE_END = 60
 
@@ -48,7 +44,7 @@ def part_waiting(entries):
 
 def presumed_on(complete):
     """The number of the first day of the presumption."""
-    return complete.day + DAYS_UNTIL_PRESUMED
+    return complete.day + law.DAYS_UNTIL_PRESUMED
 
 
 def appeal(entries):
@@ -73,7 +69,7 @@ def overdue_on(pending):
     """The number of the day on which an appeal is overdue, or None where no day is counted yet."""
     if not is_against(pending, "refuse") or not pending.heard:
         return None
-    return pending.heard.day + DAYS_UNTIL_OVERDUE
+    return pending.heard.day + law.DAYS_UNTIL_OVERDUE
 
 
 def grant(entries):
@@ -82,21 +78,8 @@ def grant(entries):
 
 
 def suspensions(entries):
-    """The suspensions that hold: not overturned, and no appeal against them is pending."""
-    return [it for it in entries if it.kind == "suspend" and not is_lifted(entries, it)]
-
-
-def is_lifted(entries, suspension):
-    """Whether an appeal against it is pending, or the first decision after that appeal overturned it."""
-    at = next((i for i, it in enumerate(entries) if it.kind == "appeal" and it.a == suspension.place), None)
-    if at is None:
-        return False
-    decision = next((it for it in entries[at:] if it.kind in DECISIONS_OF_APPEALS), None)
-    return decision is None or decision.kind == "overturn"
-
-
-def is_suspended(entries, day):
-    return any(it.a <= day <= it.b for it in suspensions(entries))
+    """The suspensions that were entered. Whether one holds on a day is asked of the desk."""
+    return [it for it in entries if it.kind == "suspend"]
 
 
 def notice(entries):
@@ -112,19 +95,6 @@ def notice(entries):
     return found
 
 
-def standing(entries, today):
-    """The standing for today, in the desk's words, with the last day of a grant or None."""
-    waiting, pending, last = application(entries), appeal(entries), grant(entries)
-    overdue = overdue_on(pending)
-    if waiting and presumed_on(waiting) <= today:
-        return "presumed", None
-    if overdue is not None and overdue <= today:
-        return "appeal-overdue", None
-    if last and today <= last.a:
-        return "granted", last.a
-    return "none", None
-
-
 def is_pattern(pattern, policy):
-    """Whether the trips of the policy's days before today make a pattern (37.125(h))."""
+    """Whether trips would make a pattern under a policy that need not be in force (37.125(h)): the desk knows only its own."""
     return pattern.missed >= policy.min_missed and policy.percent * pattern.ended <= 100 * pattern.missed

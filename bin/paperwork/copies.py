@@ -61,10 +61,10 @@ def found(path):
 
 
 class Copy:
-    """A copy that is open. What can't be read ends with one sentence."""
+    """A copy that is open. What can't be read ends with one sentence. The program, a path or None, is asked about it."""
 
-    def __init__(self, path):
-        self.path = path
+    def __init__(self, path, program=None):
+        self.path, self.program = path, program
         check_file(path)
         place = urllib.parse.quote(os.path.abspath(path))
         self.connection = sqlite3.connect(f"file:{place}?mode=ro&immutable=1", uri=True)

@@ -4,9 +4,9 @@ docs/WORKLIST.md says what each means.
 """
 import collections
 
-from moving.limits import DAYS_TO_APPEAL, MANY_VERSIONS, MOST_VERSIONS
+from moving.limits import MANY_VERSIONS, MOST_VERSIONS
 from moving.tally_log import AGENCY
-from moving.typed import offers as told_offers
+from moving.typed import law, offers as told_offers
 from moving.typed import today as day_file
 from paperwork import case_files, copies
 from paperwork.corrected import OUTCOMES
@@ -38,15 +38,14 @@ class Names:
         return (Rider(number), self.riders.get(number, ""))
 
 
-def all_lists(copy, today, names, log=None, corrected=None, closed=()):
-    """Each list, for today, and the riders whose case files somebody has to decide on. The log is the site's; corrected
-    has the outcomes of corrections.csv, by trip, and is None where there is no such file; closed has the words of the
-    days on which nobody is served."""
+def all_lists(copy, desk, today, names, log=None, corrected=None, closed=()):
+    """Each list, for today, and the riders whose case files somebody has to decide on. The desk serves the same copy, and
+    says what stands. The log is the site's; corrected has the outcomes of corrections.csv, by trip, and is None where there
+    is no such file; closed has the words of the days on which nobody is served."""
     files, now = copy.case_files(), number_of(today)
-    patterns = patterns_of(copy, now)
     lists = [
-        first(files, now, names), applications(files, now, names), in_part(files, now, names), appeals(files, now, names), grants(files, now, names),
-        missed(files, patterns, now, names), suspended_trips(copy, files, now, names),
+        first(files, desk, now, names), applications(files, now, names), in_part(files, now, names), appeals(files, now, names), grants(files, now, names),
+        missed(files, missed_of(copy, now), desk, now, names), suspended_trips(copy, files, desk, now, names),
         without_outcome(copy, now, names), vehicles(copy, now, names), *rebooked(copy, log, now, names, closed),
         on_closed_days(copy, log, now, names, closed), versions(copy, names),
         no_shows(copy, log, now, names), disagreements(copy, log, now, names), corrections(copy, log, corrected, names),
@@ -64,38 +63,39 @@ def days_from(now, day):
     return f"{'in ' if day > now else ''}{count} day{'' if count == 1 else 's'}{'' if day > now else ' ago'}"
 
 
-def first(files, now, names):
+def first(files, desk, now, names):
     """Applications and appeals for which the time is nearly over, or over: what has waited longest comes first."""
     found = []
     for rider, entries in files.items():
         waiting, pending = case_files.application(entries), case_files.appeal(entries)
-        found += [(it, rider, *rest) for it, *rest in (pressing_application(waiting, now), pressing_appeal(pending, now)) if it is not None]
+        found += [(it, rider, *rest) for it, *rest in (pressing_application(rider, waiting, desk, now), pressing_appeal(rider, pending, desk, now))
+                  if it is not None]
     rows = [(*names.rider(rider), reader, said, day_of(day), f"{now - day} days") for day, rider, reader, said in sorted(found)]
     return Listed(
         "first", "What comes first", "examiner and officer",
-        f"Applications from day {case_files.DAYS_UNTIL_PRESSING} on, of the {case_files.DAYS_UNTIL_PRESUMED} days after which the rider is presumed "
-        f"eligible. Appeals that nobody heard for {case_files.DAYS_UNTIL_UNHEARD} days, or that were heard and not decided for {case_files.DAYS_UNTIL_OVERDUE}.",
+        f"Applications from day {case_files.DAYS_UNTIL_PRESSING} on, of the {law.DAYS_UNTIL_PRESUMED} days after which the rider is presumed "
+        f"eligible. Appeals that nobody heard for {case_files.DAYS_UNTIL_UNHEARD} days, or that were heard and not decided for {law.DAYS_UNTIL_OVERDUE}.",
         ("Rider", "Name", "Who decides", "What waits", "Since", "How long"), rows)
 
 
-def pressing_application(waiting, now):
+def pressing_application(rider, waiting, desk, now):
     """Since which day an application waits, for whom, and what is said of it; or None three times."""
     if waiting is None or now - waiting.day < case_files.DAYS_UNTIL_PRESSING:
         return None, None, None
-    presumed = case_files.presumed_on(waiting)
-    said = f"application; presumed eligible from {day_of(presumed)}" if presumed > now else f"application; presumed eligible since {day_of(presumed)}"
+    is_presumed = desk.standing(rider, day_of(now)).word == "presumed"
+    said = f"application; presumed eligible {'since' if is_presumed else 'from'} {day_of(case_files.presumed_on(waiting))}"
     return waiting.day, "examiner", said
 
 
-def pressing_appeal(pending, now):
+def pressing_appeal(rider, pending, desk, now):
     """The same of an appeal: since it was entered, or since it was heard."""
     if pending is None:
         return None, None, None
     if pending.heard is None:
         is_late = now - pending.entry.day >= case_files.DAYS_UNTIL_UNHEARD
         return (pending.entry.day, "officer", "appeal, not heard") if is_late else (None, None, None)
-    overdue = case_files.overdue_on(pending)
-    return (pending.heard.day, "officer", "appeal, heard and not decided") if overdue is not None and overdue <= now else (None, None, None)
+    is_late = case_files.is_against(pending, "refuse") and desk.is_overdue(rider, day_of(now))
+    return (pending.heard.day, "officer", "appeal, heard and not decided") if is_late else (None, None, None)
 
 
 def applications(files, now, names):
@@ -105,7 +105,7 @@ def applications(files, now, names):
              days_from(now, case_files.presumed_on(it))) for rider, it in found]
     return Listed(
         "applications", "Applications to decide", "examiner",
-        f"Complete and not answered. {case_files.DAYS_UNTIL_PRESUMED} days after it was complete, the rider is "
+        f"Complete and not answered. {law.DAYS_UNTIL_PRESUMED} days after it was complete, the rider is "
         "presumed eligible until somebody decides.",
         ("Rider", "Name", "Complete on", "Presumed from", "When"), rows)
 
@@ -136,7 +136,7 @@ def appeals(files, now, names):
             f"caller {against.author}" if against else ""))
     return Listed(
         "appeals", "Appeals to decide", "officer",
-        f"An appeal against a refusal is overdue {case_files.DAYS_UNTIL_OVERDUE} days after its hearing, and the rider "
+        f"An appeal against a refusal is overdue {law.DAYS_UNTIL_OVERDUE} days after its hearing, and the rider "
         "may ride until somebody decides. No suspension holds while an appeal against it waits. Who decided before may "
         "not decide the appeal.",
         ("Rider", "Name", "Against", "Filed on", "Heard on", "Overdue from", "When", "Decided before by"), rows)
@@ -157,14 +157,13 @@ def grants(files, now, names):
         ("Rider", "Name", "Last day", "When", "Conditions", "New application"), rows)
 
 
-def patterns_of(copy, now):
-    """The riders with a pattern of missed trips."""
+def missed_of(copy, now):
+    """How many trips of the policy's days had an outcome, and how many the rider missed, by rider who missed any."""
     found = copy.rows(
         "SELECT rider, count(*), sum(status = ?) FROM trips WHERE day >= ? AND day < ? AND status IN (?, ?, ?) "
         "GROUP BY rider", copies.MISSED_BY_RIDER, now - copy.policy.span_days, now, copies.RIDDEN,
         copies.MISSED_BY_RIDER, copies.MISSED_BY_OPERATOR)
-    patterns = {rider: case_files.Pattern(ended, missed_by) for rider, ended, missed_by in found}
-    return {rider: it for rider, it in patterns.items() if case_files.is_pattern(it, copy.policy)}
+    return {rider: case_files.Pattern(ended, missed_by) for rider, ended, missed_by in found if missed_by}
 
 
 def riders_meeting(copy, now, policy, days=DAYS_LOOKED_BACK):
@@ -196,10 +195,10 @@ def policies(copy, now):
         ("No-shows", "Share", "Days", "Riders who meet it", "Riders with trips", ""), rows)
 
 
-def missed(files, patterns, now, names):
-    residents = {rider: it for rider, it in patterns.items() if rider in files}
-    rows = [(*names.rider(rider), it.missed, it.ended, f"{100 * it.missed // it.ended} %", steps(files[rider], now))
-            for rider, it in sorted(residents.items(), key=lambda it: (-it[1].missed, it[0]))]
+def missed(files, counts, desk, now, names):
+    patterns = {rider: it for rider, it in counts.items() if rider in files and desk.has_pattern(rider)}
+    rows = [(*names.rider(rider), it.missed, it.ended, f"{100 * it.missed // it.ended} %", steps(rider, files[rider], desk, now))
+            for rider, it in sorted(patterns.items(), key=lambda it: (-it[1].missed, it[0]))]
     return Listed(
         "missed", "Patterns of missed trips", "officer",
         "As the agency's policy has it: the trips of its days before today that have an outcome. What the agency "
@@ -207,9 +206,9 @@ def missed(files, patterns, now, names):
         ("Rider", "Name", "Missed", "Trips with an outcome", "Share", "Notice"), rows)
 
 
-def steps(entries, now):
+def steps(rider, entries, desk, now):
     """How far a suspension has come."""
-    ahead = [it for it in case_files.suspensions(entries) if it.b >= now]
+    ahead = [it for it in case_files.suspensions(entries) if it.b >= now and desk.standing(rider, day_of(it.b)).is_suspended]
     if ahead:
         return f"suspended {day_of(ahead[-1].a)} to {day_of(ahead[-1].b)}"
     given = case_files.notice(entries)
@@ -219,13 +218,13 @@ def steps(entries, now):
     return f"heard on {day_of(heard.day)}" if heard else f"given on {day_of(notice.day)}, not heard"
 
 
-def suspended_trips(copy, files, now, names):
-    spans = {rider: found for rider, entries in files.items() if (found := case_files.suspensions(entries))}
+def suspended_trips(copy, files, desk, now, names):
+    suspended = {rider for rider, entries in files.items() if case_files.suspensions(entries)}
     # (all booked trips at once: tables of version 1 have no index by which to find those of a rider)
     booked = copy.rows("SELECT id, rider, day, vehicle, window_from FROM trips WHERE status = ? AND day >= ? "
                        "ORDER BY day, window_from, id", copies.BOOKED, now)
     rows = [(*names.rider(rider), day_of(day), clock(begins), trip, vehicle_named(vehicle, names))
-            for trip, rider, day, vehicle, begins in booked if any(it.a <= day <= it.b for it in spans.get(rider, ()))]
+            for trip, rider, day, vehicle, begins in booked if rider in suspended and desk.standing(rider, day_of(day)).is_suspended]
     return Listed(
         "suspended", "Booked trips inside a suspension", "dispatcher",
         "These were booked before the rider was suspended. They stay until somebody cancels them.",
@@ -491,12 +490,12 @@ def told(entry, entries):
     if entry.kind == "appeal":
         return f"against entry {entry.a}"
     if entry.kind == "refuse":
-        return f"{entry.words} (may be appealed until {day_of(entry.day + DAYS_TO_APPEAL)})"
+        return f"{entry.words} (may be appealed until {day_of(entry.day + law.DAYS_TO_APPEAL)})"
     return entry.words
 
 
-def standing_told(copy, rider, entries, now):
-    """What stands for today, in sentences; or one sentence where the rider is not in the copy."""
+def standing_told(copy, desk, rider, entries, now):
+    """What stands for today, in sentences; or nothing where the rider is not in the copy."""
     records = copy.rows("SELECT kind, attendant FROM riders WHERE id = ?", rider)
     if not records:
         return None
@@ -508,9 +507,9 @@ def standing_told(copy, rider, entries, now):
                  f"{', in a wheelchair' if chairs else ''}."]
     if copies.KINDS[kind] == "visitor":
         return [*sentences, "A visitor has no case file."]
-    word, until = case_files.standing(entries, now)
-    sentences.append(f"Standing today: {word}{f' until {day_of(until)}' if until is not None else ''}.")
-    if case_files.is_suspended(entries, now):
+    standing = desk.standing(rider, day_of(now))
+    sentences.append(f"Standing today: {standing.word}{f' until {standing.until}' if standing.until else ''}.")
+    if standing.is_suspended:
         sentences.append("Suspended today.")
     if not entries:
         sentences.append("The case file has no entry.")

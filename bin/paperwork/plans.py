@@ -1,20 +1,16 @@
-"""Planned times: the least service times of each vehicle's route of a day, which are those of its manifest
-(docs/RULES.md, Service times of a route)."""
+"""Planned times: the desk's own sheet of each day, asked of a desk that serves the copy. And direct drives, which no sheet
+has (docs/RULES.md, Vehicles and travel tables)."""
 import bisect
 import collections
 import heapq
-import itertools
+import pathlib
 
 from moving.limits import LAST_MINUTE
+from moving.typed import served_copy
 from paperwork import copies
 from paperwork.copies import day_of
 
-PICKUP, DROP = 0, 1
-Version = collections.namedtuple("Version", "from_day depot opens closes duration")
-# What a route needs of a trip.
-Asked = collections.namedtuple("Asked", "origin goal latest service ride window_from window_to")
-# A visit of a vehicle: where, within which minutes, and for how long.
-Visit = collections.namedtuple("Visit", "place opens closes service")
+PICKUP, DROP = served_copy.PICKUP, served_copy.DROP
 # A stop of a plan: at which minute it begins, and how long it takes.
 Stop = collections.namedtuple("Stop", "trip kind minute service")
 
@@ -49,10 +45,6 @@ class Plans:
 
     def __init__(self, copy):
         self.copy = copy
-        self.versions = collections.defaultdict(list)
-        for vehicle, *version in copy.rows(
-                "SELECT id, from_day, depot, opens, closes, duration FROM vehicles ORDER BY id, from_day"):
-            self.versions[vehicle].append(Version(*version))
         tables = collections.defaultdict(lambda: collections.defaultdict(dict))
         for from_day, start, goal, minutes in copy.rows("SELECT from_day, a, b, minutes FROM travel"):
             tables[from_day][start][goal] = minutes
@@ -61,64 +53,29 @@ class Plans:
 
     def between(self, first, last):
         """The plan of each vehicle and day that has stops, as its stops in their order."""
-        asked = {number: Asked(*rest) for number, *rest in self.copy.rows(
-            "SELECT id, origin, goal, latest, service, ride, window_from, window_to FROM trips "
-            "WHERE day BETWEEN ? AND ? AND status <> ?", first, last, copies.CANCELLED)}
-        stops = self.copy.rows("SELECT vehicle, day, trip, kind FROM stops WHERE day BETWEEN ? AND ? "
-                               "ORDER BY vehicle, day, place", first, last)
-        for (vehicle, day), route in itertools.groupby(stops, lambda it: it[:2]):
-            yield vehicle, day, self.plan_of(vehicle, day, [it[2:] for it in route], asked)
+        days = dict(self.copy.rows("SELECT day, count(*) FROM stops WHERE day BETWEEN ? AND ? GROUP BY day ORDER BY day", first, last))
+        if not days:
+            return []
+        service = {trip: (vehicle, minutes) for trip, vehicle, minutes in self.copy.rows(
+            "SELECT id, vehicle, service FROM trips WHERE day BETWEEN ? AND ? AND status <> ?", first, last, copies.CANCELLED)}
+        try:
+            with served_copy.served(served_copy.program_of(self.copy.program), pathlib.Path(self.copy.path)) as desk:
+                return [it for day, count in days.items() for it in self.plans_of(day, count, desk.sheet(day_of(day)), service)]
+        except served_copy.Refused as error:
+            raise self.copy.unsound(error) from None
 
-    def plan_of(self, vehicle, day, route, asked):
-        version, drives = self.version_on(vehicle, day), self.drives_on(day)
-        if version is None or not all(trip in asked for trip, _ in route):
-            raise self.unsound(vehicle, day)
-        depot = Visit(version.depot, version.opens, version.closes, 0)
-        visits = [depot, *(visit_of(asked[trip], kind) for trip, kind in route), depot]
-        legs = [drives.between(here.place, there.place) for here, there in itertools.pairwise(visits)]
-        minutes = None if None in legs else least(visits, legs, rides_of(route, asked), version.duration)
-        if minutes is None:
-            raise self.unsound(vehicle, day)
-        return [Stop(*it, minute, asked[it[0]].service) for it, minute in zip(route, minutes[1:])]
-
-    def version_on(self, vehicle, day):
-        """The version in force: the one with the greatest first day that has come."""
-        there = [it for it in self.versions[vehicle] if it.from_day <= day]
-        return there[-1] if there else None
+    def plans_of(self, day, count, sheet, service):
+        """The plans of a day by the desk's sheet of it, which has so many stops."""
+        if len(sheet) != count:
+            raise self.copy.unsound(f"the desk's sheet of {day_of(day)} has {len(sheet)} of {count} stops")
+        routes = collections.defaultdict(list)
+        for stop in sheet:
+            if stop.trip not in service:
+                raise self.copy.unsound(f"the sheet of {day_of(day)} has trip {stop.trip}, which no table has")
+            vehicle, minutes = service[stop.trip]
+            routes[vehicle].append(Stop(stop.trip, stop.kind, stop.minute, minutes))
+        return [(vehicle, day, route) for vehicle, route in sorted(routes.items())]
 
     def drives_on(self, day):
         at = bisect.bisect_right(self.days, day)
         return self.tables[self.days[at - 1]] if at else Drives({})
-
-    def unsound(self, vehicle, day):
-        return self.copy.unsound(f"vehicle {vehicle} can't drive its stops of {day_of(day)} in time")
-
-
-def visit_of(trip, kind):
-    if kind == PICKUP:
-        return Visit(trip.origin, trip.window_from, trip.window_to, trip.service)
-    return Visit(trip.goal, 0, LAST_MINUTE if trip.latest == copies.NO_NUMBER else trip.latest, trip.service)
-
-
-def rides_of(route, asked):
-    """The visits of each trip's pickup and drop, and how long its ride may take. (Visit 0 is the depot.)"""
-    drops = {trip: at for at, (trip, kind) in enumerate(route, 1) if kind == DROP}
-    return [(at, drops.get(trip, at), asked[trip].ride)
-            for at, (trip, kind) in enumerate(route, 1) if kind == PICKUP]
-
-
-def least(visits, legs, rides, duration):
-    """The least minute of each visit that keeps all limits, or None where none do."""
-    minutes = [it.opens for it in visits]
-    while True:
-        for at, leg in enumerate(legs):
-            minutes[at + 1] = max(minutes[at + 1], minutes[at] + visits[at].service + leg)
-        if any(minute > it.closes for minute, it in zip(minutes, visits)):
-            return None
-        # (a limit of a ride or of the day puts off where it began, and all that follows)
-        late = [(pickup, minutes[drop] - visits[pickup].service - ride) for pickup, drop, ride in rides]
-        late = [(at, minute) for at, minute in [*late, (0, minutes[-1] - duration)] if minute > minutes[at]]
-        if not late:
-            return minutes
-        for at, minute in late:
-            minutes[at] = minute

@@ -238,7 +238,7 @@ def a_suspension_is_of_thirty_days_at_most(at):
 def make_worklist(at, today):
     """Of a copy of the desk's file, as each night's unit makes it."""
     folder = at.town.folder
-    words = [f"{ROOT}/bin/worklist", at.town.copied(), "--html", f"{folder}/site/{WORKLIST}", "--today", today,
+    words = [f"{ROOT}/bin/worklist", at.town.copied(), "--html", f"{folder}/site/{WORKLIST}", "--today", today, "--program", at.town.desk.program,
              "--agency", f"{folder}/source-agency.json", "--roster", f"{folder}/source-roster.csv"]
     made = subprocess.run(words, capture_output=True, text=True)
     if made.returncode:

@@ -609,6 +609,7 @@ def in_the_evening_the_vans_are_closed_out(at):
 def today_lists(at, day=DAY):
     """The lists of bin/worklist over a copy of the desk as it is now, as rows by the lists' names."""
     words = [f"{ROOT}/bin/worklist", at.town.copied(), "--html", f"{at.town.folder}/waits.html", "--tally", f"{at.town.folder}/tally.log", "--today", day,
+             "--program", at.town.desk.program,
              "--agency", f"{at.town.folder}/source-agency.json", "--roster", f"{at.town.folder}/source-roster.csv"]
     if os.path.exists(f"{at.town.folder}/corrections.csv"):
         words += ["--corrections", f"{at.town.folder}/corrections.csv"]
@@ -700,7 +701,7 @@ def the_printed_lists_and_the_reports_count_what_the_desk_has(at):
     same("trips without an outcome, by What waits", sorted(STORY.unclosed), sorted(numbers))
     counts = Counter(STORY.drivers.outcomes.values()) + Counter({"ridden": 1}) - Counter({"missed-rider": 1})
     words = [f"{ROOT}/bin/reports", "months", at.town.copied(), "--from", DAY, "--to", DAY, "--tally", f"{at.town.folder}/tally.log",
-             "--corrections", f"{at.town.folder}/corrections.csv"]
+             "--corrections", f"{at.town.folder}/corrections.csv", "--program", at.town.desk.program]
     ran = subprocess.run(words, capture_output=True, text=True)
     holds(f"bin/reports: {ran.stderr}", ran.returncode == 0 and "1 outcome is counted as corrected" in ran.stderr)
     row = next(csv.DictReader(io.StringIO(ran.stdout)))

@@ -221,7 +221,8 @@ def while_the_appeal_is_pending_the_rider_travels(at):
 def at_the_months_end_the_report_has_the_week(at):
     copy = at.town.copied()
     def report(name):
-        words = [f"{ROOT}/bin/reports", name, copy, "--month", "2025-03"]
+        asked = ["--program", at.town.desk.program] if name != "ntd" else []
+        words = [f"{ROOT}/bin/reports", name, copy, "--month", "2025-03", *asked]
         return subprocess.run(words, capture_output=True, text=True)
     made = report("months")
     holds(made.stderr, made.returncode == 0)

@@ -195,7 +195,7 @@ class WalkTown(base.Town):
     def write_worklist(self) -> None:
         """What waits, of a copy of the desk's file, as each night's unit makes it."""
         path = f"{self.folder}/site/staff/worklist.html"
-        words = [f"{base.ROOT}/bin/worklist", self.copied(), "--html", path, "--today", self.today,
+        words = [f"{base.ROOT}/bin/worklist", self.copied(), "--html", path, "--today", self.today, "--program", self.desk.program,
                  "--agency", f"{self.folder}/source-agency.json", "--roster", f"{self.folder}/source-roster.csv"]
         made = subprocess.run(words, capture_output=True, text=True, check=False)
         if made.returncode:

@@ -12,13 +12,14 @@ from collections import defaultdict
 from collections.abc import Callable, Iterable, Sequence
 from dataclasses import dataclass
 
+from desk_tools import law
 from desk_tools.flex.outline import Line, Point, polygons_of
 
 Position = Callable[[float, float], tuple[float, float]]
 Table = list[dict[str, str]]
 WEEKDAYS = ("monday", "tuesday", "wednesday", "thursday", "friday", "saturday", "sunday")
 RULE, ROUTE, AGENCY = "ada", "paratransit", "agency"
-FIRST_DAY, LAST_DAY = 14, 1
+FIRST_DAY, LAST_DAY = law.DAYS_AHEAD, 1
 PHONE_AGENCY, NOT_AVAILABLE, PRIOR_DAYS, BUS = "2", "1", "2", "3"
 REMOVED = "2"
 

@@ -8,10 +8,11 @@ import re
 from collections.abc import Mapping, Sequence
 from dataclasses import dataclass, field
 
+from desk_tools import law
 from desk_tools.letters.on_record import Notice, Part, missed_in, notice_in, part_in
 from desk_tools.letters.sentences import TEXTS, Step, plan_of
 
-APPEAL_DAYS, HEARING_DAYS, PRESUMED_DAYS = 60, 15, 21
+HEARING_DAYS = 15
 _APPEALABLE = ("refused", "suspended")
 _DECISIONS = ("granted", "refused")
 _PLACEHOLDER = re.compile(r"\{(\w+)\}")
@@ -191,7 +192,7 @@ def _is_pair(refusal: Letter, grant: Letter) -> bool:
     if grant.decision != "granted" or not part_of(refusal) or begins is None or ends is None:
         return False
     has_all = "always" in grant.lines.get("CONDITIONS", "").split("; ")
-    return not has_all and (ends - begins).days <= APPEAL_DAYS
+    return not has_all and (ends - begins).days <= law.DAYS_TO_APPEAL
 
 
 def _days_of(letter: Letter, letters: Sequence[Letter]) -> tuple[str, str]:
@@ -232,15 +233,15 @@ def _facts_of(letter: Letter, about: About) -> _Facts:
         "agency": about.agency.name,
         "call": about.agency.telephone or about.agency.name,
         "rider": about.rider,
-        "days": APPEAL_DAYS,
+        "days": law.DAYS_TO_APPEAL,
         "until": day_in(own, part.until if is_part and part else lines.get("UNTIL", "")),
         "from": day_in(own, first),
         "to": day_in(own, last),
         "date": day_in(own, kind.refusal.date),
-        "day": day_in(own, more.get("day") or _plus(kind.refusal.date, APPEAL_DAYS)),
+        "day": day_in(own, more.get("day") or _plus(kind.refusal.date, law.DAYS_TO_APPEAL)),
         "hearing": day_in(own, _plus(kind.main.date, HEARING_DAYS)),
         "since": day_in(own, more.get("since", "")),
-        "by": day_in(own, _plus(more.get("since", ""), PRESUMED_DAYS)),
+        "by": day_in(own, _plus(more.get("since", ""), law.DAYS_UNTIL_PRESUMED)),
         "against": day_in(own, more.get("against", "")),
         "decision": title_in(own, more["decision"]) if more.get("decision") else "",
     }
