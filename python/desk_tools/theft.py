@@ -207,11 +207,16 @@ class Caller:
 def callers_in(copy: pathlib.Path) -> dict[int, Caller]:
     """Each caller, by number."""
     with tables_of(copy) as tables:
-        found = tables.execute("SELECT id, role, subject, digest FROM callers")
-        return {
-            number: Caller(ROLES[role], subject, bytes(digest))
-            for number, role, subject, digest in found
-        }
+        return callers_of(tables)
+
+
+def callers_of(tables: sqlite3.Connection) -> dict[int, Caller]:
+    """Each caller of an open file, by number."""
+    found = tables.execute("SELECT id, role, subject, digest FROM callers")
+    return {
+        number: Caller(ROLES[role], subject, bytes(digest))
+        for number, role, subject, digest in found
+    }
 
 
 def callers_for(callers: Mapping[int, Caller], role: str, subject: int) -> list[int]:
