@@ -13,6 +13,7 @@ import sqlite3
 import tempfile
 import time
 
+from . import interrupted
 from .content import TABLES, EPOCH, check_same, check_whole, content_of, content_of_pair, day_of, number_of, opened
 from .copying import check_copy, check_folder_of, check_room, copied, folder_within, give_name, size_of, summed, synced
 from .ending import WRONG_WORDS, Failure
@@ -217,7 +218,8 @@ class Archive:
         check_folder_of(self.archive)
         before = os.umask(0o077)
         try:
-            with locked(self.desk.file), folder_within(self.desk.folder, ".archived-") as folder:
+            with interrupted.one_at_a_time(self.desk), locked(self.desk.file), \
+                    folder_within(self.desk.folder, ".archived-") as folder:
                 self.make_within(folder)
         finally:
             os.umask(before)

@@ -48,7 +48,7 @@ class Backup:
         except BlockingIOError:
             os.close(self.lock)
             self.lock = None
-            raise Failure(f"{self.folder} is in use by another backup", WRONG_WORDS) from None
+            raise Failure(f"{self.folder} is in use by another backup") from None
         self.clear()
 
     def check_there_is_room(self):

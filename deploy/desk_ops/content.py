@@ -37,6 +37,16 @@ class Content:
                 f"{counted(counts['trips'], 'trip')}, the last number is {self.last_trip}{days}")
 
 
+def mark_of(digest):
+    """What tells the digest of a caller's key from others, and gives none away."""
+    return hashlib.sha256(b"caller of a desk " + digest).hexdigest()[:16]
+
+
+def identity_of(content):
+    """By what the agency of a file is known: no two agencies have a caller of one key."""
+    return {"callers": sorted(map(mark_of, content.callers))}
+
+
 def counted(count, word):
     return f"{count:,} {word}{'' if count == 1 else 's'}"
 

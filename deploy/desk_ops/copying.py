@@ -47,11 +47,23 @@ def written_whole(file, piece, name):
     """Writes all of the bytes: a write may take fewer, and says so."""
     rest = memoryview(piece)
     while rest:
-        count = file.write(rest)
+        with naming(name):
+            count = file.write(rest)
         if not count:
             raise Failure(f"{name}: nothing more was written")
         rest = rest[count:]
     return len(piece)
+
+
+@contextlib.contextmanager
+def naming(path):
+    """A fault of the disk meanwhile names the file: the system itself tells it without."""
+    try:
+        yield
+    except OSError as error:
+        if error.filename is None:
+            error.filename = path
+        raise
 
 
 def summed(path):
@@ -68,7 +80,8 @@ def synced(path):
     """What the file or folder holds is on the disk."""
     file = os.open(path, os.O_RDONLY)
     try:
-        os.fsync(file)
+        with naming(path):
+            os.fsync(file)
     finally:
         os.close(file)
 

@@ -1,4 +1,4 @@
-"""What another machine's key may do here by ssh: add copies and read their list, and nothing else.
+"""What another machine's key may do here by ssh: add copies, read their list, and fetch the copy that was opened.
 
 sshd starts `standby serve-copies FOLDER` for such a key, whatever it asks for (`command=` in authorized_keys), and gives
 what was asked in SSH_ORIGINAL_COMMAND. Nothing of it goes to a shell.
@@ -14,7 +14,8 @@ from .places import AGENCY_NAME
 # What rsync asks for here, where `standby send` brings a copy: no removal, no link, no reading, no other name.
 RSYNC = re.compile(r"-(?:tz|t|z)?e\.[A-Za-z]*|--timeout=\d+|--bwlimit=\d+[kKmM]?|--log-format=[A-Za-z%]*|--partial|\.")
 DIGEST = re.compile(r"[0-9a-f]{64}")
-REFUSED = "this key may add copies and read their list, and nothing else"
+# (what was opened is a copy that this key once brought: so it tells the one who brought it nothing new)
+REFUSED = "this key may add copies, read their list and fetch the one that was opened, and nothing else"
 
 
 def folder_in(given, asked):
@@ -37,6 +38,10 @@ def served(folder, asked):
         return standby.state(folder_in(folder, rest[0]))
     if task == "list" and len(rest) == 1:
         return "\n".join(standby.listed(folder_in(folder, rest[0])))
+    if task == "opened" and len(rest) == 1:
+        return standby.opened_copy(folder_in(folder, rest[0]))
+    if task == "fetch" and len(rest) == 2 and rest[1] == standby.opened_copy(folder_in(folder, rest[0])):
+        os.execvp("cat", ["cat", "--", f"{folder_in(folder, rest[0])}/copies/{rest[1]}"])
     if task == "receive" and len(rest) == 2 and DIGEST.fullmatch(rest[1]):
         return standby.receive(folder_in(folder, rest[0]), rest[1])
     if task == "names" and len(rest) == 1:

@@ -7,8 +7,10 @@ import datetime
 import json
 import os
 import sys
+import time
 
 from . import standby
+from .answering import NotServing
 from .content import counted, summary_of
 from .copying import check_room, size_of, synced
 from .ending import WRONG_WORDS, Failure, pass_over_signals, sentence_of
@@ -18,6 +20,8 @@ from .retention import copies_in, moment_of
 from .zones import check_zone
 
 FLAG, WORD = "--without-last-copy", "open"
+# With less than that no copy finds room.
+LEAST_ROOM = 1 << 20
 
 
 def missing_rows(newer, older):
@@ -35,18 +39,25 @@ def told_minutes(since, until):
 
 
 class Opening:
-    """The desk of this machine serves the newest copy of a folder. `agreed` is whether it may be one that lacks writes."""
+    """The desk of this machine serves the newest copy of a folder. `agreed` is whether it may be one that lacks writes.
+    `say` tells a line as soon as it is so."""
 
-    def __init__(self, desk, folder, settings, first=None, first_is_off=False, agreed=False):
+    def __init__(self, desk, folder, settings, first=None, first_is_off=False, agreed=False, say=lambda _: None):
         self.desk, self.folder, self.settings = desk, folder, settings
         self.first, self.first_is_off, self.agreed = first, first_is_off, agreed
-        self.answer = self.fence_before = None
+        self.answer = self.fence_before = self.copy = None
         self.is_fenced_by_us = self.is_marked = False
+        self.say, self.since = say, None
         self.told = []
+
+    def tell(self, *lines):
+        for it in lines:
+            self.told.append(it)
+            self.say(it)
 
     def make(self):
         if not os.path.isdir(f"{self.folder}/copies"):
-            raise Failure(f"{self.folder}/copies has no copy")
+            raise Failure(f"{self.folder}/copies has no copy: nothing was changed, and who served before serves on")
         with standby.alone(f"{self.folder}/copies", 2, "somebody else opens the desk on this machine at this moment"):
             self.check_beforehand()
             try:
@@ -55,14 +66,15 @@ class Opening:
             except BaseException as error:
                 pass_over_signals()
                 raise Failure(f"{sentence_of(error)}; {self.given_back()}", getattr(error, "status", 1)) from None
-        return self.told
 
     # Beforehand: nothing is changed.
 
     def check_beforehand(self):
         copies = self.copies()
         if not copies:
-            raise Failure(f"{self.folder}/copies has no copy")
+            room = os.statvfs(self.folder)
+            full = ", and its disk is full" if room.f_frsize * room.f_bavail < LEAST_ROOM else ""
+            raise Failure(f"{self.folder}/copies has no copy{full}: nothing was changed, and who served before serves on")
         if standby.is_opened(self.folder) and not self.was_cut_off():
             raise Failure(f"this machine has opened the desk already: {self.folder}/{standby.OPENED} says when. If it does "
                           f"not run, say systemctl start {self.desk.unit}. To put a copy in place of what it has written "
@@ -93,23 +105,24 @@ class Opening:
     def stop_first(self):
         """The first machine serves no longer. Its answer says whether its last copy was sent."""
         if not self.first:
-            self.told.append("the first machine is off, as was said; it fences itself when it is back")
+            self.tell("the first machine is off, as was said; it fences itself when it is back")
             return
+        begun = time.monotonic()
         try:
             said = self.settings.told(self.first, *self.words("fence", "--answer"))
         except standby.NotTold as failure:
             # (it may be fenced, where the line broke before it answered)
             self.is_fenced_by_us = failure.is_reached
             if self.first_is_off:
-                self.told.append(f"{failure}; the first machine is off, as was said; it fences itself when it is back")
+                self.tell(f"{failure}; the first machine is off, as was said; it fences itself when it is back")
                 return
             if failure.is_reached:
                 raise Failure(f"{self.first} did not answer whether it is fenced ({failure})") from None
             raise Failure(f"{self.first} could not be fenced ({failure}): take its power or its network away, and say "
                           "--first-is-off") from None
-        self.is_fenced_by_us = True
+        self.is_fenced_by_us, self.since = True, begun
         self.answer = answer_in(said)
-        self.told.append(f"{self.first} is fenced and serves no longer")
+        self.tell(f"{self.first} is fenced and serves no longer")
 
     # The copy.
 
@@ -121,10 +134,13 @@ class Opening:
                 self.agree_to_lose(name, refused)
             try:
                 restored = self.restored(f"{self.folder}/copies/{name}")
+            except NotServing:
+                # (another copy would not serve either)
+                raise
             except Failure as failure:
                 refused.append(f"{name} could not be opened: {failure}")
                 continue
-            self.told += [*refused, *restored.told().splitlines(), *self.enabled()]
+            self.tell(*refused, *restored.told().splitlines(), *self.enabled())
             return
         raise Failure("; ".join(refused))
 
@@ -134,11 +150,11 @@ class Opening:
             return None
         for name in self.copies()[:standby.TURN]:
             if standby.digest_of(f"{self.folder}/copies/{name}") == self.answer["sent"]:
-                self.told.append(f"its last copy, of after it had stopped, came as {name}: no write is missing")
+                self.tell(f"its last copy, of after it had stopped, came as {name}: no write is missing")
                 return name
         newest = self.copies()[0]
         if self.answer["content"] and self.answer["content"] == summary_of(f"{self.folder}/copies/{newest}"):
-            self.told.append(f"its last copy did not come ({self.answer['why']}), but {newest} has all of its writes")
+            self.tell(f"its last copy did not come ({self.answer['why']}), but {newest} has all of its writes")
             return newest
         return None
 
@@ -161,12 +177,12 @@ class Opening:
         """A person agrees to a copy that lacks writes, by a word or by the flag."""
         missing = "; ".join([*refused, self.what_is_missing(name)])
         if self.agreed:
-            self.told.append(missing)
+            self.tell(missing)
             return
         if sys.stdin.isatty():
             print(f"deploy/standby: {missing}", flush=True)
             if input(f'Type "{WORD}" to open it all the same: ').strip() == WORD:
-                self.told.append(missing)
+                self.tell(missing)
                 return
         raise Failure(f"{missing}. To open it all the same, say {FLAG}")
 
@@ -177,13 +193,14 @@ class Opening:
             with open(self.desk.fence, encoding="utf-8") as file:
                 self.fence_before = file.read()
             os.remove(self.desk.fence)
+        self.copy = os.path.basename(copy)
         return Restore(self.desk, copy, migrate=True, another=True, starts_old=False,
-                       is_placed=lambda: self.mark_opened(True)).make()
+                       is_placed=lambda: self.mark_opened(True), since=self.since).make()
 
     def mark_opened(self, is_placed):
         path = f"{self.folder}/{standby.OPENED}"
         said = {"at": f"{datetime.datetime.utcnow():%Y-%m-%dT%H:%M:%SZ}", "how": self.told[0], "fence": self.desk.fence,
-                "placed": is_placed}
+                "placed": is_placed, "copy": self.copy}
         with open(f"{path}.new", "w", encoding="utf-8") as file:
             json.dump(said, file)
         # (the user who takes the copies reads it)

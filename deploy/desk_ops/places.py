@@ -4,6 +4,7 @@ import os
 import re
 import subprocess
 
+from . import answering
 from .ending import WRONG_WORDS, Failure
 
 PROGRAM = "/usr/local/bin/desk"
@@ -12,6 +13,7 @@ SETTINGS = "/etc/desk"
 BESIDE = "desk-today.service", "desk-record.service", "desk-journal.timer", "desk-retention.timer", \
     "desk-driver-files.timer", "desk-closed-days.timer", "desk-denials.timer", "desk-reminders.timer", "desk-reminders-soon.timer"
 OF_MACHINE = "desk-health.service", "desk-watch.timer", "desk-restart.timer"
+PORT = "8437"
 AGENCY_NAME = re.compile(r"[a-z0-9]+(-[a-z0-9]+)*")
 
 
@@ -29,6 +31,7 @@ class Desk:
         self.log = f"{self.file}-wal"
         settings = os.environ.get("SETTINGS") or SETTINGS
         self.fence = os.environ.get("FENCE") or (f"{settings}/{agency}.fenced" if agency else f"{settings}/fenced")
+        self.conf = f"{settings}/{agency}.conf" if agency else None
 
     def process(self):
         """The number of the process that serves, or 0."""
@@ -45,6 +48,24 @@ class Desk:
         """Starts the desk, also where systemd gave it up after a loop of starts."""
         command = f"systemctl reset-failed {self.unit} 2>/dev/null; systemctl start {self.unit}"
         answer_of(os.environ.get("START") or command)
+
+    def port(self):
+        """The port of this machine on which the desk answers."""
+        return int(value_of(self.conf, "PORT", PORT) if self.conf else PORT)
+
+    def start_until_it_serves(self):
+        """Starts the desk, and looks that it serves. Where START is another command, ANSWERS may be one that says so."""
+        self.start()
+        if os.environ.get("ANSWERS"):
+            answered = subprocess.run(["bash", "-c", os.environ["ANSWERS"]], capture_output=True, stdin=subprocess.DEVNULL, check=False)
+            if answered.returncode:
+                raise answering.NotServing(f"the desk was started and does not answer: journalctl -u {self.unit} says why")
+        elif self.is_asked():
+            answering.wait_until_it_serves(self.unit, self.port())
+
+    def is_asked(self):
+        """Whether this machine's desk is asked, once it is started, whether it serves."""
+        return bool(os.environ.get("ANSWERS")) or not os.environ.get("START")
 
     def enable(self):
         """The desk, and what runs beside it by desk-setup's answers, begin at each start of the machine."""
@@ -68,6 +89,16 @@ class Desk:
             raise Failure(f"process {process} does not serve {self.file}: FILE or PROCESS is another desk's, "
                           "or this takes the rights of root")
         return process
+
+
+def value_of(path, name, default=None):
+    """The value of NAME=VALUE in a file of settings. One that is there and cannot be read is no empty one."""
+    try:
+        with open(path, encoding="utf-8") as file:
+            found = re.findall(rf"(?m)^{name}=(.*)$", file.read())
+    except FileNotFoundError:
+        return default
+    return found[-1].strip() if found else default
 
 
 def nightly_in(path):

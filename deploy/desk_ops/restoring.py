@@ -4,24 +4,24 @@ All that can be tried is tried while the desk still runs. Where a later step fai
 """
 import contextlib
 import os
+import secrets
 import shutil
 import sqlite3
-import tempfile
+import subprocess
 import time
 
-from .content import check_whole, content_of, content_of_pair
+from . import interrupted, keys_of_then
+from .content import check_whole, content_of
 from .copying import check_copy, check_room, copied, folder_within, size_of, summed, synced
-from .ending import WRONG_WORDS, Failure, pass_over_signals
+from .ending import WRONG_WORDS, Failure, pass_over_signals, sentence_of
 from .judge import judge_or_migrate, migrated
-from .locking import alone
 from .places import program_to_start
 from .zones import check_zone
 
 EMPTY_LOG = 41
 # The new file, what the desk opens and throws away, and what SQLite writes as it goes.
 COPIES = 3
-# So many seconds it waits for another script that works in the folder.
-PATIENCE = 2
+SERVES, SILENT = "the desk serves the file of before again", "the file of before is in its place again, and the desk does not serve it"
 
 
 def check_backup(copy):
@@ -64,29 +64,22 @@ def settled(file):
     return file, content_of(file)
 
 
-def callers_before(desk):
-    """The callers of the database that is replaced, or None where it cannot be read."""
-    try:
-        return content_of_pair(desk.file).callers
-    except Failure:
-        return None
-
-
 class Restore:
     """Puts the backup `copy` in the place of the database of a desk.
 
     `starts_old` is whether the old file is served again where this fails: not where another machine has served since.
-    `is_placed` is called once the backup is in its place, and before the desk starts.
+    `is_placed` is called once the backup is in its place, and before the desk starts. `since` is the moment of
+    time.monotonic() from which on the office is without the desk, where that is before this one stops it.
     """
 
-    def __init__(self, desk, copy, migrate=False, another=False, starts_old=True, is_placed=lambda: None):
+    def __init__(self, desk, copy, migrate=False, another=False, starts_old=True, is_placed=lambda: None, since=None):
         self.desk, self.copy = desk, os.path.abspath(copy)
         self.migrate, self.another, self.starts_old, self.is_placed = migrate, another, starts_old, is_placed
-        self.kept = None
+        self.since, self.kept, self.note = since, None, None
         self.moved = []
         self.placed = self.stopped = False
         self.is_compared = True
-        self.content = None
+        self.content = self.callers_before = self.callers_then = None
         self.seconds = 0
 
     def make(self):
@@ -94,8 +87,8 @@ class Restore:
         if not os.path.isdir(self.desk.folder):
             raise Failure(f"there is no folder {self.desk.folder}: set the machine up first, as README.md says")
         check_zone(self.desk)
-        with alone(self.desk.folder, PATIENCE, f"somebody else has {self.desk.folder} at this moment, for a restore or for a "
-                   "copy: nothing was changed"):
+        with interrupted.one_at_a_time(self.desk):
+            interrupted.put_right(self.desk)
             self.prepare_and_replace()
         return self
 
@@ -107,24 +100,32 @@ class Restore:
             # (nobody else restores here meanwhile: what is left has no process, however young it is)
             with folder_within(self.desk.folder, ".restored-", left_for=0) as folder:
                 file, self.content = prepared(self.copy, folder, program, self.migrate)
+                self.callers_then = keys_of_then.callers_of_pair(file)
                 self.replace(file)
         finally:
             os.umask(before)
 
     def replace(self, file):
         """The part in which the office is without the desk."""
-        begun = time.monotonic()
+        begun = time.monotonic() if self.since is None else self.since
         try:
+            kept = f"{self.desk.folder}/before-{time.strftime('%Y%m%d-%H%M%S')}-{secrets.token_hex(4)}"
+            self.note = interrupted.Note(self.desk, "a restore", kept, self.starts_old)
             self.stopped = True
             self.desk.stop()
             self.check_agency()
-            self.put_aside()
+            self.put_aside(kept)
             self.put_in_place(file)
             self.is_placed()
-            self.desk.start()
-        except BaseException:
-            self.put_back()
-            raise
+            self.note.is_placed()
+            self.desk.start_until_it_serves()
+            self.note.remove()
+        except BaseException as error:
+            who_serves = self.put_back()
+            if not who_serves:
+                raise
+            kind = type(error) if isinstance(error, Failure) else Failure
+            raise kind(f"{sentence_of(error)}; {who_serves}", getattr(error, "status", 1)) from None
         self.seconds = time.monotonic() - begun
 
     def check_agency(self):
@@ -133,18 +134,20 @@ class Restore:
             raise Failure("the desk did not stop")
         if not os.path.exists(self.desk.file):
             return
-        callers = callers_before(self.desk)
-        self.is_compared = callers is not None
-        if callers and not callers & self.content.callers and not self.another:
+        self.callers_before = keys_of_then.callers_of_pair(self.desk.file)
+        self.is_compared = self.callers_before is not None
+        digests = {it.digest for it in (self.callers_before or {}).values()}
+        if digests and not digests & self.content.callers and not self.another:
             raise Failure(f"{self.copy} is another agency's: no caller of it is one of {self.desk.file}; "
                           "if that is meant, say --another")
 
-    def put_aside(self):
+    def put_aside(self, kept):
         """What is there goes into a folder of its own, the log with it: it would be taken for the new file's."""
         there = [it for it in (self.desk.file, self.desk.log, f"{self.desk.file}-shm") if os.path.exists(it)]
         if not there:
             return
-        self.kept = tempfile.mkdtemp(prefix=f"before-{time.strftime('%Y%m%d-%H%M%S')}-", dir=self.desk.folder)
+        os.mkdir(kept, 0o700)
+        self.kept = kept
         for path in there:
             os.rename(path, f"{self.kept}/{os.path.basename(path)}")
             self.moved.append(path)
@@ -175,15 +178,36 @@ class Restore:
             for path in (self.desk.file, self.desk.log):
                 with contextlib.suppress(FileNotFoundError):
                     os.remove(path)
-        for path in self.moved:
+        # (the file itself last: one that is there has its log beside it)
+        for path in reversed(self.moved):
             os.rename(f"{self.kept}/{os.path.basename(path)}", path)
         if self.kept:
             shutil.rmtree(self.kept, ignore_errors=True)
-        if self.stopped and self.starts_old and os.path.exists(self.desk.file):
-            self.desk.start()
+        return self.served_again()
+
+    def served_again(self):
+        """The old file is served again, where it may be; who serves, in words, or nothing where the caller says it."""
+        try:
+            if not self.stopped or not self.starts_old:
+                return ""
+            if not os.path.exists(self.desk.file):
+                return "there is no database, as before, and nothing serves"
+            try:
+                self.desk.start_until_it_serves()
+            except (Failure, OSError, subprocess.SubprocessError) as error:
+                return f"{SILENT} ({sentence_of(error)})"
+            return SERVES
+        finally:
+            if self.note:
+                self.note.remove()
 
     def told(self):
         kept = f"; what was there is in {self.kept}" if self.kept else ""
         kept += "" if self.is_compared else ", and could not be read, so whether it is the same agency's is not known"
-        return (f"{self.copy} has {self.content.told()}\n{self.desk.file} is that backup now{kept}; "
-                f"the office was without the desk for {self.seconds:.1f} seconds, beside its opening")
+        opening = ", until it answered" if self.desk.is_asked() else ", beside its opening"
+        return "\n".join([f"{self.copy} has {self.content.told()}", f"{self.desk.file} is that backup now{kept}; the office was "
+                          f"without the desk for {self.seconds:.1f} seconds{opening}", *self.keys_of_then()])
+
+    def keys_of_then(self):
+        """The keys that hold again, or no longer, since the restore; a line each, and what to do."""
+        return keys_of_then.told(self.callers_before, self.callers_then) if self.kept else []

@@ -18,6 +18,7 @@ from .backing_up import Backup
 from .content import check_whole, content_of, summary_of_pair
 from .copying import check_copy, copied, folder_within, give_name, synced
 from .ending import WRONG_WORDS, Failure, sentence_of
+from .fences import BY_ITSELF, CHANGE, COMPARED, WITHOUT, text_of_fence
 from .judge import judge
 from .locking import alone, is_held
 from .places import program_to_start
@@ -30,8 +31,6 @@ PATIENCE = int(os.environ.get("PATIENCE_OF_LINE") or 15)
 # So many seconds a change-over waits for a copy that is on its way.
 TURN = 120
 OPENED, OPENING, WAITING = "opened", "opening", "waiting"
-# How the fence begins of a machine whose successor has not opened the desk yet.
-CHANGE = "change-over"
 # What ssh says where it did not get so far as to run anything.
 NOT_REACHED = ("ssh: ", "Host key verification failed", "Permission denied")
 
@@ -76,10 +75,13 @@ class Settings:
                 f"ServerAliveInterval={PATIENCE // 3}",
                 "-o", "ServerAliveCountMax=3"]
 
+    def command(self, *words):
+        """The command of the script there, as one text."""
+        return " ".join(shlex.quote(it) for it in (self.script, *words))
+
     def told(self, machine, *words):
         """What the script of the other machine answers, as it ends with status 0."""
-        command = " ".join(shlex.quote(it) for it in (self.script, *words))
-        said = subprocess.run([*self.shell(), machine, command], stdin=subprocess.DEVNULL, capture_output=True,
+        said = subprocess.run([*self.shell(), machine, self.command(*words)], stdin=subprocess.DEVNULL, capture_output=True,
                               text=True)
         if said.returncode:
             why = " ".join((said.stderr.strip() or said.stdout).split()) or f"ended with status {said.returncode}"
@@ -105,7 +107,7 @@ def send(desk, settings, rate=None):
     if os.path.exists(desk.fence):
         return told_of_fence(desk, machine, state_there)
     if state_there == OPENED:
-        fence(desk, f"{machine} serves since it was opened")
+        fence(desk, f"{machine} {BY_ITSELF}")
         raise Failure(f"{machine} has opened the desk: this machine is fenced and serves no longer")
     begun = time.monotonic()
     with alone(desk.folder, 0, "another copy is on its way to the second machine"):
@@ -147,11 +149,7 @@ def fence(desk, why):
     os.makedirs(os.path.dirname(desk.fence), exist_ok=True)
     is_new = not os.path.exists(desk.fence)
     if is_new or is_changing(desk):
-        with open(f"{desk.fence}.new", "w", encoding="utf-8") as file:
-            file.write(f"{why}; fenced at {datetime.datetime.utcnow():%Y-%m-%dT%H:%M:%SZ}\n")
-        os.chmod(f"{desk.fence}.new", 0o644)
-        os.rename(f"{desk.fence}.new", desk.fence)
-        synced(os.path.dirname(desk.fence))
+        write_fence(desk, f"{why}; fenced at {datetime.datetime.utcnow():%Y-%m-%dT%H:%M:%SZ}\n")
     try:
         desk.stop()
         if desk.process():
@@ -163,18 +161,31 @@ def fence(desk, why):
         raise
 
 
+def write_fence(desk, text):
+    with open(f"{desk.fence}.new", "w", encoding="utf-8") as file:
+        file.write(text)
+    os.chmod(f"{desk.fence}.new", 0o644)
+    os.rename(f"{desk.fence}.new", desk.fence)
+    synced(os.path.dirname(desk.fence))
+
+
+def note_compared(desk):
+    """The fence says that somebody has listed what is missing."""
+    text = text_of_fence(desk.fence)
+    if COMPARED not in text:
+        write_fence(desk, f"{text}{COMPARED} at {datetime.datetime.utcnow():%Y-%m-%dT%H:%M:%SZ}\n")
+
+
 def is_changing(desk):
     """Whether the fence is that of a change-over whose end this machine has not seen."""
-    with contextlib.suppress(OSError), open(desk.fence, encoding="utf-8") as file:
-        return file.read().startswith(CHANGE)
-    return False
+    return text_of_fence(desk.fence).startswith(CHANGE)
 
 
 def unfence(desk):
     with contextlib.suppress(FileNotFoundError):
         os.remove(desk.fence)
     synced(os.path.dirname(desk.fence))
-    desk.start()
+    desk.start_until_it_serves()
 
 
 def fence_for_change(desk, settings):
@@ -191,6 +202,7 @@ def fence_for_change(desk, settings):
             answer["sent"] = brought(desk, settings)[2]
         except (Failure, OSError, subprocess.SubprocessError) as error:
             answer["why"] = sentence_of(error)
+            write_fence(desk, f"{CHANGE} to another machine, {WITHOUT}; fenced at {answer['at']}\n")
     return json.dumps(answer)
 
 
@@ -214,7 +226,7 @@ def ask_at_start(desk, settings):
     except NotTold as failure:
         return f"{failure}; the second machine did not answer, and this one serves"
     if state_there == OPENED:
-        fence(desk, f"{machine} serves since it was opened")
+        fence(desk, f"{machine} {BY_ITSELF}")
         raise Failure(f"{machine} has opened the desk: this machine is fenced and serves no longer")
     return f"{machine} has not opened the desk"
 
@@ -243,6 +255,18 @@ def is_opened(folder):
     with contextlib.suppress(ValueError, AttributeError):
         return not os.path.exists(json.loads(text).get("fence") or "/etc/desk/fenced")
     return True
+
+
+def opened_copy(folder):
+    """The name of the copy that the second machine has opened."""
+    try:
+        with open(f"{folder}/{OPENED}", encoding="utf-8") as file:
+            name = json.load(file).get("copy")
+    except (OSError, ValueError, AttributeError):
+        name = None
+    if not name or name not in copies_in([name]):
+        raise Failure("this machine has opened no copy of yours, or does not know which: name a copy of what it opened by --copy")
+    return name
 
 
 def receive(folder, digest):

@@ -12,11 +12,12 @@ import time
 import urllib.error
 import urllib.request
 
-from . import elsewhere
+from . import elsewhere, interrupted
 from .ending import Failure
-from .places import AGENCY_NAME, SETTINGS
+from .fences import is_compared
+from .places import AGENCY_NAME, PORT, SETTINGS, Desk, value_of
 
-PORT, SHOWN = "8437", ("LoadState", "ActiveState", "Result", "NRestarts", "ExecMainExitTimestamp", "ExecMainStatus")
+SHOWN = ("LoadState", "ActiveState", "Result", "NRestarts", "ExecMainExitTimestamp", "ExecMainStatus")
 OTHER_SETTINGS = ("standby", "watch", "copies", "offsite")
 MINUTE, HOUR, DAY = 60, 3_600, 86_400
 MOST_RESTARTS, LONGEST_STEP = 3, 15 * MINUTE
@@ -28,16 +29,6 @@ NO_ROOM, DAYS_OF_COPIES = 16 << 20, 90
 PUBLISHED = "/run/desk-watch.json"
 STORE_FAILED = 503
 WEB, HEAD = ("https://", "http://"), {"Content-Type": "text/plain; charset=utf-8", "User-Agent": "desk-watch"}
-
-
-def value_of(path, name, default=None):
-    """The value of NAME=VALUE in a file of settings. One that is there and cannot be read is no empty one."""
-    try:
-        with open(path, encoding="utf-8") as file:
-            found = re.findall(rf"(?m)^{name}=(.*)$", file.read())
-    except FileNotFoundError:
-        return default
-    return found[-1].strip() if found else default
 
 
 def told_of(settings):
@@ -90,12 +81,6 @@ def size_of(folder):
     return sum(os.stat(it).st_size for it in glob.glob(f"{folder}/desk.db*"))
 
 
-def written_in(folder):
-    """When the desk's file or its log was written last."""
-    paths = (it for it in (f"{folder}/desk.db", f"{folder}/desk.db-wal") if os.path.exists(it))
-    return max((os.stat(it).st_mtime for it in paths), default=None)
-
-
 def copies_in(folder):
     """How many copies of before an upgrade there are, their bytes, and when the oldest was made."""
     found = [os.stat(it) for it in glob.glob(f"{folder}/desk.db.before-*") if not it.endswith("-wal")]
@@ -110,9 +95,10 @@ def facts(settings=SETTINGS):
         "units": {it.unit: shown(f"{it.unit}.service") for it in desks},
         "backups": {it.unit: newest_in(os.environ.get("BACKUPS") or it.backups) for it in desks},
         "sizes": {unit: size_of(folder) for unit, folder in folders.items()},
-        "written": {unit: written_in(folder) for unit, folder in folders.items()},
         "copies": {unit: copies_in(folder) for unit, folder in folders.items()},
         "ports": {it.unit: it.port for it in desks},
+        "sites": {it.unit: it.name for it in desks},
+        "interrupted": {unit: interrupted.left_in(folder) for unit, folder in folders.items()},
         "standby": {it.unit: shown(it.standby) for it in desks} if os.path.exists(f"{settings}/standby.conf") else {},
         "elsewhere": elsewhere.facts(settings, {it.unit: (it.agency, os.environ.get("BACKUPS") or it.backups) for it in desks},
                                      time.time()),
@@ -269,6 +255,20 @@ def troubles_of_standby(unit, seen, state, now):
         yield "standby", f"the second machine is behind: its last copy is of {moment_of(last)}"
 
 
+def troubles_of_interruption(said, unit, wanted):
+    """A script that was killed after it had stopped the desk."""
+    if said:
+        wanted.append(unit)
+        yield "killed", interrupted.told_of(said)
+
+
+def troubles_of_fence(desk):
+    """A machine that was fenced without a last copy has what the machine that serves now lacks."""
+    if not is_compared(desk.fence):
+        yield "behind", ("this machine is fenced, and has answered writes that the second machine does not have: run "
+                         f"deploy/standby missing{f' {desk.agency}' if desk.agency else ''} here, as root")
+
+
 # All of it.
 
 
@@ -277,11 +277,13 @@ def troubles(told, state, settings, patience):
     now, wanted, found = told["moment"], [], []
     site = value_of(told_of(settings), "SITE", "127.0.0.1:443")
     for desk in watched(settings):
-        if os.path.exists(desk.fence):
-            continue
         unit = desk.unit
+        if os.path.exists(desk.fence):
+            found += [(unit, *it) for it in troubles_of_fence(desk)]
+            continue
         folder = os.environ.get("DATA") or desk.folder
         of_desk = [*troubles_of_restarts(unit, told["units"].get(unit, {}), state, now, wanted, room_in(folder)),
+                   *troubles_of_interruption(told.get("interrupted", {}).get(unit), unit, wanted),
                    *troubles_of_answer(desk, patience, wanted), *troubles_of_backup(told["backups"].get(unit), now)]
         if told["standby"].get(unit, {}).get("LoadState", "not-found") == "loaded":
             of_desk += troubles_of_standby(unit, told["standby"][unit], state, now)
@@ -339,7 +341,9 @@ def restart(units, settings):
     for unit in units:
         if unit not in known:
             raise Failure(f"{unit!r} is no desk of this machine")
-        command = os.environ.get("RESTART")
+        desk, command = Desk(unit.partition("@")[2] or None), os.environ.get("RESTART")
+        if interrupted.left_in(desk.folder) and not interrupted.start_again(desk):
+            continue
         if not command:
             subprocess.run(["systemctl", "reset-failed", unit], check=False)
         subprocess.run(["bash", "-c", f"{command or 'systemctl restart'} {unit}"], check=True)

@@ -31,6 +31,8 @@ KNOWN = re.compile(
 LEFT_OUT = re.compile(r"etc/desk/(fenced|.*\.fenced|README)")
 NEEDED = "etc/desk/agency.json", "etc/desk/setup.json"
 OF_FIRST = "etc/desk/standby.conf"
+# By what the agency is known whose backup was made that night, as `deploy/backup --identity` prints it.
+IDENTITY = "identity.json"
 NO_MACHINE, FENCE = "none", "/etc/desk/fenced"
 # The night's backup. The machine's files are packed once it is whole, so their copy may have the name of a later minute.
 BACKUP_NAME = re.compile(r"desk-(.+?)\.db(\.age|\.gpg)?$")
@@ -54,11 +56,19 @@ def decrypted(path, folder, identity):
     return plain
 
 
+def callers_in(text, path):
+    """The marks of the callers of the backup that was made beside a machine's copy."""
+    try:
+        return {str(it) for it in json.loads(text)["callers"]}
+    except (ValueError, KeyError, TypeError):
+        raise Failure(f"{IDENTITY} in {path} says nothing of its agency") from None
+
+
 class Machine:
     """The files of a machine's copy, in a folder in which nothing but these is."""
 
     def __init__(self, path, folder):
-        self.path, self.folder, self.names = path, f"{folder}/machine", []
+        self.path, self.folder, self.names, self.callers = path, f"{folder}/machine", [], None
         if not os.path.isfile(path):
             raise WrongWords(f"there is no {path}")
         try:
@@ -75,6 +85,9 @@ class Machine:
     def take(self, archive, member):
         name = os.path.normpath(member.name)
         if member.isdir() or LEFT_OUT.fullmatch(name):
+            return
+        if name == IDENTITY and member.isfile():
+            self.callers = callers_in(archive.extractfile(member).read(), self.path)
             return
         if not member.isfile() or not KNOWN.fullmatch(name):
             raise Failure(f"{self.path} has {member.name}, which is no file of the desk's")
@@ -183,9 +196,16 @@ class Restoring:
         strange = [it for it in named if named[it] and there[it] and not named[it] & there[it]]
         if digests and not digests & self.content.callers:
             strange.append("keys")
+        ours = {content.mark_of(it) for it in self.content.callers}
+        if self.machine.callers is not None and not self.machine.callers & ours:
+            strange.append("callers")
         if strange and not self.given.another:
             raise Failure(f"{self.machine.path} is of another agency than {self.copy}: none of its {' and '.join(strange)} is "
                           "in the backup; if that is meant, say --another")
+        is_shown = self.machine.callers is not None or digests & self.content.callers
+        if not is_shown and not self.given.another and not self.given.anyway:
+            raise Failure(f"{self.machine.path} is of an earlier version, and nothing in it shows that it is of the agency of "
+                          f"{self.copy}: look at the name of the agency in its etc/desk/setup.json, and say --anyway")
 
     def keys_of_nights(self):
         for path in sorted(glob.glob(f"{self.machine.folder}/etc/desk/keys/*standing-orders*")):

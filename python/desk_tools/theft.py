@@ -207,11 +207,16 @@ class Caller:
 def callers_in(copy: pathlib.Path) -> dict[int, Caller]:
     """Each caller, by number."""
     with tables_of(copy) as tables:
-        found = tables.execute("SELECT id, role, subject, digest FROM callers")
-        return {
-            number: Caller(ROLES[role], subject, bytes(digest))
-            for number, role, subject, digest in found
-        }
+        return callers_of(tables)
+
+
+def callers_of(tables: sqlite3.Connection) -> dict[int, Caller]:
+    """Each caller of an open file, by number."""
+    found = tables.execute("SELECT id, role, subject, digest FROM callers")
+    return {
+        number: Caller(ROLES[role], subject, bytes(digest))
+        for number, role, subject, digest in found
+    }
 
 
 def callers_for(callers: Mapping[int, Caller], role: str, subject: int) -> list[int]:
@@ -225,10 +230,12 @@ def wrong_caller(callers: Mapping[int, Caller], number: int, role: str, subject:
         return None
     person = Caller(role, subject, b"").told()
     is_now = callers[number].told() if number in callers else "nobody"
+    own = "" if number not in callers or callers[number].role in ("rider", "driver") else number
+    staff = f". Where the key of caller {own} itself was stolen, say --staff {own}" if own else ""
     right = callers_for(callers, role, subject)
     if not right:
-        return f"caller {number} is {is_now}, and {person} is no caller: look at the number after {'RIDER' if role == 'rider' else '--vehicle'}"
-    return f"caller {number} is {is_now}, and {person} is caller {' and '.join(map(str, right))}: say --caller {right[0]}"
+        return f"caller {number} is {is_now}, and {person} is no caller: look at the number after {'RIDER' if role == 'rider' else '--vehicle'}{staff}"
+    return f"caller {number} is {is_now}, and {person} is caller {' and '.join(map(str, right))}: say --caller {right[0]}{staff}"
 
 
 def last_trip_in(copy: pathlib.Path) -> int:

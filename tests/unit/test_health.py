@@ -65,8 +65,23 @@ def test_figures(tmp_path: Path) -> None:
         'desk_trouble{desk="desk",kind="backup"} 1',
     ):
         assert wanted in text
+    # By the log alone: a start of the desk moves the moment of its file, and answers no write.
+    told_by_log = time.time() - 1795989301
     since = figures.seconds_since_write("desk", True)
-    assert since is not None and since < 30
+    assert since is not None and abs(since - max(0.0, told_by_log)) < 30
+    assert figures.seconds_since_write("desk@north", False) is None
+    seen.write_text(json.dumps({"sites": {"desk@north": "desk.test"}}), encoding="utf-8")
+    assert figures.seconds_since_write("desk@north", False) is not None
+
+
+def test_no_write_in_the_log(tmp_path: Path) -> None:
+    """Where the log has no answered write nobody knows, whatever the file's moment is."""
+    log, seen = tmp_path / "access.log", tmp_path / "seen.json"
+    log.write_text(line(status=401), encoding="utf-8")
+    seen.write_text(json.dumps({"written": {"desk": time.time()}}), encoding="utf-8")
+    figures = Figures(Follower(log), seen)
+    figures.look()
+    assert figures.seconds_since_write("desk", True) is None
 
 
 def test_health_of_a_desk_that_is_down(tmp_path: Path) -> None:

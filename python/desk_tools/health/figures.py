@@ -46,13 +46,12 @@ class Figures:
         return told if isinstance(told, dict) else {}
 
     def seconds_since_write(self, unit: str, is_only_desk: bool) -> float | None:
-        """The seconds since a write: by the file's own moment, or the log's where that is later.
+        """The seconds since a write was answered, by the site's log, or None where the log has none.
 
-        A setup, a restore and a start move the file's moment too.
+        The moment of the desk's file is not asked: a start, a setup and a restore move it too.
         """
-        moments = [self.seen().get("written", {}).get(unit)]
-        moments += self.last_write.values() if is_only_desk else []
-        known = [it for it in moments if it]
+        name = (self.seen().get("sites") or {}).get(unit)
+        known = [at for site, at in self.last_write.items() if is_only_desk or site == name]
         return max(0.0, time.time() - max(known)) if known else None
 
 
