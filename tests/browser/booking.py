@@ -732,3 +732,35 @@ def a_closed_day_is_said_at_the_field_before_anything_is_sent(at):
         same("trips", before, len(at.town.trips_of(1005)))
     finally:
         at.town.write_file("agency.json", right if isinstance(right, bytes) else right.encode())
+
+
+@check
+def a_way_back_does_not_begin_before_the_way_there_arrives(at):
+    for press, is_later in [("^Ask for a return not before", True), ("^Ask for it as said: not before 9:05 AM", False)]:
+        before = len(at.town.trips_of(1003))
+        begin(at, "1003")
+        wish(at, start="7 Elm", goal="Riverside", day=THURSDAY, wish="9 am", back="9:05 am")
+        at.browser.press(BOOK)
+        at.browser.sees("The way there may arrive as late as 9:", "after this return begins", "There is no way back yet.", "1 of 2 trips are booked")
+        same("trips until the rider has said when to leave", before + 1, len(at.town.trips_of(1003)))
+        there = last_trip(at, 1003)
+        at.browser.press(re.compile(press))
+        at.browser.sees("2 of 2 trips are booked")
+        back = last_trip(at, 1003)
+        same("the ways", (there["from"], there["to"]), (back["to"], back["from"]))
+        holds(f"{there}, {back}", back["window_from"] >= (there["window_to"] + 1 if is_later else 545))
+        for trip in (there, back):
+            at.town.post("third clerk", f"/trips/{trip['trip']}/cancel", {})
+
+
+@check
+def a_clerk_books_to_another_riders_home_by_what_is_typed(at):
+    begin(at, "1003")
+    at.browser.find("field", "To").send_keys("pine")
+    at.browser.find("option", re.compile("88 Pine Road.*Another rider’s place", re.S))
+    at.browser.find("field", "To").clear()
+    wish(at, start="7 Elm", goal="88 Pine", day=FRIDAY, wish="1 pm")
+    at.browser.press(BOOK)
+    at.browser.sees("is booked for Henry Park (1003)")
+    same("where to", 14, last_trip(at, 1003)["to"])
+    at.town.post("third clerk", f"/trips/{last_trip(at, 1003)['trip']}/cancel", {})

@@ -746,6 +746,25 @@ def a_question_goes_with_who_signed_out_and_is_answered_no(at):
     at.town.post("third clerk", f"/trips/{trip}/cancel", {})
 
 
+SAID = "return document.getElementById('said').textContent"
+
+
+@check
+def what_was_said_is_not_said_of_the_next_rider_or_to_who_signs_in_next(at):
+    begin(at, "1002")
+    at.browser.press(BOOK)
+    until("nothing is said of a field", lambda: at.browser.script(SAID))
+    at.browser.fill("Rider number", "1001")
+    at.browser.press("Show")
+    until(lambda: f"{at.browser.script(SAID)!r} is said of the next rider", lambda: at.browser.script(SAID) == "")
+    at.browser.press("Sign out")
+    until("the sign-out is not said", lambda: at.browser.script(SAID))
+    at.browser.fill("Key", at.keys["second clerk"])
+    at.browser.press("Sign in")
+    at.browser.find("field", "Rider number")
+    until(lambda: f"{at.browser.script(SAID)!r} is said after the next sign-in", lambda: at.browser.script(SAID) == "")
+
+
 # What a clerk has to know of a case.
 
 # (as bin/worklist writes its cells)

@@ -3,7 +3,7 @@
 
 import assert from "node:assert/strict";
 import { test } from "node:test";
-import { apart, countedRule, guessedDrive, isAsSaid, isMadeUp, nextStep, otherRequests, requestsOf, searched } from "../../pages/parts/wishes.js";
+import { afterArrival, apart, arrivalBefore, countedRule, guessedDrive, isAsSaid, isMadeUp, nextStep, otherRequests, requestsOf, searched } from "../../pages/parts/wishes.js";
 
 const DAY = 1440, LAST = DAY - 1, HOUR = 60, HALF_WINDOW = 15, SLACK = 24, FIRST_BUS = 300, LEADS = [0, 15, 60];
 const FULL = "no vehicle", CLOSED = "37.131(e)";
@@ -207,4 +207,17 @@ test("how far a window is from a minute, and how long a drive is guessed", () =>
     assert.equal(apart({ window_from: 600, window_to: 630 }, 540), 60);
     assert.equal(guessedDrive(null, { x: 1, y: 1 }), 15);
     assert.equal(guessedDrive({ x: 0, y: 0 }, { x: 0, y: 0 }), 1);
+});
+
+test("a way back that would begin before the way there arrives is told when that is, and then begins after it", () => {
+    for (const mode of ["around", "not-before", "by"]) for (let minute = 0; minute < DAY; minute += 5) for (const from of [0, 300, 525, 900, 1380, 1425]) {
+        const back = { mode, minute, by: null, drive: 15, lead: 15, change: false }, there = { window_from: from, window_to: Math.min(LAST, from + 30) }, drive = 12;
+        const arrives = there.window_to + drive, begins = mode === "by" ? minute - 15 - 20 : minute, at = arrivalBefore(back, there, drive);
+        assert.equal(at !== null, begins < arrives && Math.ceil(arrives / 5) * 5 <= LAST, JSON.stringify([back, there]));
+        if (at === null) continue;
+        assert.ok(at >= arrives && at < arrives + 5 && at <= LAST);
+        const later = afterArrival(back, at);
+        assert.equal(arrivalBefore(later, there, drive), null);
+        assert.deepEqual([later.mode, later.minute, later.by], ["not-before", at, mode === "by" && minute > at ? minute : null]);
+    }
 });
