@@ -785,7 +785,7 @@ def what_waits_is_on_the_card_and_a_part_of_the_clerks_screen(at):
             begin(at, rider)
             at.browser.sees(words)
         at.browser.go_part("clerk", "waits")
-        at.browser.sees("Applications to decide", "Peter Lange", "Mon, Feb 17, 2025")
+        at.browser.sees("Applications to decide", "Peter Lange", "Mon, Feb 17")
         at.browser.press("Show rider 1009")
         at.browser.sees("The case of Peter Lange (1009)")
     finally:

@@ -60,8 +60,6 @@ function faultOf(said, desk, { step, answers }) {
         if (mode === "not-before" && (from < minute || from > minute + HOUR)) return "the promise begins before the minute, or more than an hour after it";
         if (pickup + desk.drive > (mode === "by" ? minute : by ?? LAST)) return "the rider is there too late";
         if (mode === "around" && desk.free === DAYS["all day"] && minute + HOUR - said.lead <= desk.last && minute >= FIRST_BUS && minute - said.lead > 15 && from < minute - said.lead) return "the van comes earlier than the lead";
-        const nearestAsked = Array.from({ length: 4 }, (_, at) => minute + HOUR - said.lead - at * 15).find((wish) => wish > minute && wish <= desk.last) ?? minute;
-        if (mode === "around" && desk.free === DAYS["all day"] && minute >= FIRST_BUS && minute <= desk.last && by === null && from < nearestAsked - HOUR) return "before the lines end, the van comes earlier than it has to";
         return "";
     }
     const reason = step.reason?.reply.denied;
