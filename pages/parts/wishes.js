@@ -283,6 +283,14 @@ export function arrivalBefore(back, there, drive) {
     return begins < arrives && at <= LAST_MINUTE ? at : null;
 }
 
+/** The same of a way back that the desk has promised: its window must not begin before the way there has arrived, whatever was said of it.
+ * @param {Window} back @param {Window} there @param {number} drive @returns {number | null}
+ */
+export function arrivalAfter({ window_from: begins }, there, drive) {
+    const [, arrives] = underWayOf(there, drive);
+    return begins < arrives ? Math.min(LAST_MINUTE, Math.ceil(arrives / ROUNDED) * ROUNDED) : null;
+}
+
 /** What a rider says of a way back who agrees to leave once the way there has arrived. A minute to be there by stays.
  * @param {Said} back @param {number} minute @returns {Said}
  */

@@ -754,6 +754,24 @@ def a_way_back_does_not_begin_before_the_way_there_arrives(at):
 
 
 @check
+def a_way_back_that_the_desk_promises_before_the_arrival_is_an_offer(at):
+    for answer, status in [("^Yes, keep trip", "booked"), ("^No, cancel trip", "cancelled")]:
+        before = {it["trip"] for it in at.town.trips_of(1003)}
+        begin(at, "1003")
+        wish(at, start="7 Elm", goal="Riverside", day=THURSDAY, wish="9 am", back="9:10 am", back_matters="around")
+        at.browser.press(BOOK)
+        at.browser.sees("The way back begins at ", "and the way there may arrive as late as 9:10 AM")
+        there, back = sorted((it for it in at.town.trips_of(1003) if it["trip"] not in before), key=lambda it: it["trip"])
+        holds(f"it begins too early: {there}, {back}", back["window_from"] < there["window_to"] + 10)
+        at.browser.press(re.compile(answer))
+        at.browser.sees("2 of 2 trips are booked" if status == "booked" else "The offer was not taken, and is given up.")
+        stands = {it["trip"]: it["status"] for it in at.town.trips_of(1003)}
+        same("the trips", ("booked", status), (stands[there["trip"]], stands[back["trip"]]))
+        for trip in (there, back):
+            at.town.post("third clerk", f"/trips/{trip['trip']}/cancel", {})
+
+
+@check
 def a_clerk_books_to_another_riders_home_by_what_is_typed(at):
     begin(at, "1003")
     at.browser.find("field", "To").send_keys("pine")

@@ -3,7 +3,7 @@
 
 import assert from "node:assert/strict";
 import { test } from "node:test";
-import { afterArrival, apart, arrivalBefore, countedRule, guessedDrive, isAsSaid, isMadeUp, nextStep, otherRequests, requestsOf, searched } from "../../pages/parts/wishes.js";
+import { afterArrival, apart, arrivalAfter, arrivalBefore, countedRule, guessedDrive, isAsSaid, isMadeUp, nextStep, otherRequests, requestsOf, searched } from "../../pages/parts/wishes.js";
 
 const DAY = 1440, LAST = DAY - 1, HOUR = 60, HALF_WINDOW = 15, SLACK = 24, FIRST_BUS = 300, LEADS = [0, 15, 60];
 const FULL = "no vehicle", CLOSED = "37.131(e)";
@@ -217,5 +217,14 @@ test("a way back that would begin before the way there arrives is told when that
         const later = afterArrival(back, at);
         assert.equal(arrivalBefore(later, there, drive), null);
         assert.deepEqual([later.mode, later.minute, later.by], ["not-before", at, mode === "by" && minute > at ? minute : null]);
+    }
+});
+
+test("a way back that is promised before the way there has arrived is told, at each minute", () => {
+    for (let begins = 0; begins < DAY; begins += 1) for (const from of [0, 300, 525, 900, 1380, 1425]) for (const drive of [1, 15, 60]) {
+        const there = { window_from: from, window_to: Math.min(LAST, from + 30) }, arrives = there.window_to + drive;
+        const at = arrivalAfter({ window_from: begins, window_to: begins + 30 }, there, drive);
+        assert.equal(at !== null, begins < arrives);
+        if (at !== null) assert.ok(isMinute(at) && (at >= arrives || at === LAST) && at < arrives + 5);
     }
 });

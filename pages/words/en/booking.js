@@ -111,6 +111,7 @@ export const words = {
     "booking.result-of-change you": ({ booked, trip, open }) => (open ? "The desk offers you another time." : booked ? `Your trip ${trip} is changed.` : `Your trip ${trip} is not changed.`),
     "booking.offer-after": ({ offer, minutes, time }) => `The desk offers ${offer}, ${minutes} ${minutes === 1 ? "minute" : "minutes"} after ${time}`,
     "booking.offer-before": ({ offer, minutes, time }) => `The desk offers ${offer}, ${minutes} ${minutes === 1 ? "minute" : "minutes"} before ${time}`,
+    "booking.offer-back-early": ({ offer, time }) => `The way back begins at ${offer}, and the way there may arrive as late as ${time}`,
     "booking.offer-trip": ({ trip, day, window, from, to, said }) => `Trip ${trip}: ${day}, pickup ${window}, from ${from} to ${to}. Asked for: ${said}.`,
     "booking.offer-asks": "It is kept only if the rider says yes. On a no the agency cancels it, and it does not count against the rider.",
     "booking.offer-asks you": "It is kept only if you say yes. On a no the agency cancels it, and it does not count against you.",
