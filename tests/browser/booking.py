@@ -287,7 +287,7 @@ def the_answer_to_a_cancel_is_where_its_button_was_and_has_the_focus(at):
     at.browser.press(f"Yes, cancel trip {trip}")
     wait_for(at, "the answer has the focus", f"document.activeElement.id === 'answer-{trip}'")
     told = at.browser.script("return document.activeElement.innerText")
-    same("the answer", f"Trip {trip} of Ana María Núñez (1006) is cancelled.", told)
+    same("the answer", f"Trip {trip} of Ana María Núñez (1006) is canceled.", told)
     row = at.browser.script("return document.activeElement.closest('tr').innerText")
     holds("it is in the trip's own row", row.startswith(str(trip)))
     holds("it can be seen", at.browser.script(

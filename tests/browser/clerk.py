@@ -329,7 +329,7 @@ def what_another_window_writes_is_seen_at_once(at):
         begin(at, "1005")
         at.browser.press(f"Cancel trip {trip} of Samuel Grant (1005)")
         at.browser.press(f"Yes, cancel trip {trip}")
-        at.browser.sees(f"Trip {trip} of Samuel Grant (1005) is cancelled.")
+        at.browser.sees(f"Trip {trip} of Samuel Grant (1005) is canceled.")
         first()
         until("the other window's list", lambda: not at.browser.is_there("button", re.compile(f"^Cancel trip {trip} ")))
         second()
@@ -617,7 +617,7 @@ def frequent_calls_take_few_keys(at):
     keys.press(Keys.ENTER)
     back_to(at, keys, "^Yes")
     keys.press(Keys.ENTER)
-    at.browser.sees("is cancelled.")
+    at.browser.sees("is canceled.")
     holds(f"a trip is given up: {keys.count} keys", keys.count <= 11)
     counts["cancel"] = keys.count
     print(f"keys of the seven tasks: {counts}")
