@@ -272,10 +272,12 @@ def rebooked(copy, log, now, names, closed=()):
     riders have one at another time and were not called. One of which the log says nothing may be the agency's: where a
     browser ended in the middle, its last word did not come. Days on which nobody is served are a list of their own."""
     by, free = {it.trip: it.by for it in log.cancellations} if log else {}, {number_of(it) for it in dict(closed)}
+    # (whoever said no to an offer has lost no trip)
+    declined = told_offers.declined_offers(log.events) if log else set()
     canceled, others = [], collections.defaultdict(list)
     for row in copy.rows("SELECT id, rider, day, vehicle, origin, goal, window_from, window_to, status FROM trips "
                          "WHERE day >= ? ORDER BY day, window_from, id", now):
-        is_ours = log and by.get(row[0], AGENCY) == AGENCY and row[2] not in free
+        is_ours = log and by.get(row[0], AGENCY) == AGENCY and row[2] not in free and row[0] not in declined
         if row[-1] != copies.CANCELLED or is_ours:
             others[row[1], row[2]].append(row)
         if row[-1] == copies.CANCELLED and is_ours:
