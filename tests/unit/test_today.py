@@ -77,9 +77,10 @@ def test_a_skip_has_the_stop_that_was_skipped() -> None:
 
 
 def test_a_tap_that_was_taken_back_counts_no_more() -> None:
-    def undone(number: int, tap: int, vehicle: int = 109) -> bytes:
+    def undone(number: int, minute: int, vehicle: int = 109) -> bytes:
+        tapped = f"2026-12-07T09:{minute}:00"
         return line(
-            "undone", number, vehicle=vehicle, tap=f"{tap:026}", at="2026-12-07T09:17:00"
+            "undone", number, vehicle=vehicle, trip=154, tapped=tapped, at="2026-12-07T09:17:00"
         )
 
     seen = {"day": "2026-12-07", "from": 545, "to": 560, "wait": 5, "arrived": 552}
@@ -91,10 +92,10 @@ def test_a_tap_that_was_taken_back_counts_no_more() -> None:
     ]
     whole = made(*lines)
     assert len(whole["vehicles"]["109"]["taps"]) == 3 and whole["no_shows"]
-    told = made(undone(5, 3), *lines, undone(6, 4), undone(7, 2, vehicle=9))
+    told = made(undone(5, 16), *lines, undone(7, 15, vehicle=9))
     assert [it["kind"] for it in told["vehicles"]["109"]["taps"]] == ["arrived", "aboard"]
     assert (told["no_shows"], told["unreviewed"]["no_shows"]) == ([], [])
-    assert made(*lines, undone(8, 3), undone(9, 2), undone(10, 1))["vehicles"] == {}
+    assert made(*lines, undone(8, 16), undone(9, 15), undone(10, 12))["vehicles"] == {}
 
 
 def test_a_tap_that_comes_a_day_late_is_of_its_own_day() -> None:
