@@ -77,13 +77,15 @@ def minute(text):
 
 
 def time_of_day(text):
-    """A time of a 24-hour clock, or one with am or pm."""
-    found = re.fullmatch(r"(\d{1,2}):([0-5]\d)\s*([ap])\.?m\.?", text.lower())
+    """A time of a 24-hour clock, or one with am or pm: 14:00, 2 pm, 2:30 p.m., noon."""
+    if text.strip().lower() == "noon":
+        return 720
+    found = re.fullmatch(r"(\d{1,2})(?::([0-5]\d))?\s*([ap])\.?m\.?", text.lower())
     if not found:
         return minute(text)
     if not 1 <= int(found[1]) <= 12:
         raise ValueError("is no time such as 9:30 am")
-    return int(found[1]) % 12 * 60 + int(found[2]) + 720 * (found[3] == "p")
+    return int(found[1]) % 12 * 60 + int(found[2] or 0) + 720 * (found[3] == "p")
 
 
 def days(text):

@@ -3,7 +3,7 @@
 /** @type {Record<string, import("../../parts/words.js").Text>} */
 export const words = {
     "denials.desk.key": "We don't recognize this key.",
-    "denials.desk.key/help": "Type it again. Capital and small letters are different. Ask the admin for a new key if it is lost.",
+    "denials.desk.key/help": "Type it again. Ask the admin for a new key if it is lost.",
     "denials.desk.number": "Another window or device wrote with the same key.",
     "denials.desk.number/help": "Your request may have been done or not. Look at the list before you send it again.",
     "denials.desk.caller": "This key may not do this.",

@@ -78,7 +78,7 @@ export const words = {
     "dispatcher.state-under-way": "under way by the plan",
     "dispatcher.state-no-word": ({ time }) => `no update${time ? ` for ${time}` : ""}`,
     "dispatcher.state-booked": "booked",
-    "dispatcher.state-cancelled": "cancelled",
+    "dispatcher.state-cancelled": "canceled",
     "dispatcher.state-ridden": "completed",
     "dispatcher.state-missed-rider": "no-show",
     "dispatcher.state-missed-operator": "missed by us",

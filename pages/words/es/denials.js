@@ -3,7 +3,7 @@
 /** @type {Record<string, import("../../parts/words.js").Text>} */
 export const words = {
     "denials.desk.key": "No reconocemos esta clave.",
-    "denials.desk.key/help": "Escríbala otra vez. Las mayúsculas y las minúsculas son distintas. Si se perdió, pida una clave nueva al administrador.",
+    "denials.desk.key/help": "Escríbala otra vez. Si se perdió, pida una clave nueva al administrador.",
     "denials.desk.number": "Otra ventana u otro aparato escribió con la misma clave.",
     "denials.desk.number/help": "Su solicitud puede haberse hecho o no. Mire la lista antes de enviarla otra vez.",
     "denials.desk.caller": "Esta clave no permite hacer esto.",
