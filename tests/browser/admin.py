@@ -59,7 +59,7 @@ def a_place_ten_times_too_far_is_asked_about(at):
 @check
 def the_policy_that_was_put_last_is_shown_and_asked_about(at):
     at.browser.sign_in(at.keys["admin"], "admin", "policy")
-    at.browser.sees("None was put from this browser yet.", "A new desk takes one missed trip for a pattern.")
+    at.browser.sees("None was saved from this browser yet.", "A new desk takes one missed trip for a pattern.")
     at.browser.fill_all({"A trip by fixed routes costs": "1.75", "Transfer charge": "0.50",
                          "Your own fare": "4", "Minutes that a stop takes": "2",
                          "Minutes that a ride may take beyond the direct drive": "20",

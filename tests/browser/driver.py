@@ -253,7 +253,7 @@ def times_of_taps_are_told_the_sites_log_once(at):
 
 def taps_of_today(at, vehicle=1):
     """The taps of a van in the file of the day, as its unit makes it now."""
-    return [(it["trip"], it["kind"]) for it in at.town.make_today()["vehicles"].get(str(vehicle), {"taps": []})["taps"]]
+    return sorted((it["trip"], it["kind"]) for it in at.town.make_today()["vehicles"].get(str(vehicle), {"taps": []})["taps"])
 
 
 @check
@@ -268,7 +268,7 @@ def a_tap_that_is_undone_once_the_site_has_it_counts_no_more(at):
         at.browser.press("Arrived")
         at.town.set_clock(TOMORROW, "06:33")
         until("the tap is not told", lambda: len(events(at, "stops")) > before[1])
-        same("the taps of the day", [*before[0], (1, "arrived")], taps_of_today(at))
+        same("the taps of the day", sorted([*before[0], (1, "arrived")]), taps_of_today(at))
         at.browser.press("Undo “arrived”")
         until("nobody is told that it is taken back", lambda: events(at, "undone"))
         at.browser.settled()

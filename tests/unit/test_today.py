@@ -324,6 +324,18 @@ def test_a_tap_that_comes_a_day_late_and_a_phone_with_the_wrong_date_are_named()
     ]
 
 
+def test_a_tap_of_the_minutes_before_midnight_is_no_sign_of_a_wrong_date() -> None:
+    def late(at: str) -> list[dict[str, Any]]:
+        tap = {"vehicle": 109, "trip": 154, "event": "dropped", "at": at}
+        found: list[dict[str, Any]] = made(line("stops", 1, "2026-12-07T00:00:24-05:00", **tap))[
+            "late"
+        ]
+        return found
+
+    assert late("2026-12-06T23:58:39") == []
+    assert len(late("2026-12-06T22:58:39")) == 1
+
+
 def test_two_phones_of_one_van_are_one_list_and_each_tap_counts_once() -> None:
     told = made(
         stop(1, "2026-12-07T09:10:00"),
