@@ -252,8 +252,10 @@ def times_of_taps_are_told_the_sites_log_once(at):
 
 
 def taps_of_today(at, vehicle=1):
-    """The taps of a van in the file of the day, as its unit makes it now."""
-    return sorted((it["trip"], it["kind"]) for it in at.town.make_today()["vehicles"].get(str(vehicle), {"taps": []})["taps"])
+    """The taps of a van in the file of the day, as its unit makes it now. The site of these checks keeps none: a phone would read it."""
+    told = at.town.make_today()["vehicles"].get(str(vehicle), {"taps": []})
+    at.town.write_file("staff/today.json", None)
+    return sorted((it["trip"], it["kind"]) for it in told["taps"])
 
 
 @check
