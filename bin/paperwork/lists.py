@@ -424,10 +424,10 @@ def offers(copy, log, today, names):
 
 def taken_out(others, number, way, window):
     """Takes out of a rider's trips of a day, by number, the next one that came in place of a canceled one, and gives it;
-    None where there is none. It may be canceled itself: then the one after it stands for both."""
+    None where there is none. It may be canceled itself: then the one after it stands for both. The way back stands for no way there."""
     for row in others:
         trip, _, _, _, origin, goal, begins, ends, _ = row
-        if trip > number and ((origin, goal) == way or begins <= window[1] and ends >= window[0]):
+        if trip > number and ((origin, goal) == way or (goal, origin) != way and begins <= window[1] and ends >= window[0]):
             others.remove(row)
             return row
     return None
