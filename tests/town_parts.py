@@ -49,7 +49,8 @@ def write_addresses(path, rows):
 
 # A whole town's files, as its people save them.
 
-CONDITIONS = ["", "", "", "always", "Always", "months:1,2,11,12", "nolift", "farther:2640", "farther:1320; nolift"]
+# (one rider in sixteen has a grant for which it matters where the home is)
+CONDITIONS = [*[""] * 20, "always", "Always", *["months:1,2,11,12"] * 8, "nolift", "farther:2640"]
 CLINICS, EACH_DAY_OF_WEEK = 12, "Mon-Sun"
 
 

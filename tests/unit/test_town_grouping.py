@@ -259,7 +259,9 @@ def test_no_home_is_put_where_its_grant_holds_less(most: int) -> None:
     found = gather.gathered(known, rows, quiet)
     assert denied_in(before, grants), "the trial shows nothing"
     assert not denied_in(found, grants)
-    assert len(found.places) <= most and len(found.addresses) == len(before.addresses)
+    refused = [it for it in found.refused if "put a place there" in it.reason]
+    assert len(found.places) <= most
+    assert len(found.addresses) + len(refused) == len(before.addresses)
     for it in found.addresses:
         mask = lines_at(it.point or (0, 0), False, CROSS)
         assert is_served_alike(mask, lines_at(found.places[it.place or 0].point, False, CROSS))
@@ -296,8 +298,16 @@ def test_a_place_of_its_own_is_private() -> None:
         ]
 
 
-def test_more_such_homes_than_places_are_said() -> None:
+def test_more_such_homes_than_places_are_refused_by_their_rows() -> None:
     grants = {it: ("farther:100", "nolift") for it in range(4, 400, 4)}
     known = Town([], CROSS, None, most=4, grants=grants)
-    with pytest.raises(sheets.Unreadable, match="homes take places of their own"):
-        gather.gathered(known, scattered(400, 7, 5_000), quiet)
+    rows = scattered(400, 7, 5_000)
+    found = gather.gathered(known, rows, quiet)
+    named = {
+        it.number
+        for it in found.refused
+        if "does the grant (farther:100; nolift) hold" in it.reason
+    }
+    kept = {it.row for it in found.addresses}
+    assert named and not named & kept and not denied_in(found, grants)
+    assert len(found.places) <= 4 and found.alone <= 2

@@ -21,7 +21,7 @@ from desk_tools.town.medoids import Points, Show, TooFewPlaces
 from desk_tools.town.places import Place, feet_between, riders_of
 from desk_tools.town.sheets import Refusal, Unreadable
 
-# So many times it is grouped anew where homes turn out to need places of their own; then all that may need one get one.
+# So many times it is grouped, where homes turn out to need places of their own.
 MOST_ROUNDS = 3
 MOST_PLACES, FEET_A_MINUTE = 100, 88  # (feet a minute at one mile an hour)
 WORST = 20
@@ -61,17 +61,38 @@ class Gathered:
 
 
 def gathered(town: Town, addresses: Sequence[Address], show: Show) -> Gathered:
-    """The addresses, each at a place. A home whose rider's grant no place fits gets a place of its own."""
+    """The addresses, each at a place. A home whose rider's grant no place fits gets a place of its own.
+
+    Half of the free places at most are such; further homes of that kind are refused by their rows.
+    """
     if not town.lines:
         raise Unreadable("agency.json has no fixed routes: run move-in routes first")
     alone: set[int] = set()
-    for at in range(MOST_ROUNDS + 1):
+    room = max(0, town.most - len(town.places)) // 2
+    for at in range(1, MOST_ROUNDS + 1):
         found = gathered_once(town, addresses, alone, show)
         denied = homes_denied(town, found)
-        if not denied:
+        more = sorted(denied)[: room - len(alone)]
+        if not more or at == MOST_ROUNDS:
             break
-        alone |= denied if at + 1 < MOST_ROUNDS else conditional_homes(town, addresses)
+        alone |= set(more)
+    refuse_homes(town, found, denied)
     return found
+
+
+def refuse_homes(town: Town, found: Gathered, denied: set[int]) -> None:
+    """Refuses the homes of these rows, since a grant would hold there less than at the home."""
+    kept = [at for at, it in enumerate(found.addresses) if it.row not in denied]
+    for it in found.addresses:
+        if it.row in denied:
+            conditions = "; ".join(conditional.conditions_of(it.riders, town.grants))
+            reason = (
+                f"at no place that is right for {it.street} does the grant ({conditions}) hold as at the home, "
+                "and there is no room for one more: put a place there"
+            )
+            found.refused.append(Refusal(it.row, reason, []))
+    found.feet = [found.feet[at] for at in kept]
+    found.addresses = [found.addresses[at] for at in kept]
 
 
 def gathered_once(
@@ -95,11 +116,6 @@ def gathered_once(
     spots = {it.number: it.point for it in found.places.values()}
     found.feet = [feet_between(it.point, spots[it.place or 0]) for it in found.addresses]
     return found
-
-
-def conditional_homes(town: Town, addresses: Sequence[Address]) -> set[int]:
-    """The rows of homes for whose riders it matters at which place the home is."""
-    return {it.row for it in addresses if conditional.conditions_of(it.riders, town.grants)}
 
 
 def homes_denied(town: Town, found: Gathered) -> set[int]:
