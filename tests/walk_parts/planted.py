@@ -76,6 +76,7 @@ FAULTS = [
             "const nowhere = legs.some(({ wish }) => wish.from === wish.to), same = booked.filter((it) => isSame(it) && it.trip < 0),"),
     Planted("the home of two people is one's alone", PLACE, "was typed", "parts/agency.js", "return rider === undefined || [whose].flat().map(Number).includes(rider);",
             "return rider === undefined || [whose].flat().slice(0, 1).map(Number).includes(rider);"),
+    Planted("a form that is left goes without a word", DONE, "its part left", "screens/booking.js", "            if (question === undefined) left(rider);\n", ""),
     Planted("two sends of one form", CONFIRMED, "nobody confirmed it", "parts/fields.js", "        busy = true;\n        drawInto(box, []);", "        drawInto(box, []);"),
 ]
 
