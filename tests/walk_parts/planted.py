@@ -53,7 +53,7 @@ FAULTS = [
             "const reply = wish > 1200 ? /** @type {any} */ ({ denied: \"no vehicle\" }) : await sent(rider, { ...leg.wish, wish, by }, again);"),
     Planted("NaN in what was searched", WORDS, "NaN", "parts/wishes.js", "if (mode === \"around\") return [cut(minute - NEGOTIATED_MINUTES), cut(minute + NEGOTIATED_MINUTES)];",
             "if (mode === \"around\") return [cut(minute - NEGOTIATED_MINUTES), cut(minute + NaN)];"),
-    Planted("the first rule ends the plan", PLAN, "but the desk takes wish", "parts/wishes.js", "const OF_MINUTE = [FULL, CLOSED, \"37.123(b)\"];", "const OF_MINUTE = [FULL];"),
+    Planted("the first rule ends the plan", PLAN, "but the desk takes wish", "parts/wishes.js", "const OF_MINUTE = [FULL, ", "const OF_MINUTE = [FULL], REST = [FULL, "),
     Planted("not before is booked at any time after", PLAN, "is booked without a question", "parts/wishes.js",
             "return from <= minute + NEGOTIATED_MINUTES && from >= (mode === \"around\" ? minute - NEGOTIATED_MINUTES : minute);", "return true;"),
     Planted("a list stays as it was first read", AGE, "lacks trips", "parts/reads.js", "setInterval(look, LOOKED);", "", does="show_rider"),
