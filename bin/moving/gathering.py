@@ -5,7 +5,8 @@ import sys
 
 from moving import carry, plane as geometry, whole_file
 from moving.limits import DONE, MOST_PLACES, SOME_REFUSED, Wrong
-from moving.typed import addresses, corridor, cutting, joining, places, sheets
+from moving import tables
+from moving.typed import addresses, cells, conditional, corridor, cutting, joining, places, sheets
 
 # Debian's Python has Debian's numpy; another one may come first on the path.
 PYTHON = "/usr/bin/python3"
@@ -21,7 +22,7 @@ def gather(words):
         agency, plane = carry.kept_agency(words.folder), geometry.kept_plane(words.folder)
         read, sheet = addresses.read(pathlib.Path(words.csv), plane)
         known = town.Town(places_of(agency), corridor.lines_of(agency["routes"]), plane, words.speed, words.detour,
-                          words.serve_outside, words.most)
+                          words.serve_outside, words.most, grants_of(words.riders))
         progress = carry.Progress("places tried", 1, after=2)
         found = town.gathered(known, read, lambda done, total: shown(progress, done, total))
         progress.end()
@@ -35,6 +36,39 @@ def gather(words):
         MAP: drawing.drawn(found, known.lines), PLACES: town.places_text(found),
         ADDRESSES: addresses.text_of(found.addresses)}, addresses.refused_text(sheet) if sheet.refused else None)
     return SOME_REFUSED if sheet.refused else DONE
+
+
+def grants_of(path):
+    """By rider the conditions of the grant, out of a table of riders; none where no table is given."""
+    if not path:
+        return {}
+    sheet = sheets.read(pathlib.Path(path), cutting.COLUMNS)
+    if "number" not in sheet.header:
+        raise Wrong(f"{path} has no column number in row 1, which names the columns")
+    if sheet.refused:
+        raise Wrong(f"{path}, row {sheet.refused[0].number}: {sheet.refused[0].reason}")
+    found = {}
+    for row in sheet.rows:
+        try:
+            number = cells.number(row.fields["number"])
+            text = row.fields.get("conditions", "")
+            found[number] = tables.conditions(text) if text else [conditional.ALWAYS]
+        except ValueError as error:
+            raise Wrong(f"{path}, row {row.number}: {error}") from None
+    return found
+
+
+def denial_of(places, lines):
+    """Why a grant would not hold at an address's place as at the address, as `people` asks it."""
+    points = {it.number: it.point for it in places}
+
+    def deny(address, conditions):
+        if not conditions or address.point is None or address.place not in points:
+            return ""
+        line = conditional.line_that_denies(address.point, points[address.place], conditions, lines)
+        said = f"the grant ({'; '.join(conditions)}) counts from place {address.place}, and by {line.name or line.number if line else ''} it holds there less than at {address.street}"
+        return f"{said}: run gather with --riders, or put a place there" if line else ""
+    return deny
 
 
 def needs(package):
@@ -135,7 +169,8 @@ def people(words):
         known, sheet = addresses.read(path, plane) if words.addresses or path.exists() else ([], None)
         if sheet and sheet.refused:
             raise Wrong(f"{path}, row {sheet.refused[0].number}: {sheet.refused[0].reason}. Mend it first: the file is written whole")
-        made = cutting.cut(pathlib.Path(words.csv), plane, known, lambda it: joining.joined(it, stand, lines).address)
+        made = cutting.cut(pathlib.Path(words.csv), plane, known, lambda it, conditions: joining.joined(it, stand, lines, conditions).address,
+                           denial_of(stand, lines))
     except sheets.Unreadable as error:
         raise Wrong(str(error)) from None
     print("\n".join(cutting.told(made)))

@@ -10,6 +10,7 @@ import re
 
 from moving import commands
 from moving.limits import DONE, Wrong
+from moving.typed import counted
 
 EXPORT = "trip,rider,day,wish,from,to,vehicle,window_from,window_to,due,status".split(",")
 STATUSES = ("ridden", "missed-rider", "missed-operator", "cancelled", "booked")
@@ -131,7 +132,7 @@ def most_vehicles(days):
 def total_of(days):
     """The sums of all days; of vehicles the most that were out on one day."""
     operated = sum(it["riders"] > 0 for it in days)
-    return {"mode": MODE, "day": "total", "service": f"{operated} days operated",
+    return {"mode": MODE, "day": "total", "service": counted(operated, "day operated", "days operated"),
             "vehicles_operated": most_vehicles(days), **sums_of(days)}
 
 

@@ -76,15 +76,17 @@ def minute(text):
 
 
 def time_of_day(text):
-    """A time of a 24-hour clock, or one with am or pm."""
+    """A time of a 24-hour clock, or one with am or pm: 14:00, 2 pm, 2:30 p.m., noon."""
     # (a spreadsheet adds seconds)
-    text = re.sub(r"^(\d{1,2}:\d\d):00\b", r"\1", text)
-    found = re.fullmatch(r"(\d{1,2}):([0-5]\d)\s*([ap])\.?m\.?", text.lower())
+    text = re.sub(r"^(\d{1,2}:\d\d):00\b", r"\1", text.strip())
+    if text.lower() == "noon":
+        return 720
+    found = re.fullmatch(r"(\d{1,2})(?::([0-5]\d))?\s*([ap])\.?m\.?", text.lower())
     if not found:
         return minute(text)
     if not 1 <= int(found[1]) <= 12:
         raise ValueError("is no time such as 9:30 am")
-    return int(found[1]) % 12 * 60 + int(found[2]) + 720 * (found[3] == "p")
+    return int(found[1]) % 12 * 60 + int(found[2] or 0) + 720 * (found[3] == "p")
 
 
 def days(text):

@@ -10,4 +10,4 @@ from desk_tools.counting import counted
 from desk_tools.letters import on_record
 from desk_tools.reminders import kept, settings as reminder_settings
 from desk_tools.review import fixed_route, month, page, tables
-from desk_tools.town import addresses, cells, corridor, people as cutting, joining, places, sheets, site_addresses
+from desk_tools.town import addresses, cells, conditional, corridor, people as cutting, joining, places, sheets, site_addresses

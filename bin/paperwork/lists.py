@@ -288,10 +288,11 @@ def rebooked(copy, log, now, names, closed=None):
     riders have one at another time and were not called. One of which the log says nothing may be the agency's: where a
     browser ended in the middle, its last word did not come. Days on which nobody is served are a list of their own."""
     by, free = {it.trip: it.by for it in log.cancellations} if log else {}, {number_of(it) for it in dict(closed or ())}
-    rows, rides, lost = {}, {}, []
+    # (whoever said no to an offer has lost no trip)
+    declined, rows, rides, lost = told_offers.declined_offers(log.events) if log else set(), {}, {}, []
     for row in copy.rows("SELECT id, rider, day, vehicle, origin, goal, window_from, window_to, status FROM trips "
                          "WHERE day >= ? ORDER BY day, window_from, id", now):
-        is_ours = log and by.get(row[0], AGENCY) == AGENCY and row[2] not in free
+        is_ours = log and by.get(row[0], AGENCY) == AGENCY and row[2] not in free and row[0] not in declined
         rows[row[0]], rides[row[0]] = row, rebooking.Ride(*row[:3], *row[4:6], (row[6], row[7]))
         if row[-1] == copies.CANCELLED and is_ours:
             lost.append(row[0])
@@ -445,8 +446,24 @@ def offers(copy, log, today, names):
             "Call the rider: the trip is kept on a yes, and canceled as the agency's on a no.")
     return Listed(
         "offers", "Offers that wait for an answer", "clerk",
+<<<<<<< HEAD
         note if log else f"{WITHOUT_LOG}was offered.",
         ("Rider", "Name", "Day", "Asked for", "Window", "Trip", "From", "To"), rows, by_log(log))
+=======
+        note if log else "The site's log (--tally) was not given, so nobody knows which offers wait.",
+        ("Rider", "Name", "Day", "Asked for", "Window", "Trip", "From", "To"), rows)
+
+
+def taken_out(others, number, way, window):
+    """Takes out of a rider's trips of a day, by number, the next one that came in place of a canceled one, and gives it;
+    None where there is none. It may be canceled itself: then the one after it stands for both. The way back stands for no way there."""
+    for row in others:
+        trip, _, _, _, origin, goal, begins, ends, _ = row
+        if trip > number and ((origin, goal) == way or (goal, origin) != way and begins <= window[1] and ends >= window[0]):
+            others.remove(row)
+            return row
+    return None
+>>>>>>> main
 
 
 def vehicles(copy, now, names):

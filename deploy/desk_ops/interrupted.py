@@ -29,7 +29,11 @@ class Note:
     def __init__(self, desk, what, kept=None, starts_old=True):
         self.path = f"{desk.folder}/{NAME}"
         self.said = {"what": what, "kept": kept, "starts_old": starts_old, "placed": False}
-        self.write()
+        try:
+            self.write()
+        except OSError:
+            forget(desk.folder)
+            raise
 
     def write(self):
         with naming(self.path), open(f"{self.path}.new", "w", encoding="utf-8") as file:

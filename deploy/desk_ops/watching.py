@@ -282,9 +282,11 @@ def troubles(told, state, settings, patience):
             found += [(unit, *it) for it in troubles_of_fence(desk)]
             continue
         folder = os.environ.get("DATA") or desk.folder
+        # (nobody waits for the answer of a desk that a killed script has stopped)
+        killed = told.get("interrupted", {}).get(unit)
         of_desk = [*troubles_of_restarts(unit, told["units"].get(unit, {}), state, now, wanted, room_in(folder)),
-                   *troubles_of_interruption(told.get("interrupted", {}).get(unit), unit, wanted),
-                   *troubles_of_answer(desk, patience, wanted), *troubles_of_backup(told["backups"].get(unit), now)]
+                   *troubles_of_interruption(killed, unit, wanted),
+                   *troubles_of_answer(desk, 0 if killed else patience, wanted), *troubles_of_backup(told["backups"].get(unit), now)]
         if told["standby"].get(unit, {}).get("LoadState", "not-found") == "loaded":
             of_desk += troubles_of_standby(unit, told["standby"][unit], state, now)
         of_desk += elsewhere.troubles(unit, told.get("elsewhere", {}), now, BACKUP_AGE)

@@ -12,10 +12,10 @@ import stat
 import sys
 
 from desk_parts import sources
-from making import licences, manual, receipt
+from making import completion, licences, manual, receipt
 
 # What of bin/ only the sources have a use for.
-OF_SOURCES = {"apt-repository", "desk", "desk_parts", "gate", "look.program", "meter", "package", "rehearsal", "test"}
+OF_SOURCES = {"apt-repository", "check", "desk", "desk_parts", "gate", "look.program", "meter", "package", "rehearsal", "test"}
 # Where the tree is installed by hand, and where the package has it. The tools of bin/ come first.
 PLACES = [
     ("/usr/local/lib/desk/bin/", "/usr/lib/desk/bin/"),
@@ -92,6 +92,14 @@ class Layout:
             file.write(content)
         os.chmod(f"{self.root}/{name}", mode)
 
+    def copy_unit(self, source, name):
+        """A unit of systemd, which names where the documents are: those of the package."""
+        self.copy(source, name)
+        with open(f"{self.root}/{name}", encoding="utf-8") as file:
+            text = file.read()
+        said = "Documentation=file:///usr/share/doc/desk/RUNNING.md\n"
+        self.write(name, re.sub(r"(?m)^Description=.*\n", lambda it: it[0] + said, text, count=1))
+
     def pack(self, name, text):
         self.write(f"{name}.gz", gzip.compress(text.encode(), 9, mtime=0))
 
@@ -138,7 +146,7 @@ def put_tools(layout):
         if name == "desk_ops":
             layout.copy_tree("deploy/desk_ops", "usr/lib/desk/deploy/desk_ops")
         elif name.endswith((".service", ".timer")):
-            layout.copy(f"deploy/{name}", f"lib/systemd/system/{name}")
+            layout.copy_unit(f"deploy/{name}", f"lib/systemd/system/{name}")
         elif name == "desk.logrotate":
             layout.copy("deploy/desk.logrotate", "etc/logrotate.d/desk")
         elif not name.startswith(("try", "__")) and not name.endswith(".md"):
@@ -153,6 +161,14 @@ def put_tools(layout):
     layout.link("usr/lib/desk/pages", "../../share/desk/pages")
     layout.copy("packaging/README.etc", "etc/desk/README")
     layout.copy("packaging/lintian-overrides", "usr/share/lintian/overrides/desk")
+
+
+def put_completion(layout, helps):
+    """One script, by the name of each command that it completes."""
+    folder, first = "usr/share/bash-completion/completions", "desk"
+    layout.write(f"{folder}/{first}", completion.script(helps))
+    for name in sorted(helps.keys() - {first}):
+        layout.link(f"{folder}/{name}", first)
 
 
 def put_documents(layout, version, day, changes, helps, proof, bill):
@@ -173,15 +189,14 @@ def put_documents(layout, version, day, changes, helps, proof, bill):
     layout.write(f"{shared}/sbom.spdx.json", json.dumps(bill, indent=1) + "\n")
     layout.pack(f"{shared}/changelog", changes)
     put_manuals(layout, version, day, helps)
+    put_completion(layout, {name: said for (name, _), said in helps.items()})
 
 
 def put_manuals(layout, version, day, helps):
     also = "desk(1), desk-formats(5), desk-setup(8), desk-demo(1)"
-    for (name, section, purpose), text in helps.items():
-        layout.pack(
-            f"usr/share/man/man{section}/{name}.{section}",
-            manual.of_help(name, section, purpose, text, day, version, also),
-        )
+    for (name, section), (text, inner) in helps.items():
+        page = manual.of_help(name, section, manual.purpose_of(text), text, inner, day, version, also)
+        layout.pack(f"usr/share/man/man{section}/{name}.{section}", page)
     with open(f"{layout.top}/docs/FORMATS.md", encoding="utf-8") as file:
         page = manual.of_markdown("desk-formats", 5, "what the desk reads and writes", file.read(), day, version)
     layout.pack("usr/share/man/man5/desk-formats.5", page)

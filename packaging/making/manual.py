@@ -16,11 +16,22 @@ def verbatim(text):
     return f".PP\n.nf\n{escaped(text)}\n.fi\n"
 
 
-def of_help(name, section, purpose, text, day, version, also):
-    """The page of a command, from its help."""
+def purpose_of(text):
+    """What a command is for, in some words, from the first sentence of its help."""
+    said = re.sub(r"(?s)\Ausage: .*?\n\n", "", text)
+    said = " ".join(said.partition("\n\n")[0].split())
+    said = re.sub(r"^(?:bin/|desk-)[\w-]+: ", "", said)
+    first = re.split(r"[.:;](?: |$)| \(|, (?:from|and|of|as|so|which|by|with) ", said)[0]
+    return first[:1].lower() + first[1:]
+
+
+def of_help(name, section, purpose, text, inner, day, version, also):
+    """The page of a command, from its help and those of its words."""
+    words = "".join(f".SS {name} {word}\n{verbatim(said.strip())}" for word, said in inner.items())
+    more = f".SH COMMANDS\n{words}" if words else ""
     return (
         f"{heading(name, section, day, version)}.SH NAME\n{name} \\- {escaped(purpose)}\n.SH DESCRIPTION\n"
-        f"{verbatim(text.strip())}.SH SEE ALSO\n{escaped(also)}\n"
+        f"{verbatim(text.strip())}{more}.SH SEE ALSO\n{escaped(also)}\n"
     )
 
 

@@ -19,7 +19,7 @@ from setting_up.changes import Changes
 from setting_up.settings import Failure, WrongWords
 
 sys.path[:0] = [f"{steps.TOP}/deploy", f"{steps.TOP}/python"]
-from desk_ops import content, ending, keys, places, standby  # noqa: E402
+from desk_ops import content, copying, ending, keys, places, standby  # noqa: E402
 from desk_ops import restoring as copies  # noqa: E402
 from desk_tools import elsewhere, zones  # noqa: E402
 
@@ -33,6 +33,7 @@ NEEDED = "etc/desk/agency.json", "etc/desk/setup.json"
 OF_FIRST = "etc/desk/standby.conf"
 # By what the agency is known whose backup was made that night, as `deploy/backup --identity` prints it.
 IDENTITY = "identity.json"
+WORK, LEFT = "/var/tmp", "desk-restore-"
 NO_MACHINE, FENCE = "none", "/etc/desk/fenced"
 # The night's backup. The machine's files are packed once it is whole, so their copy may have the name of a later minute.
 BACKUP_NAME = re.compile(r"desk-(.+?)\.db(\.age|\.gpg)?$")
@@ -133,13 +134,18 @@ class Machine:
             os.replace(f"{path}.new", path)
 
 
+def remove_left():
+    """Removes the opened copies of a command that was killed. Whoever sets the machine up is alone, so nobody uses them."""
+    copying.remove_left(WORK, LEFT, left_for=0)
+
+
 class Restoring:
     """A backup, and the copy of a machine where one is named, for this machine. `given` are the words of desk-setup."""
 
     def __init__(self, given):
         if len(given.restore) > 2:
             raise WrongWords("--restore takes a backup, and the copy of a machine: COPY [MACHINE.tar.gz]")
-        self.given, self.changes, self.folder = given, Changes(), tempfile.mkdtemp(prefix="desk-restore-", dir="/var/tmp")
+        self.given, self.changes, self.folder = given, Changes(), tempfile.mkdtemp(prefix=LEFT, dir=WORK)
         self.machine = self.restored = self.content = None
         self.lines = []
 
@@ -253,7 +259,9 @@ class Restoring:
         except ending.Failure as failure:
             raise Failure(str(failure)) from None
         kept = f"; what was there is in {self.restored.kept}" if self.restored.kept else ""
-        self.lines.append(f"The desk has {self.restored.content.told()}{kept}. The keys are those of then.")
+        self.lines.append(f"The desk has {self.restored.content.told()}{kept}. The keys are those of then: one that was stolen and "
+                          "replaced since holds again, so replace it once more.")
+        self.lines += self.restored.keys_of_then()
 
     def undo(self):
         """This machine is as it was."""

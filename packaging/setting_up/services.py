@@ -8,13 +8,13 @@ import ssl
 import subprocess
 import time
 
-from desk_ops import places
+from desk_ops import answering, places
 from setting_up.changes import run
 from setting_up.settings import NIGHTLY, Failure
 
 DESK, SITE, CLOCK = "desk.service", "nginx.service", "systemd-time-wait-sync.service"
 ALWAYS = [DESK, *places.OF_MACHINE, *places.BESIDE]
-PORT, SECONDS, SECONDS_OF_SITE, NOBODY = 8437, 120, 30, "no key of anybody"
+PORT, SECONDS_OF_SITE = 8437, 30
 
 
 def has_systemd():
@@ -75,18 +75,11 @@ class Services:
         self.wait_for_desk()
 
     def wait_for_desk(self):
-        """Until the desk answers: that nobody has this key."""
-        end = time.monotonic() + SECONDS
-        while time.monotonic() < end:
-            if is_so("is-failed", DESK):
-                break
-            with contextlib.suppress(OSError, http.client.HTTPException):
-                line = http.client.HTTPConnection("127.0.0.1", PORT, timeout=10)
-                line.request("GET", "/riders/1/trips", headers={"Desk-Key": NOBODY})
-                if line.getresponse().status == 401:
-                    return
-            time.sleep(0.2)
-        raise Failure(f"the desk does not answer on port {PORT}: journalctl -u desk says why")
+        """Until the desk serves."""
+        try:
+            answering.wait_until_it_serves(DESK, PORT)
+        except answering.NotServing as failure:
+            raise Failure(str(failure)) from None
 
     def start_site(self, settings):
         """Until nginx serves this agency's site."""

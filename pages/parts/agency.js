@@ -310,6 +310,11 @@ export const routeName = (id) => listOf("routes").byId.get(id)?.name || t("commo
 export const placePairs = (rider) => places().filter((place) => isOffered(place, rider))
     .map(({ id, name }) => [id, name ? `${name} (${id})` : `${placeWord()} ${id}`]);
 
+/** The places that are private to other riders, for staff alone, whose file has their names: somebody visits a friend.
+ * @param {number | undefined} rider @returns {[number, string][]}
+ */
+export const othersPairs = (rider) => places().filter((place) => place.private && Boolean(place.name) && !isOffered(place, rider)).map(({ id, name }) => [id, `${name} (${id})`]);
+
 /** @param {Place} place @param {number | undefined} rider */
 function isOffered({ id, private: whose, name }, rider) {
     if (!whose) return true;

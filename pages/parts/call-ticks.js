@@ -31,6 +31,8 @@ export function tickOnFile(text, list, trip) {
  * @param {Tick | null} mine @param {Tick | null} told @returns {Shown}
  */
 export function lastTick(mine, told) {
-    if (told && (!mine || told.at > mine.at)) return { ...told, isElsewhere: true };
+    // (of two ticks of one second the site's file has the one that came last, for both who made them)
+    const isTie = told && mine && told.at === mine.at && told.at && told.result !== mine.result;
+    if (told && (!mine || told.at > mine.at || isTie)) return { ...told, isElsewhere: true };
     return mine ? { ...mine, isElsewhere: false } : NONE;
 }

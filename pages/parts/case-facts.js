@@ -2,7 +2,7 @@
 
 /** @typedef {{ entry: number, date: string, decision: string, lines: Map<string, string> }} Letter lines are those of the desk's text by their names */
 /** @typedef {import("./entered.js").Entered} Entered */
-/** @typedef {{ heads: string[], values: string[][] }} Table a list of what waits, as the site's page has it for programs */
+/** @typedef {{ heads: string[], rows: string[][] }} Table a list of what waits, as the site's page has it; a day is YYYY-MM-DD */
 /** @typedef {{ since: string, heard: string | null, against: number | null }} Waits since is a day, heard the day of the hearing, against the letter's place */
 
 const ANSWERS = { complete: { letters: ["granted", "refused"], entries: ["grant", "refuse"] },
@@ -54,8 +54,8 @@ function enteredHere(kind, letters, entered) {
 
 /** @param {"complete" | "appeal"} kind @param {Letter[]} letters @param {Table[]} tables @param {number} rider @returns {Waits | null} */
 function onTheList(kind, letters, tables, rider) {
-    for (const { heads, values } of tables) {
-        const row = values.find(([number]) => number === String(rider)), at = heads.findIndex((head) => LISTS[kind].day.test(head)), since = row?.[at] ?? "";
+    for (const { heads, rows } of tables) {
+        const row = rows.find(([number]) => number === String(rider)), at = heads.findIndex((head) => LISTS[kind].day.test(head)), since = row?.[at] ?? "";
         if (!row || !DAY.test(since)) continue;
         // (the list is of last night: a letter of that day or later may have answered it since)
         const isAnswered = letters.some(({ date, decision }) => date > since && ANSWERS[kind].letters.includes(decision));

@@ -1,6 +1,6 @@
 // The queue of an examiner and of an officer: the cases on the night's list, those with the fewest days left first. Nothing here knows of a page.
 
-/** @typedef {{ heads: string[], rows: string[][] }} Table a list of what waits; its days are YYYY-MM-DD */
+/** @typedef {{ heads: string[], values: string[][] }} Table a list of what waits, as programs read it */
 /** @typedef {"application" | "appeal" | "hearing" | "missed"} Kind what waits: a decision of an application, of an appeal that was heard, an appeal's hearing, a pattern of missed trips */
 /** @typedef {{ rider: number, name: string, kind: Kind, since: string | null, due: string | null, left: number | null, of: number | null, words: string }} Case
  *     since and due are days; left is the days until due, 0 today and less than 0 past it; of is the days from since to due; words are what else the list says */
@@ -27,7 +27,7 @@ function caseIn({ list, since: from, due: until, heard }, table, row, today) {
     const since = dayIn(table, row, from), due = dayIn(table, row, until), began = dayIn(table, row, heard) ?? since;
     const kind = list === "applications" ? "application" : list === "missed" ? "missed" : dayIn(table, row, heard) ? "appeal" : "hearing";
     return { rider: Number(row[0]), name: row[1] ?? "", kind, since, due, left: due === null ? null : daysBetween(today, due), of: due === null || began === null ? null : daysBetween(began, due),
-        words: kind === "missed" ? row.slice(2).map((text, at) => `${table.heads[at + 2] ?? ""}: ${text}`).join(", ") : row[2] ?? "" };
+        words: kind === "missed" ? row.slice(2).map((text, at) => `${table.heads[at + 2] ?? ""}: ${text}`).join(", ") : kind === "application" ? "" : row[2] ?? "" };
 }
 
 /** @param {Case} a @param {Case} b */
@@ -37,7 +37,7 @@ const urgentFirst = (a, b) => (a.left ?? Infinity) - (b.left ?? Infinity) || (a.
  * @param {"examiner" | "officer" | "suspensions"} reader @param {{ id: string, tables: Table[] }[]} lists @param {string} today @returns {Case[]}
  */
 export const queueOf = (reader, lists, today) => OWN[reader].flatMap((kind) => lists.filter(({ id }) => id === kind.list).flatMap(({ tables }) => tables)
-    .flatMap((table) => table.rows.filter(([rider]) => /^\d+$/.test(rider)).map((row) => caseIn(kind, table, row, today)))).sort(urgentFirst);
+    .flatMap((table) => table.values.filter(([rider]) => /^\d+$/.test(rider)).map((row) => caseIn(kind, table, row, today)))).sort(urgentFirst);
 
 /** How a case's days stand: past the last day, the last five, or more.
  * @param {Case} it @returns {"past" | "soon" | "time" | "none"}

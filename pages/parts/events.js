@@ -12,7 +12,7 @@
  *     "stops": { id?: string, vehicle: number, trip: number, event: "arrived" | "aboard" | "dropped" | "left" | "no-show-rider" | "no-show-agency", at?: string, stop?: "pickup" | "drop-off" },
  *     "no-shows": { id?: string, vehicle: number, day: string, trip: number, from: number, to: number, wait: number, at?: string, arrived?: number },
  *     "notes": { id?: string, vehicle: number, day: string, trip: number, text: string, at?: string },
- *     "undone": { id?: string, vehicle: number, tap: string, at?: string },
+ *     "undone": { id?: string, vehicle: number, trip: number, tapped: string, at?: string },
  *     "pull_out": { id?: string, vehicle: number, day: string, minute: number, odometer: number, at?: string },
  *     "pull_in": { id?: string, vehicle: number, day: string, minute: number, odometer: number, at?: string, first_pickup?: number, last_drop?: number },
  *     "disagreements": { id?: string, vehicle: number, trip: number, record: "ridden" | "missed-rider" | "missed-operator" | "cancelled" | "unknown", told: "ridden" | "missed-rider" | "missed-operator", at?: string },
@@ -98,7 +98,8 @@ export const EVENTS = {
     "undone": {
         id: { kind: "id" },
         vehicle: { kind: "number", low: 1, high: 4294967295 },
-        tap: { kind: "id" },
+        trip: { kind: "number", low: 0, high: 4294967295 },
+        tapped: { kind: "moment" },
         at: { kind: "moment" },
     },
     "pull_out": {

@@ -214,6 +214,9 @@ export { denialOf } from "./denials.js";
 
 // Forms.
 
+/** Milliseconds after which a form says that it waits for its answer. */
+const SLOW = 1_500;
+
 /** The values of all fields by their names, or null, and then each fault stands at its field and the first has the focus. Where a time may be of the
  * morning or of the evening, it is asked about only if both are possible beside the other fields, which check() says.
  * @param {Field[]} fields @param {(values: any) => any} [check] what is wrong of values together @returns {Promise<Record<string, any> | null>} */
@@ -279,7 +282,7 @@ function sendByEnter(event) {
  *   danger?: boolean, toAnswer?: boolean, extra?: Given, class?: string }} given toAnswer puts the focus on a denial
  */
 export function form({ name, fields, action, purpose, send, done, begun = () => {}, check = () => null, ask = () => null, declined = () => {}, denied, danger = false, toAnswer = false, extra, class: kind }) {
-    const box = make("div", { role: "alert", tabindex: toAnswer ? -1 : null }), submit = make("button", { type: "submit", class: danger ? "danger" : "main" }, action);
+    const box = make("div", { role: "alert", tabindex: toAnswer ? -1 : null }), waiting = make("div", { role: "status" }), submit = make("button", { type: "submit", class: danger ? "danger" : "main" }, action);
     let busy = false;
     const told = (/** @type {any} */ reply, /** @type {any} */ values) => {
         const at = fields.find((it) => it.name === reply.field);
@@ -308,16 +311,22 @@ export function form({ name, fields, action, purpose, send, done, begun = () => 
         if (busy) return;
         busy = true;
         drawInto(box, []);
+        // (what was said of an earlier try is said no more)
+        say("");
         begun();
+        // (whoever waits longer than a moment is told that it is under way)
+        const slow = setTimeout(() => drawInto(waiting, part("p", { class: "hint" }, t("fields.waits"))), SLOW);
         try {
             await run();
         } finally {
             busy = false;
+            clearTimeout(slow);
+            drawInto(waiting, []);
             submit.removeAttribute("aria-disabled");
         }
     };
     return make("form", { novalidate: true, method: "post", "aria-label": name ?? action, class: kind, on: { submit: submitted, keydown: sendByEnter } },
-        fields.map((it) => it.element), extra, box, make("div", { class: "row" }, submit));
+        fields.map((it) => it.element), extra, box, waiting, make("div", { class: "row" }, submit));
 }
 
 /** A time in the form of a file or of the desk: 09:15. */

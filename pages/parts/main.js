@@ -318,7 +318,11 @@ const answerNo = () => document.querySelectorAll("dialog").forEach((it) => it.cl
 
 /** @param {{ again?: boolean }} options */
 async function show({ again = false } = {}) {
-    if (!again) answerNo();
+    if (!again) {
+        answerNo();
+        // (what was said last is of what was shown before)
+        say("");
+    }
     desk.leave();
     takePaperAway();
     const mine = shows += 1;

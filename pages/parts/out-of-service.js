@@ -61,11 +61,12 @@ export function standingOf({ old }, trips) {
     return MEANT.every((name) => (now[name] ?? null) === (old[name] ?? null)) ? "same" : "changed";
 }
 
-/** The trip that somebody booked in place of one: made after the plan was read, for the same way on that day or for the same time.
+/** The trip that somebody booked in place of one: made after the plan was read, for the same way on that day or for the same time. The way back stands for
+ * no way there.
  * @param {Item} item @param {Trip[]} trips @param {Set<number>} taken trips that stand for another one already @returns {Trip | null}
  */
 export const anewOf = ({ old, highest }, trips, taken) => trips.find((it) => it.trip > highest && it.status === "booked" && it.day === old.day && !taken.has(it.trip)
-    && ((it.from === old.from && it.to === old.to) || (it.window_from <= old.window_to && it.window_to >= old.window_from))) ?? null;
+    && ((it.from === old.from && it.to === old.to) || ((it.from !== old.to || it.to !== old.from) && it.window_from <= old.window_to && it.window_to >= old.window_from))) ?? null;
 
 /** What a rider asked for: a trip that was pinned to its old window has the page's words, not the rider's.
  * @param {Pick<Item, "old" | "said">} item @returns {Said}

@@ -58,9 +58,9 @@ export function partWaiting(letters) {
 const LISTED = { [TAKE_APPLICATION]: "refused", [GRANT_APPLICATION]: "applied" };
 
 /** Grants in part that the night's list has, of its rows by their heads.
- * @param {{ heads: string[], values: string[][] }[]} tables @returns {Told[]}
+ * @param {{ heads: string[], rows: string[][] }[]} tables @returns {Told[]}
  */
-export const partsListed = (tables) => tables.flatMap(({ values }) => values).filter((row) => row.length >= 5 && LISTED[row[4]] && /^\d+$/.test(row[0]) && /^\d+$/.test(row[2]))
+export const partsListed = (tables) => tables.flatMap(({ rows }) => rows).filter((row) => row.length >= 5 && LISTED[row[4]] && /^\d+$/.test(row[0]) && /^\d+$/.test(row[2]))
     .map(([rider, , entry, day, step]) => ({ rider: Number(rider), entry: Number(entry), day, step: LISTED[step] }));
 
 /** Grants in part that the site was told of (/staff/today.json). What is in another form is none.

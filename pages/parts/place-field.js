@@ -2,7 +2,7 @@
 
 import { addressOfChoice, choiceOfAddress } from "./address-meant.js";
 import { addressChoice, addressesFor, addressOf } from "./addresses.js";
-import { isOwnPlace, placeName, placeNote, placePairs } from "./agency.js";
+import { isOwnPlace, othersPairs, placeName, placeNote, placePairs } from "./agency.js";
 import { comboField } from "./combo.js";
 import { HIGHEST_ID } from "./limits.js";
 import { fitting } from "./place-order.js";
@@ -21,6 +21,11 @@ function choicesOf(rider, usual) {
     const at = (/** @type {Choice} */ { id }) => (first.includes(id) ? first.indexOf(id) : first.length);
     return all.sort((a, b) => at(a) - at(b));
 }
+
+/** Other riders' places, which staff find by what they type and are not offered before.
+ * @param {number | undefined} rider @returns {Choice[]}
+ */
+const othersChoices = (rider) => othersPairs(rider).map(([id, text]) => ({ id, text, note: t("fields.place-others"), sought: ` ${searchable(text)}` }));
 
 /** The addresses that may be chosen, each as a choice of its own.
  * @param {number | undefined} rider @returns {Choice[]}
@@ -46,8 +51,9 @@ export function placeField(name, label, { rider, usual = () => [], value, addres
         const count = typed.trim() ? fitting(all(), typed).length : 0;
         return count > 1 ? t("fields.place-many", { count }) : t(typed.trim() ? "fields.place-none" : "fields.place");
     };
-    const whole = comboField(name, label, { ...options, all: places, wants, search: (typed) => fitting(all(), typed), meant: (typed) => meant(all(), typed),
-        textOf: (id) => all().find((it) => it.id === id)?.text ?? String(id) });
+    const others = () => othersChoices(rider), search = (/** @type {string} */ typed) => [...fitting(all(), typed), ...(typed.trim() ? fitting(others(), typed) : [])];
+    const whole = comboField(name, label, { ...options, all: places, wants, search, meant: (typed) => meant(all(), typed) ?? meant(others(), typed),
+        textOf: (id) => [...all(), ...others()].find((it) => it.id === id)?.text ?? String(id) });
     if (value !== undefined) whole.write(value);
     const read = () => {
         const found = whole.read(), id = addressOfChoice(found.value);

@@ -60,7 +60,8 @@ function rowOf(cells, rider) {
     const name = cells.name ?? "", telephone = cells.telephone ?? "";
     return { rider, name, telephone, language: (cells.language ?? "").toLowerCase().slice(0, 2), home: idIn(cells.home ?? ""),
         usual: (cells.usual ?? "").split(/[\s;]+/).map(idIn).filter((it) => it !== null).map(Number), aid: cells.aid ?? "", attendant: cells.attendant ?? "", note: cells.note ?? "",
-        sought: ` ${searchable(name)}`, digits: telephone.replace(/\D/g, ""), number: String(rider) };
+        // (a name with a hyphen is found as one word too)
+        sought: ` ${searchable(name)}${name.includes("-") ? ` ${searchable(name.replaceAll("-", ""))}` : ""}`, digits: telephone.replace(/\D/g, ""), number: String(rider) };
 }
 
 /** Reads a roster's text: what is right in it is used.

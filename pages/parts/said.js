@@ -18,9 +18,9 @@ import { guessedDrive, isMadeUp } from "./wishes.js";
 /** @typedef {{ mode: Mode, minute: number, by?: number | null, from_address?: number, to_address?: number }} Named what a rider named: the mode, its minute, a minute
  *   to be there by beside a pickup, and which addresses of the places are meant */
 /** @typedef {Named & { from?: number, to?: number }} Kept with the window that was promised for it */
-/** @typedef {{ said: Said, old: Trip | null, counted: boolean, elsewhere?: "booking" | "change", asking?: string, window?: [number, number] }} Offer old is the trip as it was before a change; elsewhere
+/** @typedef {{ said: Said, old: Trip | null, counted: boolean, elsewhere?: "booking" | "change", asking?: string, window?: [number, number], before?: number }} Offer old is the trip as it was before a change; elsewhere
  *   says what the trip was where another browser was offered it: how it was before is not known here; asking is the plan that got it and has not ended, window what was
- *   offered once it had */
+ *   offered once it had, before the minute at which the way there arrives where this way back begins before it */
 /** @typedef {import("./taken-up.js").Asking} Asking */
 
 const SAID = "desk.said", OFFERS = "desk.offers", ASKING = "desk.asking";

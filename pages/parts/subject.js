@@ -3,7 +3,7 @@
 
 import { vehicleName, vehicles } from "./agency.js";
 import { comboField } from "./combo.js";
-import { button, part } from "./element.js";
+import { button, part, say } from "./element.js";
 import { form } from "./fields.js";
 import { HIGHEST_ID } from "./limits.js";
 import { readAll } from "./reads.js";
@@ -83,6 +83,7 @@ export function withSubject({ what, label, action, draw, folded: folds = false, 
     const shows = (/** @type {number} */ id) => {
         keepSubject(what, id);
         field.write(id);
+        say("");
         // (who asks again wants to know how it is now)
         if (tools.state().shown === id) readAll();
         tools.change({ shown: id, typed: textOf(id), open: false }, { focus });

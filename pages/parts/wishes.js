@@ -5,7 +5,7 @@
 // nine brings the van at eight where it can. A plan is the list of requests that come nearer to what the rider said:
 //
 // around       the pickup within an hour of the minute. An hour later less the agency's lead comes first, with a minute to be there by that keeps the
-//              pickup within the hour, then the minute itself. Where no line runs at that, each quarter of an hour less comes before it.
+//              pickup within the hour, then the minute itself.
 // not-before   the promise begins at the minute or later, and at most an hour after it. An hour later is asked for, first with such a minute to be
 //              there by.
 // by           only being there in time matters: the latest pickup that may do comes first, then each a quarter of an hour earlier.
@@ -49,9 +49,9 @@ export const MODES = ["around", "not-before", "by"];
 const FEET_A_MINUTE = 1760, DETOUR = 1.3, UNKNOWN_DRIVE = 15, SLACK = 20, QUARTER = 15, HALF_WINDOW = 15, MOST_TRIES = 10, STEPS = [30, 60], MOST_TIGHTER = 2;
 /** A minute that the plan makes is never one that people name: 3 more than a multiple of 5. */
 const NAMED = 5, UNNAMED = 3;
-const FULL = "no vehicle", CLOSED = "37.131(e)";
+const FULL = "no vehicle";
 /** Rules that may hold of one minute and not of another. */
-const OF_MINUTE = [FULL, CLOSED, "37.123(b)"];
+const OF_MINUTE = [FULL, "37.131(e)", "37.123(b)"];
 /** Whether another minute of the same plan may still be accepted.
  * @param {string} name
  */
@@ -105,17 +105,12 @@ const latestPickup = ({ minute, drive }) => minute - drive - SLACK;
  */
 const namedOf = (said) => cut(said.mode === "by" ? latestPickup(said) : said.minute);
 
-/** So many minutes, and each a quarter of an hour less, above none.
- * @param {number} most
- */
-const quarters = (most) => Array.from({ length: Math.ceil(most / QUARTER) }, (_, at) => most - at * QUARTER);
-
 /** @param {Said} said @returns {[number, number | null, boolean][]} wish, by, bound */
 function wishesOf(said) {
     const { mode, minute, by, lead, change } = said, bound = soonest(by, boundOf(said)), isBound = bound !== by;
     if (mode === "by") return Array.from({ length: MOST_TRIES }, (_, at) => [latestPickup(said) + NEGOTIATED_MINUTES - at * QUARTER, minute, false]);
     // (booked or changed, it is asked alike: a first request without the bound would hold or move the trip past the hour before the rider has said yes)
-    if (mode === "around") return [...quarters(NEGOTIATED_MINUTES - lead).map((far) => /** @type {[number, number | null, boolean]} */ ([minute + far, bound, isBound])), [minute, by, false]];
+    if (mode === "around") return [[minute + NEGOTIATED_MINUTES - lead, bound, isBound], [minute, by, false]];
     const steps = Array.from({ length: NEGOTIATED_MINUTES / QUARTER + 1 }, (_, at) => minute + NEGOTIATED_MINUTES - at * QUARTER);
     // (a change would move the trip past the hour at once, before the rider has said yes: so it is not asked for without the bound)
     return steps.flatMap((wish) => /** @type {[number, number | null, boolean][]} */ ([[wish, bound, isBound], ...(isBound && !change ? [[wish, by, false]] : [])]));
@@ -165,7 +160,7 @@ function reasonOf(said, answers) {
  * @returns {Request | null}
  */
 function nearer(said, request, { window_from: from }, tighter) {
-    if (said.mode === "around") return requestsOf(said).filter(({ at }) => at > request.at).at(-1) ?? null;
+    if (said.mode === "around") return requestsOf(said).find(({ at }) => at > request.at) ?? null;
     const late = from - said.minute - NEGOTIATED_MINUTES;
     if (late <= 0 || !request.bound || request.by === null || tighter >= MOST_TIGHTER) return null;
     const by = request.by - late;
@@ -177,9 +172,7 @@ function nearer(said, request, { window_from: from }, tighter) {
  */
 function after(said, request, rule) {
     const left = requestsOf(said).filter(({ at }) => at > request.at);
-    if (said.mode === "by") return left[0] ?? null;
-    // (around a minute, only where no line runs yet or any more is a minute nearer to it asked for before the minute itself)
-    if (said.mode === "around") return (rule === CLOSED ? left[0] : left.at(-1)) ?? null;
+    if (said.mode !== "not-before") return left[0] ?? null;
     // (a full hour stays full from an earlier wish, which only adds pickups that are too early)
     if (rule === FULL) return left.find(({ wish }) => wish === request.wish) ?? null;
     return left.find(({ wish }) => wish !== request.wish) ?? null;
@@ -288,6 +281,14 @@ const ROUNDED = 5;
 export function arrivalBefore(back, there, drive) {
     const [begins] = underWay(back), [, arrives] = underWayOf(there, drive), at = Math.ceil(arrives / ROUNDED) * ROUNDED;
     return begins < arrives && at <= LAST_MINUTE ? at : null;
+}
+
+/** The same of a way back that the desk has promised: its window must not begin before the way there has arrived, whatever was said of it.
+ * @param {Window} back @param {Window} there @param {number} drive @returns {number | null}
+ */
+export function arrivalAfter({ window_from: begins }, there, drive) {
+    const [, arrives] = underWayOf(there, drive);
+    return begins < arrives ? Math.min(LAST_MINUTE, Math.ceil(arrives / ROUNDED) * ROUNDED) : null;
 }
 
 /** What a rider says of a way back who agrees to leave once the way there has arrived. A minute to be there by stays.

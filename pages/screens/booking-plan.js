@@ -10,7 +10,7 @@ import { say } from "../parts/element.js";
 import { beginAsking, driveOf, dropOffer, endAsking, isKeptElsewhere, keepOffer, keepSaid, leaveAsking, toldMade } from "../parts/said.js";
 import { belongs, unasked } from "../parts/sent.js";
 import { cancelTrip, count, countLater } from "../parts/tally.js";
-import { afterArrival, arrivalBefore, countedRule, isAsSaid, nextStep, otherRequests } from "../parts/wishes.js";
+import { afterArrival, arrivalAfter, arrivalBefore, countedRule, isAsSaid, nextStep, otherRequests } from "../parts/wishes.js";
 import { t } from "../parts/words.js";
 import { drivers } from "./trips-today.js";
 
@@ -46,6 +46,7 @@ const offeredAt = new Map();
  * @property {"looking" | "unsure"} [no] how far a No to the offer has come
  * @property {number | null} [early] the minute at which the way there arrives, where this way back would begin before it: until the rider has said when to leave
  * @property {boolean} [agreed] whether the rider has said so
+ * @property {number | null} [before] the same minute, where the desk has promised a way back that begins before it: an offer until the rider has answered
  * @property {boolean} other whether other times were tried
  * @property {string | null} waitsFor the leg that has to be booked before
  * @property {string} [marked] the moment at which a copy of the desk's file was asked for, so that a log can say why it was denied
@@ -201,6 +202,14 @@ export function askerOf(given) {
         if (early !== null) set(leg.key, { early });
         return early !== null;
     };
+    /** A way back that the desk has promised for before the way there arrives is an offer: somebody says whether it is kept. */
+    const heldBack = (/** @type {Leg} */ leg, /** @type {Ticket | undefined} */ ticket) => {
+        const there = leg.agreed ? null : find(leg.waitsFor), before = ticket && there?.ticket ? arrivalAfter(ticket, there.ticket, there.said.drive) : null;
+        if (!ticket || before === null) return null;
+        keepOffer(ticket.trip, { said: leg.said, old: null, counted: true, window: [ticket.window_from, ticket.window_to], before });
+        offeredAt.set(ticket.trip, serverNow());
+        return { offer: ticket, before, denied: null };
+    };
     const rest = async () => {
         // (all of it is written down first: a window that is closed in the middle leaves none of it without a word)
         const open = state().legs.filter(({ ticket, denied, offer, refused, early }) => !ticket && !denied && !offer && !refused && !early);
@@ -212,7 +221,7 @@ export function askerOf(given) {
                 unasked(rider, leg.wish);
                 continue;
             }
-            const step = await carriedOut(given, leg, id), patch = afterPlan(leg, step, trip), rule = countedRule(leg.said, step);
+            const step = await carriedOut(given, leg, id), patch = (step.is === "kept" && heldBack(leg, step.answer.reply.value)) || afterPlan(leg, step, trip), rule = countedRule(leg.said, step);
             ids.delete(key);
             countDenial(counted, leg, rule, step.is === "offered" ? offerFields(rider, /** @type {Ticket} */ (step.answer.reply.value), trip) : null);
             if (patch.denied && rule === "no vehicle") losses.hold(state().legs, key);
@@ -246,6 +255,8 @@ export function askerOf(given) {
         after.forEach((id) => (isLeft ? leaveAsking : endAsking)(id));
         // (what the desk says of other times is no answer to what the rider said)
         if (!told || "denied" in told) return { ...(told && ENDS.includes(told.denied.denied) ? told : {}), other: true };
+        const held = heldBack(leg, told.ticket);
+        if (held) return { ...held, other: true };
         tellBooked(leg, told.ticket);
         return { ticket: told.ticket, denied: null, other: true };
     });

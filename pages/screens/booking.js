@@ -135,9 +135,9 @@ function legShown(leg, about, acts, busy) {
     const { rider, trip } = about, { ticket, offer, refused, said, wish, key } = leg, id = `leg-${key}`;
     if (ticket) return part("li", { key }, ticketOf({ rider, ticket, wish, said }, { id,
         heading: t(trip ? "booking.changed-for" : "booking.booked-for", { trip: ticket.trip, rider: riderLabel(rider) }) }));
-    if (offer) return part("li", { key }, offerShown({ trip: { ...wish, ...offer }, said, old: trip, denied: leg.denied, id, busy, no: leg.no, answer: (yes) => acts.answer(leg, yes) }));
+    if (offer) return part("li", { key }, offerShown({ trip: { ...wish, ...offer }, said, old: trip, before: leg.before, denied: leg.denied, id, busy, no: leg.no, answer: (yes) => acts.answer(leg, yes) }));
     if (refused) return part("li", { key }, part("section", { class: "refused", tabindex: -1, id, "aria-label": refusedWords(trip, leg.moved) },
-        part("h3", {}, refusedWords(trip, leg.moved)), part("p", {}, t("booking.offer-counted"))));
+        part("h3", {}, refusedWords(trip, leg.moved)), !leg.before && part("p", {}, t("booking.offer-counted"))));
     if (leg.denied) return part("li", { key }, deniedShown(leg, about, acts, busy));
     if (leg.early) return part("li", { key }, earlyShown(leg, acts, busy));
     return part("li", { key, class: "waiting" }, part("p", {}, `${legWords(leg)}: `, t(busy ? "booking.asking" : "booking.not-asked")));

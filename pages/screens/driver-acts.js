@@ -94,7 +94,7 @@ async function decided(state, stop, what, at) {
 /** What stays of a tap that was taken back: that this phone was in use by then, and what the site's log is told, where it has the tap.
  * @param {Entry} entry @returns {Entry | null} */
 function markOf(entry) {
-    const tally = undoneTold(entry.told ?? [], momentNow());
+    const { sheet, tap } = entry, tally = undoneTold({ vehicle: Number(sheet.split(" ")[0]), trip: tap.trip, tapped: tap.at, at: momentNow() }, entry.told ?? []);
     return entry.tap.what === "note" && !tally.length ? null : { ...entry, state: "kept", write: null, tally, told: [], tap: { ...entry.tap, what: "undone", text: undefined } };
 }
 

@@ -29,9 +29,6 @@ export const noteTold = (note) => eventPath("notes", note);
 /** @param {{ vehicle: number, trip: number, record: any, told: any, at: string }} disagreement */
 export const disagreementTold = (disagreement) => eventPath("disagreements", disagreement);
 
-/** That what was told is taken back: an event for each, by its id.
- * @param {string[]} told paths @param {string} at */
-export const undoneTold = (told, at) => told.map((path) => new URLSearchParams(path.slice(path.indexOf("?") + 1))).flatMap((fields) => {
-    const tap = fields.get("id"), vehicle = Number(fields.get("vehicle"));
-    return tap && vehicle && !fields.has("tap") ? [eventPath("undone", { vehicle, tap, at })] : [];
-});
+/** That what was told of a tap is taken back, where anything was.
+ * @param {{ vehicle: number, trip: number, tapped: string, at: string }} tap @param {string[]} told the paths that went out */
+export const undoneTold = (tap, told) => (told.some((path) => !path.includes("/undone?")) ? [eventPath("undone", tap)] : []);

@@ -51,9 +51,11 @@ function lastWords({ trip, vehicle }, { last }) {
 /** Whom to ask, once the window has begun: riders call the agency, and the office asks the driver or dispatch.
  * @param {Trip} trip @param {Where} where
  */
-function callWords({ vehicle }, { place }) {
+function callWords({ vehicle }, { place, own }) {
     const { telephone } = agency(), screen = screenNow(), van = vehicleName(vehicle);
     if (place === "before" || place === "ended") return null;
+    // (who was told by the driver where the van is asks nobody)
+    if (screen !== "rider" && own && (place === "arrived" || place === "aboard")) return null;
     if (screen === "dispatcher") return part("p", {}, t("trips.call-driver", { van }));
     if (screen !== "rider") return part("p", {}, t("trips.call-dispatch", { van }));
     return telephone ? part("p", {}, t("trips.call-agency"), " ", part("a", { href: `tel:${telephone.replace(/[^\d+]/g, "")}` }, telephone)) : null;

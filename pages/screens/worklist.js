@@ -1,7 +1,7 @@
 // What waits in the office: the list that the site makes each night of a copy of the desk's file (docs/WORKLIST.md). The desk tells an officer's
 // key no trips, so the missed trips on which an officer decides are read here. Of the file only its words come onto the page, never its markup.
 
-import { between, clock, dayShort } from "../parts/clock.js";
+import { between, clock, dayInWords, dayShort, isDay, today } from "../parts/clock.js";
 import { button, part, table } from "../parts/element.js";
 import { printParts } from "../parts/paper.js";
 import { partsLeft, partsListed, partsTold } from "../parts/partial.js";
@@ -16,7 +16,7 @@ import { denialsToday } from "./denials-today.js";
 import { namedIn, seenIn, watchNoShows } from "./notice.js";
 
 /** @typedef {import("../types").Given} Given */
-/** @typedef {{ heads: string[], rows: string[][], values: string[][] }} Table rows as they are read, values as programs read them: a day is YYYY-MM-DD */
+/** @typedef {{ heads: string[], rows: string[][] }} Table a cell that is a day is YYYY-MM-DD */
 /** @typedef {{ id: string, title: string, said: string[], tables: Table[] }} List */
 /** @typedef {{ said: string[], lists: List[], files: List[], fault?: undefined } | { fault: string }} Found */
 
@@ -34,14 +34,18 @@ const OWN = { clerk: { offers: "trips", first: "file", applications: "file", app
 /** @param {Element | null} it */
 const wordsOf = (it) => (it?.textContent ?? "").replace(/\s+/g, " ").trim();
 
-/** @param {Element} it */
-const valueOf = (it) => it.querySelector("time")?.getAttribute("datetime") ?? wordsOf(it);
+/** What a cell says; a day as it is written for programs.
+ * @param {Element} it
+ */
+const cellOf = (it) => it.querySelector("time")?.getAttribute("datetime") ?? wordsOf(it);
 
-/** @param {Element} it @param {(cell: Element) => string} read */
-const cellsOf = (it, read) => [...it.querySelectorAll("tbody tr")].map((row) => [...row.children].map(read));
+/** A cell as it is read: a day in the reader's language, with its year where that is another one.
+ * @param {string} cell
+ */
+const cellWords = (cell) => (!isDay(cell) ? cell : cell.slice(0, 4) === today().slice(0, 4) ? dayShort(cell) : dayInWords(cell));
 
 /** @param {Element} it @returns {Table} */
-const wordsOfTable = (it) => ({ heads: [...it.querySelectorAll("thead th")].map(wordsOf), rows: cellsOf(it, wordsOf), values: cellsOf(it, valueOf) });
+const wordsOfTable = (it) => ({ heads: [...it.querySelectorAll("thead th")].map(wordsOf), rows: [...it.querySelectorAll("tbody tr")].map((row) => [...row.children].map(cellOf)) });
 
 /** @param {Element} it @returns {List} */
 const listOf = (it) => ({ id: it.id, title: wordsOf(it.querySelector("h2, summary")), said: [...it.querySelectorAll("p")].map(wordsOf).filter(Boolean),
@@ -97,14 +101,14 @@ const riderCell = (rider, address) => (address && /^\d+$/.test(rider) ? button(r
 
 /** @param {List} list @param {string} [address] */
 const tablesOf = ({ title, tables }, address = "") => tables.map(({ heads, rows }) => table(title, heads.map((head, at) => ({ head,
-    cell: (/** @type {string[]} */ row) => (at === 0 ? riderCell(row[0], address) : row[at] ?? "") })), rows));
+    cell: (/** @type {string[]} */ row) => (at === 0 ? riderCell(row[0], address) : cellWords(row[at] ?? "")) })), rows));
 
 /** @param {List} list @param {string} [address] */
 const card = (list, address) => part("section", { class: "card", key: list.id, lang: "en" }, part("h2", {}, list.title), list.said.map((it) => part("p", {}, it)), tablesOf(list, address));
 
 /** @param {Table} table */
 const paperOf = ({ heads, rows }) => part("table", {}, part("thead", {}, part("tr", {}, heads.map((it) => part("th", {}, it)))),
-    part("tbody", {}, rows.map((row) => part("tr", {}, row.map((it) => part("td", {}, it))))));
+    part("tbody", {}, rows.map((row) => part("tr", {}, row.map((it) => part("td", {}, cellWords(it)))))));
 
 /** @param {List[]} lists @param {string[]} said */
 const print = (lists, said) => printParts(t("cases.waits"), [said.map((it) => part("p", {}, it)), lists.map((list) => part("section", {}, part("h2", {}, list.title),
@@ -145,8 +149,8 @@ export function worklist(reader) {
 /** The rows of a list that are of one rider.
  * @param {List} list @param {number} rider @returns {List}
  */
-const rowsOf = (list, rider) => ({ ...list, tables: list.tables.map(({ heads, rows, values }) => ({ heads, rows: rows.filter(([number]) => number === String(rider)),
-    values: values.filter(([number]) => number === String(rider)) })).filter(({ rows }) => rows.length > 0) });
+const rowsOf = (list, rider) => ({ ...list, tables: list.tables.map(({ heads, rows }) => ({ heads, rows: rows.filter(([number]) => number === String(rider)) }))
+    .filter(({ rows }) => rows.length > 0) });
 
 /** What the list says of one rider: how many trips were missed, and the case file with all that an officer decides on.
  * @param {number} rider

@@ -103,14 +103,14 @@ def read(paths: Iterable[str | Path]) -> Log:
 
 
 def standing(events: Iterable[Told]) -> list[Told]:
-    """The events that count: those that their driver took back do not. A driver takes back what is of the own vehicle."""
+    """The events that count: those that their driver took back do not, which is told by van, trip and moment."""
     found = [*events]
-    undone = {(it.fields["tap"], it.fields["vehicle"]) for it in found if it.kind == "undone"}
-    return [
-        it
-        for it in found
-        if it.kind not in TAKEN_BACK or (it.id, it.fields["vehicle"]) not in undone
-    ]
+    undone = {_tapped(it, "tapped") for it in found if it.kind == "undone"}
+    return [it for it in found if it.kind not in TAKEN_BACK or _tapped(it, "at") not in undone]
+
+
+def _tapped(told: Told, moment: str) -> tuple[Value | None, ...]:
+    return told.fields["vehicle"], told.fields["trip"], told.fields[moment]
 
 
 def lines_in(path: str | Path) -> Iterator[bytes]:

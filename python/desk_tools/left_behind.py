@@ -4,6 +4,7 @@
 `here` that `there` lacks, or has otherwise, is a finding. Days are dates; minutes are those of the day.
 """
 
+import datetime
 import pathlib
 import sqlite3
 from collections.abc import Iterator, Mapping
@@ -28,7 +29,7 @@ def entries_in(tables: sqlite3.Connection) -> dict[tuple[int, int], Entry]:
     """Each entry of a case file, by rider and place."""
     query = "SELECT rider, place, kind, day, author FROM entries"
     return {
-        (rider, place): Entry(place, kind, theft.EPOCH + theft.datetime.timedelta(days=day), author)
+        (rider, place): Entry(place, kind, theft.EPOCH + datetime.timedelta(days=day), author)
         for rider, place, kind, day, author in tables.execute(query)
     }
 
@@ -101,9 +102,7 @@ def rider_findings(
     """Each rider who was made or changed here alone."""
     for rider in sorted(here):
         if rider not in there:
-            yield Finding(
-                f"rider {rider} was made here alone", "make the rider there again", rider
-            )
+            yield Finding(f"rider {rider} was made here alone", "make the rider there again", rider)
         elif there[rider] != here[rider]:
             yield Finding(
                 f"the record of rider {rider} was changed here alone",
@@ -140,9 +139,7 @@ def other_lines(there: sqlite3.Connection, here: sqlite3.Connection) -> Iterator
             yield f"{table}: {len(differing)} rows were made or changed here alone ({named}{more}): enter them there"
 
 
-def rows_of(
-    tables: sqlite3.Connection, table: str
-) -> dict[tuple[object, ...], tuple[object, ...]]:
+def rows_of(tables: sqlite3.Connection, table: str) -> dict[tuple[object, ...], tuple[object, ...]]:
     """Each row of a table, by what it is known by. An older file may lack the table."""
     if not tables.execute("SELECT 1 FROM sqlite_master WHERE name = ?", (table,)).fetchone():
         return {}

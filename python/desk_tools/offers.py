@@ -24,5 +24,22 @@ def open_offers(events: Iterable[Told], today: datetime.date) -> dict[int, Told]
     return {trip: it for trip, it in found.items() if _is_from(it.fields.get("day"), today)}
 
 
+def declined_offers(events: Iterable[Told]) -> set[int]:
+    """The trips that were offered in place of a booking and canceled before anybody kept them: their riders said no."""
+    offered: set[int] = set()
+    declined: set[int] = set()
+    for it in events:
+        trip = it.fields.get("trip")
+        if not isinstance(trip, int):
+            continue
+        if it.kind == "denials" and it.fields.get("offer") == "booking":
+            offered.add(trip)
+        elif it.kind == "bookings":
+            offered.discard(trip)
+        elif it.kind == "cancellations" and trip in offered:
+            declined.add(trip)
+    return declined
+
+
 def _is_from(day: object, today: datetime.date) -> bool:
     return isinstance(day, datetime.date) and day >= today

@@ -33,6 +33,8 @@ DAYS_OF_NO_SHOWS = 90
 DAYS_OF_TAPS = 1
 # How long a log that was rotated is still looked at, since the site may still write into it.
 SECONDS_AFTER = 300.0
+# A tap that waited no longer than this before it came is no sign of a wrong date.
+FRESH = datetime.timedelta(hours=1)
 MARK = 64
 KINDS = {
     "arrived": "arrived",
@@ -360,9 +362,12 @@ def _day_of(told: Told, zone: datetime.tzinfo) -> datetime.date:
 
 
 def _is_late(told: Told, today: datetime.date, zone: datetime.tzinfo) -> bool:
-    """Whether a tap came today and is of an earlier day."""
-    received = told.received.astimezone(zone).date()
-    return told.kind == "stops" and received == today and moment_of(told, zone).date() < today
+    """Whether a tap came today and is of an earlier day, but for those of the last hour, as at midnight."""
+    received = told.received.astimezone(zone).replace(tzinfo=None)
+    if told.kind != "stops" or received.date() != today:
+        return False
+    at = moment_of(told, zone)
+    return at.date() < today and received - at > FRESH
 
 
 def _late(told: Told, zone: datetime.tzinfo) -> dict[str, object]:

@@ -45,38 +45,38 @@ def the_first_admin_stays_an_admin_and_a_taken_number_says_whose_it_is(at):
 def a_place_ten_times_too_far_is_asked_about(at):
     at.browser.sign_in(at.keys["admin"], "admin", "places")
     at.browser.fill_all({"Place number": "90", "Feet to the east": "1,250,00", "Feet to the north": "0"})
-    at.browser.press("Put the place")
+    at.browser.press("Save place")
     at.browser.sees("Write a whole number")
     at.browser.fill("Feet to the east", "125,000")
-    at.browser.press("Put the place")
+    at.browser.press("Save place")
     at.browser.sees("miles from everything on the map. Put it there?")
     at.browser.press("No, go back")
     at.browser.fill("Feet to the east", "12 500")
-    at.browser.press("Put the place")
+    at.browser.press("Save place")
     at.browser.sees("90 is on record.")
 
 
 @check
 def the_policy_that_was_put_last_is_shown_and_asked_about(at):
     at.browser.sign_in(at.keys["admin"], "admin", "policy")
-    at.browser.sees("None was put from this browser yet.", "A new desk takes one missed trip for a pattern.")
-    at.browser.fill_all({"A trip by fixed routes costs": "1.75", "And so much more where it takes a transfer": "0.50",
+    at.browser.sees("None was saved from this browser yet.", "A new desk takes one missed trip for a pattern.")
+    at.browser.fill_all({"A trip by fixed routes costs": "1.75", "Transfer charge": "0.50",
                          "Your own fare": "4", "Minutes that a stop takes": "2",
                          "Minutes that a ride may take beyond the direct drive": "20",
-                         "A pattern of missed trips is so many at least": "2",
-                         "And so many in a hundred of the rider's trips": "10", "Counted over so many days": "30"})
-    at.browser.press("Put the policy")
+                         "No-show pattern: at least so many no-shows": "2",
+                         "and at least this percent of the rider's trips": "10", "within so many days": "30"})
+    at.browser.press("Save fares and limits")
     at.browser.sees("Replace the whole policy by this one?", "$4.00", "One or two missed trips are no pattern or practice")
     at.browser.press("No, go back")
-    at.browser.fill("A pattern of missed trips is so many at least", "3")
-    at.browser.press("Put the policy")
+    at.browser.fill("No-show pattern: at least so many no-shows", "3")
+    at.browser.press("Save fares and limits")
     at.browser.sees("Replace the whole policy by this one?", "$4.00")
     at.browser.sees_no("One or two missed trips are no pattern")
-    at.browser.press("Put the policy")
+    at.browser.press("Save fares and limits")
     at.browser.sees("The policy holds from now on.")
     at.browser.press("Sign out")
     at.browser.sign_in(at.keys["admin"], "admin", "policy")
-    at.browser.sees("Put last from this browser, on")
+    at.browser.sees("Last saved from this browser on")
     same("the fare in the form", "4.00", at.browser.value("Your own fare"))
 
 
@@ -85,10 +85,10 @@ def a_line_that_is_there_is_replaced_only_after_a_question(at):
     at.browser.sign_in(at.keys["admin"], "admin", "routes")
     line = {"Line number": "7", "Points of the line": "0, 0\n20,000; 3,000", "From": "5 am", "To": "11 pm"}
     at.browser.fill_all(line)
-    at.browser.press("Put the line")
+    at.browser.press("Save route")
     at.browser.sees("Line 7 is on record.")
     at.browser.fill_all(line)
-    at.browser.press("Put the line")
+    at.browser.press("Save route")
     at.browser.sees("Line 7 is there already. Replace it?")
     at.browser.press("No, go back")
 
@@ -166,7 +166,7 @@ def what_was_put_here_is_saved_into_the_servers_file_or_forgotten(at):
     at.browser.sign_in(at.keys["admin"], "admin", "names")
     at.browser.sees("The server has the file of the example town.",
                     "This browser has names that the file on the server has not.")
-    at.browser.fill_all({"Of a": "vehicle", "Number": "3", "Name": "Van 3, red"}, at.browser.find("region", "A name"))
+    at.browser.fill_all({"Type": "vehicle", "Number": "3", "Name": "Van 3, red"}, at.browser.find("region", "A name"))
     at.browser.press("Keep the name")
     at.browser.sees("Kept in this browser.")
     chosen_file(at, "no file")
@@ -180,7 +180,7 @@ def what_was_put_here_is_saved_into_the_servers_file_or_forgotten(at):
     same("the name that was put", [{"id": 3, "name": "Van 3, red"}], saved["vehicles"])
     at.browser.press("Forget what this browser has put")
     at.browser.press("Yes, forget them")
-    at.browser.sees("This browser has nothing that the file on the server has not.")
+    at.browser.sees("Everything here is already on the server.")
     same("what this browser keeps", None, at.browser.script("return localStorage.getItem('desk.agency')"))
 
 

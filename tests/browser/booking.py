@@ -287,7 +287,7 @@ def the_answer_to_a_cancel_is_where_its_button_was_and_has_the_focus(at):
     at.browser.press(f"Yes, cancel trip {trip}")
     wait_for(at, "the answer has the focus", f"document.activeElement.id === 'answer-{trip}'")
     told = at.browser.script("return document.activeElement.innerText")
-    same("the answer", f"Trip {trip} of Ana María Núñez (1006) is cancelled.", told)
+    same("the answer", f"Trip {trip} of Ana María Núñez (1006) is canceled.", told)
     row = at.browser.script("return document.activeElement.closest('tr').innerText")
     holds("it is in the trip's own row", row.startswith(str(trip)))
     holds("it can be seen", at.browser.script(
@@ -732,3 +732,53 @@ def a_closed_day_is_said_at_the_field_before_anything_is_sent(at):
         same("trips", before, len(at.town.trips_of(1005)))
     finally:
         at.town.write_file("agency.json", right if isinstance(right, bytes) else right.encode())
+
+
+@check
+def a_way_back_does_not_begin_before_the_way_there_arrives(at):
+    for press, is_later in [("^Ask for a return not before", True), ("^Ask for it as said: not before 9:05 AM", False)]:
+        before = len(at.town.trips_of(1003))
+        begin(at, "1003")
+        wish(at, start="7 Elm", goal="Riverside", day=THURSDAY, wish="9 am", back="9:05 am")
+        at.browser.press(BOOK)
+        at.browser.sees("The way there may arrive as late as 9:", "after this return begins", "There is no way back yet.", "1 of 2 trips are booked")
+        same("trips until the rider has said when to leave", before + 1, len(at.town.trips_of(1003)))
+        there = last_trip(at, 1003)
+        at.browser.press(re.compile(press))
+        at.browser.sees("2 of 2 trips are booked")
+        back = last_trip(at, 1003)
+        same("the ways", (there["from"], there["to"]), (back["to"], back["from"]))
+        holds(f"{there}, {back}", back["window_from"] >= (there["window_to"] + 1 if is_later else 545))
+        for trip in (there, back):
+            at.town.post("third clerk", f"/trips/{trip['trip']}/cancel", {})
+
+
+@check
+def a_way_back_that_the_desk_promises_before_the_arrival_is_an_offer(at):
+    for answer, status in [("^Yes, keep trip", "booked"), ("^No, cancel trip", "cancelled")]:
+        before = {it["trip"] for it in at.town.trips_of(1003)}
+        begin(at, "1003")
+        wish(at, start="7 Elm", goal="Riverside", day=THURSDAY, wish="9 am", back="9:10 am", back_matters="around")
+        at.browser.press(BOOK)
+        at.browser.sees("The way back begins at ", "and the way there may arrive as late as 9:10 AM")
+        there, back = sorted((it for it in at.town.trips_of(1003) if it["trip"] not in before), key=lambda it: it["trip"])
+        holds(f"it begins too early: {there}, {back}", back["window_from"] < there["window_to"] + 10)
+        at.browser.press(re.compile(answer))
+        at.browser.sees("2 of 2 trips are booked" if status == "booked" else "The offer was not taken, and is given up.")
+        stands = {it["trip"]: it["status"] for it in at.town.trips_of(1003)}
+        same("the trips", ("booked", status), (stands[there["trip"]], stands[back["trip"]]))
+        for trip in (there, back):
+            at.town.post("third clerk", f"/trips/{trip['trip']}/cancel", {})
+
+
+@check
+def a_clerk_books_to_another_riders_home_by_what_is_typed(at):
+    begin(at, "1003")
+    at.browser.find("field", "To").send_keys("pine")
+    at.browser.find("option", re.compile("88 Pine Road.*Another rider’s place", re.S))
+    at.browser.find("field", "To").clear()
+    wish(at, start="7 Elm", goal="88 Pine", day=FRIDAY, wish="1 pm")
+    at.browser.press(BOOK)
+    at.browser.sees("is booked for Henry Park (1003)")
+    same("where to", 14, last_trip(at, 1003)["to"])
+    at.town.post("third clerk", f"/trips/{last_trip(at, 1003)['trip']}/cancel", {})

@@ -452,6 +452,17 @@ def a_page_that_is_loaded_anew_before_the_rider_is_looked_at_says_so_and_a_no_sa
 
 
 @check
+def a_form_that_waits_for_the_desk_says_so(at):
+    begin(at, "1003", "clerk")
+    at.browser.fill_all({"From": "town", "To": "hosp", "Day": "2025-03-20", "Pickup time": "9 am"})
+    with at.town.middle.hold():
+        at.browser.press(BOOK)
+        at.browser.sees("Waiting for the desk to answer…")
+    at.browser.sees("is booked for Henry Park (1003)")
+    at.browser.sees_no("Waiting for the desk to answer")
+
+
+@check
 def a_record_that_is_saved_and_left_within_a_second_is_said_not_to_be_saved(at):
     at.browser.sign_in(at.keys["clerk"], "clerk", "rider")
     at.browser.fill_all({"Rider number": "1017", "Kind": "visitor"})
@@ -488,7 +499,7 @@ def files_that_were_missed_are_asked_for_again(at):
 
 # The files of the pages.
 
-FILES = ["/screens/admin-names.js", "/screens/admin.js", "/words/en/admin.js", "/parts/addresses.js", "/parts/main.js", "/css/admin.css"]
+FILES = ["/screens/admin-names.js", "/screens/admin.js", "/words/en/admin.js", "/parts/addresses.js", "/parts/main.js"]
 NOT_LOADED, NOT_DRAWN = "This screen could not be loaded", "This part could not be shown."
 STYLED = "return [...document.querySelectorAll('link[rel=stylesheet]')].every((it) => it.sheet) && Boolean(document.querySelector('link[href=\"css/admin.css\"]'))"
 NOTES = "window.notes = 0; new MutationObserver(() => { if (document.querySelector('main > [role=alert]')) window.notes += 1; }).observe(document.querySelector('main'), { childList: true })"

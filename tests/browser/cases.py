@@ -281,6 +281,29 @@ def what_waits_leads_to_the_case(at):
         at.browser.sees(title)
 
 
+QUEUE = """return [...document.querySelectorAll(".case-queue tbody tr")].map((row) => [...row.children].map((it) => it.innerText.trim().replace(/\\s+/g, " ")));"""
+
+
+@check
+def an_examiner_begins_with_the_cases_that_wait_and_one_click_opens_one(at):
+    newcomer(at, 3301)("clerk", "complete")
+    make_worklist(at, AFTER)
+    at.browser.sign_in(at.keys["examiner"], "examiner")
+    rows = until("no queue", lambda: at.browser.script(QUEUE))
+    mine = next(row for row in rows if "3301" in row[1])
+    same("what is said of it", ["Application, complete", "Mon, Mar 10", "Presumed eligible from Mon, Mar 31"], mine[2:])
+    left = [row[0] for row in rows]
+    same("days left by the own day", "21 days left", mine[0])
+    order = [-int(it.split()[0]) if "past" in it else 0 if "over" in it else int(it.split()[0]) for it in left]
+    same("the fewest days left first", sorted(order), order)
+    at.browser.press("Show rider 3301")
+    at.browser.sees("The case of rider 3301")
+    holds("the queue is still there", not at.browser.script(QUEUE))
+    at.browser.press("All cases")
+    until("the queue does not come back", lambda: at.browser.script(QUEUE))
+    same("where the focus is", "rider-none", focused_id(at))
+
+
 @check
 def a_work_list_that_is_missing_wrong_or_not_for_this_key_is_told(at):
     at.browser.sign_in(at.keys["rider 1001"], "officer", "waits")

@@ -329,7 +329,7 @@ def what_another_window_writes_is_seen_at_once(at):
         begin(at, "1005")
         at.browser.press(f"Cancel trip {trip} of Samuel Grant (1005)")
         at.browser.press(f"Yes, cancel trip {trip}")
-        at.browser.sees(f"Trip {trip} of Samuel Grant (1005) is cancelled.")
+        at.browser.sees(f"Trip {trip} of Samuel Grant (1005) is canceled.")
         first()
         until("the other window's list", lambda: not at.browser.is_there("button", re.compile(f"^Cancel trip {trip} ")))
         second()
@@ -617,7 +617,7 @@ def frequent_calls_take_few_keys(at):
     keys.press(Keys.ENTER)
     back_to(at, keys, "^Yes")
     keys.press(Keys.ENTER)
-    at.browser.sees("is cancelled.")
+    at.browser.sees("is canceled.")
     holds(f"a trip is given up: {keys.count} keys", keys.count <= 11)
     counts["cancel"] = keys.count
     print(f"keys of the seven tasks: {counts}")
@@ -746,6 +746,25 @@ def a_question_goes_with_who_signed_out_and_is_answered_no(at):
     at.town.post("third clerk", f"/trips/{trip}/cancel", {})
 
 
+SAID = "return document.getElementById('said').textContent"
+
+
+@check
+def what_was_said_is_not_said_of_the_next_rider_or_to_who_signs_in_next(at):
+    begin(at, "1002")
+    at.browser.press(BOOK)
+    until("nothing is said of a field", lambda: at.browser.script(SAID))
+    at.browser.fill("Rider number", "1001")
+    at.browser.press("Show")
+    until(lambda: f"{at.browser.script(SAID)!r} is said of the next rider", lambda: at.browser.script(SAID) == "")
+    at.browser.press("Sign out")
+    until("the sign-out is not said", lambda: at.browser.script(SAID))
+    at.browser.fill("Key", at.keys["second clerk"])
+    at.browser.press("Sign in")
+    at.browser.find("field", "Rider number")
+    until(lambda: f"{at.browser.script(SAID)!r} is said after the next sign-in", lambda: at.browser.script(SAID) == "")
+
+
 # What a clerk has to know of a case.
 
 # (as bin/worklist writes its cells)
@@ -766,7 +785,7 @@ def what_waits_is_on_the_card_and_a_part_of_the_clerks_screen(at):
             begin(at, rider)
             at.browser.sees(words)
         at.browser.go_part("clerk", "waits")
-        at.browser.sees("Applications to decide", "Peter Lange", "Mon, Feb 17, 2025")
+        at.browser.sees("Applications to decide", "Peter Lange", "Mon, Feb 17")
         at.browser.press("Show rider 1009")
         at.browser.sees("The case of Peter Lange (1009)")
     finally:

@@ -251,6 +251,33 @@ def times_of_taps_are_told_the_sites_log_once(at):
     holds(f"a line has vehicle, trip and time: {lines[0]}", "vehicle=1&trip=1" in lines[0] and re.search("at=2025-03-11T06(:|%3A)2", lines[0]))
 
 
+def taps_of_today(at, vehicle=1):
+    """The taps of a van in the file of the day, as its unit makes it now. The site of these checks keeps none: a phone would read it."""
+    told = at.town.make_today()["vehicles"].get(str(vehicle), {"taps": []})
+    at.town.write_file("staff/today.json", None)
+    return sorted((it["trip"], it["kind"]) for it in told["taps"])
+
+
+@check
+def a_tap_that_is_undone_once_the_site_has_it_counts_no_more(at):
+    at.browser.fresh()
+    before = taps_of_today(at), len(events(at, "stops"))
+    with at.browser.clock(hurry=20):
+        sign_in(at, "06:30")
+        press_stop(at, "6:17 AM Pick up Rosa")
+        at.browser.press("This is my next stop")
+        at.browser.press("Yes: go on from here")
+        at.browser.press("Arrived")
+        at.town.set_clock(TOMORROW, "06:33")
+        until("the tap is not told", lambda: len(events(at, "stops")) > before[1])
+        same("the taps of the day", sorted([*before[0], (1, "arrived")]), taps_of_today(at))
+        at.browser.press("Undo “arrived”")
+        until("nobody is told that it is taken back", lambda: events(at, "undone"))
+        at.browser.settled()
+    same("what was taken back", [("1", "1", events(at, "stops")[-1]["at"])], [(it["vehicle"], it["trip"], it["tapped"]) for it in events(at, "undone")])
+    same("the taps of the day", before[0], taps_of_today(at))
+
+
 @check
 def it_is_used_with_one_hand_on_a_small_phone(at):
     at.browser.fresh()

@@ -86,7 +86,7 @@ def a_booking_is_made_and_counted_without_stores(at):
         until("the booking is in the log", lambda: lines(at, f"trip={trip}&"))
         at.browser.press(re.compile(f"^Cancel trip {trip}"))
         at.browser.press(f"Yes, cancel trip {trip}")
-        at.browser.sees(f"Trip {trip} of Dorothy O'Neill (1002) is cancelled.")
+        at.browser.sees(f"Trip {trip} of Dorothy O'Neill (1002) is canceled.")
         until("the cancellation is in the log", lambda: [it for it in lines(at, f"trip={trip}&") if "cancellations" in it])
         at.browser.driver.refresh()
         at.browser.sees("Sign in", KEEPS_NOTHING)

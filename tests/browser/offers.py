@@ -229,3 +229,27 @@ def a_rider_reads_on_the_open_page_that_a_clerk_has_ended_the_offer(at):
             same("answers after it", [0, 0], answers(at, trip))
             same("what the page did", [], [it for it in at.browser.requests() if "/cancel" in it or "/change" in it])
             at.town.post("third clerk", f"/trips/{trip['trip']}/cancel", {})
+
+
+@check
+def a_rider_gives_an_offer_up_on_the_own_page_after_a_reload(at):
+    at.town.post("dispatcher", "/vehicles", {"id": 1, "from_day": LATER, "days": EVERY_DAY, "depot": 5, "capacity": 6, "opens": LATE_VAN,
+                                             "closes": 1320, "duration": 960, "chairs": 1})
+    at.browser.sign_in(at.keys["rider 1006"], "rider", "book")
+    at.browser.fill("Your rider number", "1006")
+    at.browser.press("Show my pages")
+    wish(at, start="library", goal="senior", day=LATER, wish="9 am", matters="not-before")
+    at.browser.press(BOOK)
+    at.browser.sees("The desk offers 10:")
+    trip = last_trip(at, 1006)
+    at.browser.reload()
+    at.browser.press(f"No, cancel trip {trip['trip']}")
+    at.browser.sees(f"Cancel trip {trip['trip']}?", "It does not count against you.")
+    at.browser.press("No, go back")
+    at.browser.sees(f"Trip {trip['trip']} stands as it is. Nothing is canceled.")
+    same("the trip", "booked", status_of(at, trip))
+    at.browser.press(f"No, cancel trip {trip['trip']}")
+    at.browser.press(f"Yes, cancel trip {trip['trip']}")
+    at.browser.sees("The offer was not taken, and is given up.")
+    same("the trip", "cancelled", status_of(at, trip))
+    until("it is told as the agency's", lambda: any("by=agency" in it for it in told_of(at, trip, "cancellations")))

@@ -248,11 +248,3 @@ class PlayedTown(Town):
         drivers = "".join(f"{rider},{name_of(rider)},\n" for rider in riders(of.riders))
         write_site_files(self.folder, {**agency_file(of), **changed}, roster_file(of), f"rider,name,note\n{drivers}")
         self.write_drivers_files()
-
-    def make_today(self):
-        words = [f"{ROOT}/deploy/today", f"{self.folder}/tally.log", f"{self.folder}/site/staff/today.json", "--agency", f"{self.folder}/site/agency.json", "--once"]
-        made = subprocess.run(words, env=clocked(self.desk.clock), capture_output=True, text=True)
-        if made.returncode or made.stderr:
-            raise Trouble(f"deploy/today: {made}")
-        with open(f"{self.folder}/site/staff/today.json", encoding="utf-8") as text:
-            return json.load(text)

@@ -77,7 +77,7 @@ def trips_are_cards_and_cancelled_ones_apart(at):
     at.town.post("clerk", f"/trips/{trip}/cancel", {})
     sign_in(at, 1006, "trips")
     show(at, 1006)
-    at.browser.sees("Pickup between", "1 cancelled")
+    at.browser.sees("Pickup between", "1 canceled")
     coming = at.browser.script("""return document.querySelector('ul[aria-label="Upcoming"]').innerText""")
     holds("the cancelled trip is not among those to come", f"Trip {trip}." not in coming)
 
@@ -138,7 +138,7 @@ def a_rider_cancels_and_is_told_there(at):
     show(at, 1005)
     at.browser.press(f"Cancel trip {trip} of rider 1005")
     at.browser.press(f"Yes, cancel trip {trip}")
-    at.browser.sees(f"Trip {trip} of rider 1005 is cancelled.")
+    at.browser.sees(f"Trip {trip} of rider 1005 is canceled.")
     same("the focus", f"answer-{trip}", at.browser.script("return document.activeElement.id"))
 
 

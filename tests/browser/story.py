@@ -194,11 +194,11 @@ def what_came_of_a_cancel_is_where_it_was_asked_and_has_the_focus(at):
     show(at, 1003)
     at.browser.press(f"Cancel trip {number} of Henry Park (1003)")
     at.browser.press(f"Yes, cancel trip {number}")
-    at.browser.sees(f"Trip {number} of Henry Park (1003) is cancelled.")
+    at.browser.sees(f"Trip {number} of Henry Park (1003) is canceled.")
     at.browser.settled()
     shown = at.browser.script("const it = document.activeElement, box = it.getBoundingClientRect(); "
                               "return [it.textContent, box.top >= 0 && box.top < innerHeight, it === document.body];")
-    holds(f"the focus is on {shown}", "is cancelled" in shown[0] and shown[1] and not shown[2])
+    holds(f"the focus is on {shown}", "is canceled" in shown[0] and shown[1] and not shown[2])
     same("the trip", "cancelled", [it["status"] for it in at.town.trips_of(1003) if it["trip"] == number][0])
 
 

@@ -100,6 +100,15 @@ class Town:
     def stop_desk(self):
         self.desk.stop()
 
+    def make_today(self):
+        """The file of the day, as its unit makes it now."""
+        words = [f"{ROOT}/deploy/today", f"{self.folder}/tally.log", f"{self.folder}/site/staff/today.json", "--agency", f"{self.folder}/site/agency.json", "--once"]
+        made = subprocess.run(words, env=clocked(self.desk.clock), capture_output=True, text=True)
+        if made.returncode or made.stderr:
+            raise Trouble(f"deploy/today: {made}")
+        with open(f"{self.folder}/site/staff/today.json", encoding="utf-8") as text:
+            return json.load(text)
+
     def copied(self):
         """A copy of the desk's file, as a backup makes it of the halted desk."""
         file, halted, copy = self.desk.file, f"{self.folder}/halted", f"{self.folder}/copy.db"

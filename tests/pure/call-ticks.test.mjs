@@ -12,9 +12,11 @@ test("the later tick counts, wherever it was made, and the own one where both ar
     for (const mine of times) {
         for (const told of times) {
             const shown = lastTick({ result: "called", at: mine }, { result: "not-reached", at: told });
-            assert.deepEqual([shown.result, shown.isElsewhere], told > mine ? ["not-reached", true] : ["called", false], `${mine} ${told}`);
+            assert.deepEqual([shown.result, shown.isElsewhere], told > mine || (told === mine && told) ? ["not-reached", true] : ["called", false], `${mine} ${told}`);
         }
     }
+    const one = { result: "called", at: times[1] };
+    assert.equal(lastTick(one, { ...one }).isElsewhere, false);
     assert.deepEqual(lastTick(null, { result: "called", at: "" }), { result: "called", at: "", isElsewhere: true });
     assert.equal(lastTick(null, null).result, "");
 });

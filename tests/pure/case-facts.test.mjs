@@ -5,7 +5,7 @@ import { appealable, appealedHere, entriesOfAppeals, suspensionOn, waits } from 
 
 const letter = (entry, decision, date, lines = {}) => ({ entry, decision, date, lines: new Map(Object.entries(lines)) });
 const SUSPENDED = letter(5, "suspended", "2025-03-12", { FROM: "2025-03-13", TO: "2025-03-20" });
-const list = (id, heads, rows) => ({ id, tables: [{ heads, values: rows }] });
+const list = (id, heads, rows) => ({ id, tables: [{ heads, rows }] });
 const APPEALS = list("appeals", ["Rider", "Name", "Against", "Filed on", "Heard on"], [["7", "Ana", "refuse (entry 2)", "2025-03-01", "not heard"], ["8", "Bo", "entry 1", "2025-03-01", "2025-03-04"]]);
 const APPLICATIONS = list("applications", ["Rider", "Name", "Complete on"], [["7", "Ana", "2025-02-17"]]);
 const known = (more) => ({ rider: 7, letters: [], entered: [], lists: [], ...more });

@@ -182,6 +182,9 @@ test("a trip of that day which is another ride is none in its place", async () =
     desk.riders.get(1).push(trip(40, 1, 900, { vehicle: 3, from: 2, to: 1 }));
     await plans.carryOut(plan, desk.ports);
     assert.equal(bookedOn(desk)[1], 2);
+    // (the way back of that hour is another ride, too)
+    const there = planOf(makeDesk(THREE)).items.find(({ old }) => old.trip === 10), back = trip(42, 1, 600, { vehicle: 3, from: there.old.to, to: there.old.from });
+    assert.equal(plans.anewOf(there, [{ ...back, window_from: there.old.window_from, window_to: there.old.window_to }], new Set()), null);
 });
 
 test("what somebody else cancelled is said so, with the trip that stands in its place", async () => {

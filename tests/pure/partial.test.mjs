@@ -39,7 +39,7 @@ test("what is left to do is the furthest step that anybody knows of, and nothing
     }
     assert.deepEqual(partsLeft([at("refused", 9), at("refused", 8)], []).map(({ rider }) => rider), [8, 9]);
     const heads = ["Rider", "Name", "Entry", "Refused on", "Next", "When"];
-    assert.deepEqual(partsListed([{ heads, values: [["7", "Ana", "1", "2025-03-10", "Take the new application", ""], ["8", "", "1", "2025-03-10", "Grant it with its conditions", ""], ["x", "", "1", "", "Wait", ""], []] }]),
+    assert.deepEqual(partsListed([{ heads, rows: [["7", "Ana", "1", "2025-03-10", "Take the new application", ""], ["8", "", "1", "2025-03-10", "Grant it with its conditions", ""], ["x", "", "1", "", "Wait", ""], []] }]),
         [at("refused"), at("applied", 8)]);
     for (const text of [null, "", "[]", "{}", '{"partial_grants": 7}', '{"partial_grants": [null, {"rider": "7"}]}']) assert.deepEqual(partsTold(text), []);
     assert.deepEqual(partsTold(JSON.stringify({ partial_grants: [at("applied")] })), [at("applied")]);

@@ -1,7 +1,7 @@
 // What came of each trip that was asked for, whatever happens to the page and the line.
 import assert from "node:assert/strict";
 import test from "node:test";
-import { afterAnswer, afterEnding, afterLeaving, afterLoading, afterPlanning, afterReading, afterSending, denialOfGone, riderOfChange, sinceOf, toBeRead } from "../../pages/parts/sent-list.js";
+import { afterAnswer, afterEnding, afterLeaving, afterLoading, afterPlanning, afterReading, afterSending, afterUnasked, denialOfGone, riderOfChange, sinceOf, toBeRead } from "../../pages/parts/sent-list.js";
 
 const wish = (day, from = 1, minute = 600) => ({ day, wish: minute, from, to: 9, by: null, attendant: false, companions: 0 });
 const asked = (day, from, minute, trip = null) => ({ rider: 7, trip, wish: wish(day, from, minute) });
@@ -116,4 +116,10 @@ test("what became since of a trip that was booked, offered or not cancelled come
 test("an answer is kept with its moment", () => {
     const at = { day: "2025-03-10", minute: 552 };
     assert.deepEqual(afterAnswer(afterSending([], asked("2025-03-11")), asked("2025-03-11"), ticket(1), true, at)[0].at, at);
+});
+
+test("a way back that is not sent is told where nobody sees the question", () => {
+    const both = afterPlanning([], { rider: 7, wanted: [wish("2025-03-11"), wish("2025-03-11", 9)].map(planned) });
+    assert.deepEqual(toBeRead(afterEnding(afterUnasked(both, 7, wish("2025-03-11", 9), true), 7)).map(({ state, wish: { from } }) => [state, from]), [["early", 9]]);
+    assert.deepEqual(toBeRead(afterEnding(afterUnasked(both, 7, wish("2025-03-11", 9), false), 7)), []);
 });

@@ -45,7 +45,7 @@ test("what is counted once is in the singular, and in the plural else", () => {
 /** A value of a sentence: a number that is a text too, so that each sentence can be made. */
 const valuesOf = (count) => new Proxy({}, { get: (_, name) => (/day|window|time|from|to$|rider|place|name|text|said|van|vehicle/i.test(String(name)) ? `x${count}x` : count) });
 /** What begins with a number of one and stands in the plural all the same. */
-const PLURAL = { en: /(?<![\d.,:$x])\b1 (?!is\b|stays\b|has\b|was\b|does\b|of\b|this\b|as\b)[a-z]+s\b/, es: /(?<![\d.,:$x])\b1 (?!es\b|más\b|las?\b|los?\b|tras\b|después\b)[a-záéíóúñ]+s(?![a-záéíóúñ])/ };
+const PLURAL = { en: /(?<![\d.,:$x])\b1 (?!is\b|stays\b|stands\b|has\b|was\b|does\b|of\b|this\b|as\b)[a-z]+s\b/, es: /(?<![\d.,:$x])\b1 (?!es\b|más\b|las?\b|los?\b|tras\b|después\b)[a-záéíóúñ]+s(?![a-záéíóúñ])/ };
 
 test("no sentence of the pages counts one in the plural", async () => {
     let made = 0;

@@ -3,7 +3,7 @@
 
 import assert from "node:assert/strict";
 import { test } from "node:test";
-import { apart, countedRule, guessedDrive, isAsSaid, isMadeUp, nextStep, otherRequests, requestsOf, searched } from "../../pages/parts/wishes.js";
+import { afterArrival, apart, arrivalAfter, arrivalBefore, countedRule, guessedDrive, isAsSaid, isMadeUp, nextStep, otherRequests, requestsOf, searched } from "../../pages/parts/wishes.js";
 
 const DAY = 1440, LAST = DAY - 1, HOUR = 60, HALF_WINDOW = 15, SLACK = 24, FIRST_BUS = 300, LEADS = [0, 15, 60];
 const FULL = "no vehicle", CLOSED = "37.131(e)";
@@ -60,8 +60,6 @@ function faultOf(said, desk, { step, answers }) {
         if (mode === "not-before" && (from < minute || from > minute + HOUR)) return "the promise begins before the minute, or more than an hour after it";
         if (pickup + desk.drive > (mode === "by" ? minute : by ?? LAST)) return "the rider is there too late";
         if (mode === "around" && desk.free === DAYS["all day"] && minute + HOUR - said.lead <= desk.last && minute >= FIRST_BUS && minute - said.lead > 15 && from < minute - said.lead) return "the van comes earlier than the lead";
-        const nearestAsked = Array.from({ length: 4 }, (_, at) => minute + HOUR - said.lead - at * 15).find((wish) => wish > minute && wish <= desk.last) ?? minute;
-        if (mode === "around" && desk.free === DAYS["all day"] && minute >= FIRST_BUS && minute <= desk.last && by === null && from < nearestAsked - HOUR) return "before the lines end, the van comes earlier than it has to";
         return "";
     }
     const reason = step.reason?.reply.denied;
@@ -207,4 +205,26 @@ test("how far a window is from a minute, and how long a drive is guessed", () =>
     assert.equal(apart({ window_from: 600, window_to: 630 }, 540), 60);
     assert.equal(guessedDrive(null, { x: 1, y: 1 }), 15);
     assert.equal(guessedDrive({ x: 0, y: 0 }, { x: 0, y: 0 }), 1);
+});
+
+test("a way back that would begin before the way there arrives is told when that is, and then begins after it", () => {
+    for (const mode of ["around", "not-before", "by"]) for (let minute = 0; minute < DAY; minute += 5) for (const from of [0, 300, 525, 900, 1380, 1425]) {
+        const back = { mode, minute, by: null, drive: 15, lead: 15, change: false }, there = { window_from: from, window_to: Math.min(LAST, from + 30) }, drive = 12;
+        const arrives = there.window_to + drive, begins = mode === "by" ? minute - 15 - 20 : minute, at = arrivalBefore(back, there, drive);
+        assert.equal(at !== null, begins < arrives && Math.ceil(arrives / 5) * 5 <= LAST, JSON.stringify([back, there]));
+        if (at === null) continue;
+        assert.ok(at >= arrives && at < arrives + 5 && at <= LAST);
+        const later = afterArrival(back, at);
+        assert.equal(arrivalBefore(later, there, drive), null);
+        assert.deepEqual([later.mode, later.minute, later.by], ["not-before", at, mode === "by" && minute > at ? minute : null]);
+    }
+});
+
+test("a way back that is promised before the way there has arrived is told, at each minute", () => {
+    for (let begins = 0; begins < DAY; begins += 1) for (const from of [0, 300, 525, 900, 1380, 1425]) for (const drive of [1, 15, 60]) {
+        const there = { window_from: from, window_to: Math.min(LAST, from + 30) }, arrives = there.window_to + drive;
+        const at = arrivalAfter({ window_from: begins, window_to: begins + 30 }, there, drive);
+        assert.equal(at !== null, begins < arrives);
+        if (at !== null) assert.ok(isMinute(at) && (at >= arrives || at === LAST) && at < arrives + 5);
+    }
 });

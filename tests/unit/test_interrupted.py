@@ -104,6 +104,24 @@ def test_the_watch_starts_it_again(tmp_path: pathlib.Path) -> None:
     assert not list(watching.troubles_of_interruption(None, "desk", wanted))
 
 
+def test_nobody_waits_for_a_desk_that_was_stopped(
+    tmp_path: pathlib.Path, monkeypatch: pytest.MonkeyPatch
+) -> None:
+    """The look that finds a killed script starts the desk, and does not first wait for an opening."""
+    (tmp_path / "watch.conf").write_text("SITE=none\n")
+    monkeypatch.setenv("URL", "http://127.0.0.1:1")
+    waited: list[float] = []
+    monkeypatch.setattr(watching, "answer_of", lambda desk, patience: waited.append(patience))
+    told = {"moment": 1e9, "uptime": 9.0, "units": {}, "backups": {}, "sizes": {}, "standby": {}}
+    said = {"what": "a restore", "starts_old": True}
+    found, wanted = watching.troubles(
+        {**told, "interrupted": {"desk": said}}, {}, str(tmp_path), 45
+    )
+    assert wanted == ["desk"] and any(it[1] == "killed" for it in found)
+    watching.troubles(told, {}, str(tmp_path), 45)
+    assert waited == [0, 45]
+
+
 @pytest.mark.parametrize(
     "text, is_well",
     [

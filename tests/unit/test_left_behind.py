@@ -92,7 +92,9 @@ def test_two_files(tmp_path: pathlib.Path) -> None:
     assert left_behind.compared(there, there) == ([], [])
     # What the second machine has alone is none of this.
     assert not [
-        it for it in left_behind.compared(here, there)[0] if "103" in it.said or "entered" in it.said
+        it
+        for it in left_behind.compared(here, there)[0]
+        if "103" in it.said or "entered" in it.said
     ]
     assert [it.rider for it in theft.in_order_of_pickup(found)] == [102, 102]
 

@@ -77,9 +77,10 @@ def test_a_skip_has_the_stop_that_was_skipped() -> None:
 
 
 def test_a_tap_that_was_taken_back_counts_no_more() -> None:
-    def undone(number: int, tap: int, vehicle: int = 109) -> bytes:
+    def undone(number: int, minute: int, vehicle: int = 109) -> bytes:
+        tapped = f"2026-12-07T09:{minute}:00"
         return line(
-            "undone", number, vehicle=vehicle, tap=f"{tap:026}", at="2026-12-07T09:17:00"
+            "undone", number, vehicle=vehicle, trip=154, tapped=tapped, at="2026-12-07T09:17:00"
         )
 
     seen = {"day": "2026-12-07", "from": 545, "to": 560, "wait": 5, "arrived": 552}
@@ -91,10 +92,10 @@ def test_a_tap_that_was_taken_back_counts_no_more() -> None:
     ]
     whole = made(*lines)
     assert len(whole["vehicles"]["109"]["taps"]) == 3 and whole["no_shows"]
-    told = made(undone(5, 3), *lines, undone(6, 4), undone(7, 2, vehicle=9))
+    told = made(undone(5, 16), *lines, undone(7, 15, vehicle=9))
     assert [it["kind"] for it in told["vehicles"]["109"]["taps"]] == ["arrived", "aboard"]
     assert (told["no_shows"], told["unreviewed"]["no_shows"]) == ([], [])
-    assert made(*lines, undone(8, 3), undone(9, 2), undone(10, 1))["vehicles"] == {}
+    assert made(*lines, undone(8, 16), undone(9, 15), undone(10, 12))["vehicles"] == {}
 
 
 def test_a_tap_that_comes_a_day_late_is_of_its_own_day() -> None:
@@ -321,6 +322,18 @@ def test_a_tap_that_comes_a_day_late_and_a_phone_with_the_wrong_date_are_named()
         (109, 9, "arrived", "2024-02-29T09:10:00"),
         (109, 154, "dropped", "2026-12-06T18:40:00"),
     ]
+
+
+def test_a_tap_of_the_minutes_before_midnight_is_no_sign_of_a_wrong_date() -> None:
+    def late(at: str) -> list[dict[str, Any]]:
+        tap = {"vehicle": 109, "trip": 154, "event": "dropped", "at": at}
+        found: list[dict[str, Any]] = made(line("stops", 1, "2026-12-07T00:00:24-05:00", **tap))[
+            "late"
+        ]
+        return found
+
+    assert late("2026-12-06T23:58:39") == []
+    assert len(late("2026-12-06T22:58:39")) == 1
 
 
 def test_two_phones_of_one_van_are_one_list_and_each_tap_counts_once() -> None:

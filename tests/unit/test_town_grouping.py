@@ -2,6 +2,7 @@
 
 import itertools
 import random
+from dataclasses import replace
 from pathlib import Path
 
 import pytest
@@ -10,7 +11,15 @@ from hypothesis import strategies as st
 
 np = pytest.importorskip("numpy")
 
-from desk_tools.town import addresses, drawing, gather, grouping, medoids, sheets  # noqa: E402
+from desk_tools.town import (
+    addresses,
+    conditional,
+    drawing,
+    gather,
+    grouping,
+    medoids,
+    sheets,
+)  # noqa: E402
 from desk_tools.town.addresses import Address  # noqa: E402
 from desk_tools.town.corridor import Line, feet_from_line, is_served_alike, lines_at  # noqa: E402
 from desk_tools.town.gather import Town  # noqa: E402
@@ -211,3 +220,94 @@ def test_grouping_of_many_cells() -> None:
     found = grouping.grouped_at(wanted, CROSS, quiet)
     assert len(found.of) == 5_000 and len(found.places) == 8
     assert grouping.is_allowed(points.masks, found.places.masks[found.of]).all()
+
+
+# Riders whose grant holds of some trips alone.
+
+
+@given(LINES, POINT, POINT, st.integers(1, 20_000))
+def test_a_line_denies_where_the_grant_holds_at_the_home_alone(
+    lines: list[Line], home: tuple[int, int], place: tuple[int, int], feet: int
+) -> None:
+    """By the rules' own words, line by line."""
+    more = lines_at(place, False, lines) & ~lines_at(home, False, lines)
+    found = conditional.line_that_denies(home, place, ["nolift"], lines)
+    assert (found is not None) == bool(more)
+    is_farther = [feet_from_line(it, one.points) > feet for one in lines for it in (home, place)]
+    denied = any(here and not there for here, there in zip(is_farther[::2], is_farther[1::2]))
+    found = conditional.line_that_denies(home, place, [f"farther:{feet}"], lines)
+    assert (found is not None) == denied
+    assert conditional.line_that_denies(home, home, ["nolift", f"farther:{feet}"], lines) is None
+
+
+@pytest.mark.parametrize(
+    "text, is_so",
+    [("always; nolift", False), ("months:1,2", False), ("NoLift", True), ("farther:5280", True)],
+)
+def test_for_which_grants_the_place_matters(text: str, is_so: bool) -> None:
+    assert conditional.matters(conditional.conditions_in(text)) == is_so
+
+
+@pytest.mark.parametrize("most", [12, 30])
+def test_no_home_is_put_where_its_grant_holds_less(most: int) -> None:
+    """Each such home is at a place that fits, by a place of its own where no other one does."""
+    rows = [replace(it, point=it.point) for it in scattered(120, 7, 5_000)]
+    riders = [rider for it in rows for rider in it.riders]
+    grants = {it: (("nolift",) if it % 8 else ("farther:3000", "nolift")) for it in riders[:12]}
+    known = Town([], CROSS, None, most=most, grants=grants)
+    before = gather.gathered(town([], CROSS, most), rows, quiet)
+    found = gather.gathered(known, rows, quiet)
+    assert denied_in(before, grants), "the trial shows nothing"
+    assert not denied_in(found, grants)
+    refused = [it for it in found.refused if "put a place there" in it.reason]
+    assert len(found.places) <= most
+    assert len(found.addresses) + len(refused) == len(before.addresses)
+    for it in found.addresses:
+        mask = lines_at(it.point or (0, 0), False, CROSS)
+        assert is_served_alike(mask, lines_at(found.places[it.place or 0].point, False, CROSS))
+    told = "\n".join(gather.told(known, found))
+    assert f"{found.alone} of them have places of their own" in told
+
+
+def denied_in(found: gather.Gathered, grants: dict[int, tuple[str, ...]]) -> list[int]:
+    """The homes at a place where a grant holds less than at the home."""
+    return [
+        it.number
+        for it in found.addresses
+        for rider in it.riders
+        if rider in grants
+        and it.point
+        and conditional.line_that_denies(
+            it.point, found.places[it.place or 0].point, grants[rider], CROSS
+        )
+    ]
+
+
+def test_a_place_of_its_own_is_private() -> None:
+    """Nobody else reads where such a home is, and no other address is there."""
+    grants = {it: (("nolift",) if it % 8 else ("farther:3000", "nolift")) for it in range(4, 49, 4)}
+    known = Town([], CROSS, None, most=12, grants=grants)
+    found = gather.gathered(known, scattered(120, 7, 5_000), quiet)
+    homes = {it.point: it for it in found.addresses if it.riders}
+    own = [it for it in found.places.values() if it.point in homes]
+    assert found.alone == len(own) > 0
+    for place in own:
+        assert place.private == homes[place.point].riders
+        assert [it.number for it in found.addresses if it.place == place.number] == [
+            homes[place.point].number
+        ]
+
+
+def test_more_such_homes_than_places_are_refused_by_their_rows() -> None:
+    grants = {it: ("farther:100", "nolift") for it in range(4, 400, 4)}
+    known = Town([], CROSS, None, most=4, grants=grants)
+    rows = scattered(400, 7, 5_000)
+    found = gather.gathered(known, rows, quiet)
+    named = {
+        it.number
+        for it in found.refused
+        if "does the grant (farther:100; nolift) hold" in it.reason
+    }
+    kept = {it.row for it in found.addresses}
+    assert named and not named & kept and not denied_in(found, grants)
+    assert len(found.places) <= 4 and found.alone <= 2

@@ -129,7 +129,7 @@ def moved_in(text: bytes, tmp_path: Path, known: list[Address]) -> people.Cut:
     path = tmp_path / "people.csv"
     path.write_bytes(text)
 
-    def nowhere(address: Address) -> Address:
+    def nowhere(address: Address, _: tuple[str, ...]) -> Address:
         raise NoPlace(f"{address.street} lies outside every corridor")
 
     return people.cut(path, None, known, nowhere)

@@ -9,9 +9,9 @@ import pytest
 TOP = Path(__file__).resolve().parents[2]
 sys.path[:0] = [str(TOP / "tests"), str(TOP / "tests/browser")]
 
-from walk_parts import cases, speech  # pylint: disable=wrong-import-position
+from walk_parts import asked, cases, speech  # pylint: disable=wrong-import-position
 from walk_parts.ledger import Ledger, Permit, Write
-from walk_parts.recorder import Recorder
+from walk_parts.recorder import Exchange, Recorder
 from walk_parts.words import Words, read_words
 
 KEY, OTHER = "a" * 26, "b" * 26
@@ -152,6 +152,16 @@ def test_a_window_in_a_sentence_has_its_article() -> None:
     assert "12:48 y las 1:18 p. m." not in speech.in_words(speech.window(768, 798, halves))
     assert "11:45 y las 11:59 p. m." in speech.in_words(speech.window(1425, 1439, halves))
     assert "10:00 AM and 1:00 PM" in speech.in_words(speech.window(600, 780))
+
+
+def test_a_form_that_was_left_says_so_or_goes_on() -> None:
+    permit = Permit("book", KEY, 3, rider=7, armed=True)
+    read = Exchange("GET", "/riders/7/trips", KEY, 1, {}, 200, {"trips": []}, "", 5.0)
+    write = Exchange("POST", "/trips", KEY, 2, {"rider": 7}, 200, {"trip": 1}, "", 6.0)
+    assert asked.left_unsaid(permit, [read, write], []) is None
+    assert asked.left_unsaid(permit, [read], ["Not sent for rider 7: you left."]) is None
+    fault = asked.left_unsaid(permit, [read], [])
+    assert fault is not None and "its part left" in fault[1]
 
 
 PAGE = """<main><section id=first><h2>First</h2><table><thead><tr><th>Rider</th></tr></thead><tbody>

@@ -19,7 +19,7 @@ TOP = Path(__file__).resolve().parents[2]
 SCHEMA = (TOP / "crates/pt_tables_rows/src/schema.rt").read_text(encoding="utf-8")
 FORMATS = (TOP / "docs/FORMATS.md").read_text(encoding="utf-8")
 DAY = 20_454  # 2026-01-01
-DIGEST = b"\xabdigest of a key\xcd" * 2
+DIGEST = b"\xabsixteen signs..\xcd" * 2
 
 
 def statements() -> list[str]:
@@ -129,7 +129,7 @@ def test_what_is_written(tmp_path: Path) -> None:
 def test_no_key_is_written(tmp_path: Path) -> None:
     written(made(tmp_path / "desk.db"), tmp_path / "out")
     text = b"".join(it.read_bytes() for it in (tmp_path / "out").iterdir())
-    assert b"secret" not in text and b"digest of a key" not in text
+    assert b"secret" not in text and b"sixteen signs.." not in text
     assert DIGEST.hex().encode() not in text.lower()
     assert (tmp_path / "out").stat().st_mode & 0o777 == 0o700
     assert {it.stat().st_mode & 0o777 for it in (tmp_path / "out").iterdir()} == {0o600}

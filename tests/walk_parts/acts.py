@@ -29,7 +29,7 @@ class Act:
 Task = Iterator[Act]
 PLACES_TYPED = 4
 # Seconds in which a form says what is wrong in its fields; and how often somebody is gone before the desk has answered.
-SENT, LEAVES = 0.15, 0.06
+SENT, LEAVES = 0.15, 0.12
 OPEN = "return Boolean(document.querySelector('dialog[open]'))"
 
 

@@ -12,7 +12,7 @@ if TYPE_CHECKING:
     from walk_parts.walker import Walker
 
 AGE = "what is shown has an age"
-# Lists of what waits that a reader has from the site's log in place of the night's list.
+# Lists of what waits that a screen has from the site's log in place of the night's list.
 LIVE = {"clerk": {"offers", "in-part"}, "dispatcher": {"offers"}, "examiner": {"in-part"}, "officer": set[str]()}
 PATIENCE = 10.0
 
@@ -31,8 +31,9 @@ def faults(walker: "Walker", given: dict[str, Any] | None) -> Iterator[tuple[str
         if it["letters"] or it["says"] == texts["cases.letters-none"]:
             yield from told(walker, AGE, cases.fault_of_letters(it, town.letters(rider), appealed(walker, rider), town.today, walker.words, language))
     yield from said_as_done(walker, case["done"])
-    if walker.look.address.endswith("/waits") and walker.here.role in LIVE and (rows := walker.browser.script(cases.ROWS)):
-        found = [cases.fault_of_lists(rows, text, LIVE[walker.here.role]) for text in town.worklists[-2:]]
+    reader, _, part = walker.look.address.lstrip("#").partition("/")
+    if part == "waits" and reader in LIVE and walker.here.role in LIVE and (rows := walker.browser.script(cases.ROWS)):
+        found = [cases.fault_of_lists(rows, text, LIVE[reader]) for text in town.worklists[-2:]]
         yield from told(walker, AGE, None if None in found else found[-1])
 
 

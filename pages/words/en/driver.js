@@ -56,7 +56,7 @@ export const words = {
     "driver.done-here": "Done here",
     "driver.start-here": "This is my next stop",
     "driver.start-question": "Go on from this stop?",
-    "driver.start-detail": ({ count }) => `${many(count, "earlier stop counts", "earlier stops count")} as passed, on this phone alone. Riders aboard stay in the list.`,
+    "driver.start-detail": ({ count }) => `${many(count, "earlier stop counts", "earlier stops count")} as passed. Riders aboard stay in the list.`,
     "driver.start-yes": "Yes: go on from here",
     "driver.arrived-at": ({ time }) => `Arrived at ${time}.`,
     "driver.wait-starts": ({ time, minutes }) => `Your ${minutes}-minute wait starts at ${time}, when the pickup window opens.`,

@@ -111,6 +111,7 @@ export const words = {
     "booking.result-of-change you": ({ booked, trip, open }) => (open ? "El sistema le ofrece otra hora." : booked ? `Su viaje ${trip} quedó cambiado.` : `Su viaje ${trip} no se cambió.`),
     "booking.offer-after": ({ offer, minutes, time }) => `El sistema ofrece las ${offer}, ${minutes} ${minutes === 1 ? "minuto" : "minutos"} después de las ${time}`,
     "booking.offer-before": ({ offer, minutes, time }) => `El sistema ofrece las ${offer}, ${minutes} ${minutes === 1 ? "minuto" : "minutos"} antes de las ${time}`,
+    "booking.offer-back-early": ({ offer, time }) => `El regreso empieza a las ${offer}, y la ida puede llegar hasta las ${time}`,
     "booking.offer-trip": ({ trip, day, window, from, to, said }) => `Viaje ${trip}: ${day}, recogida ${window}, desde ${from} hasta ${to}. Se pidió: ${said}.`,
     "booking.offer-asks": "Se conserva solo si el pasajero dice que sí. Si dice que no, lo cancela la agencia y no cuenta contra el pasajero.",
     "booking.offer-asks you": "Se conserva solo si usted dice que sí. Si dice que no, lo cancela la agencia y no cuenta en su contra.",

@@ -56,7 +56,7 @@ export const words = {
     "driver.done-here": "Listo aquí",
     "driver.start-here": "Esta es mi próxima parada",
     "driver.start-question": "¿Seguir desde esta parada?",
-    "driver.start-detail": ({ count }) => `${many(count, "parada anterior cuenta", "paradas anteriores cuentan")} como pasada, solo en este teléfono. Quienes están a bordo siguen en la lista.`,
+    "driver.start-detail": ({ count }) => `${many(count, "parada anterior cuenta", "paradas anteriores cuentan")} como pasada. Quienes están a bordo siguen en la lista.`,
     "driver.start-yes": "Sí: seguir desde aquí",
     "driver.arrived-at": ({ time }) => `Llegada a las ${time}.`,
     "driver.wait-starts": ({ time, minutes }) => `Su espera de ${minutes} minutos empieza a las ${time}, cuando se abre la ventana de recogida.`,

@@ -39,6 +39,7 @@ from desk_tools.booted import (
     packages,
     removing,
     repository,
+    restoring,
     roots,
     setting_up,
     setups,
@@ -61,6 +62,7 @@ SLOW: dict[str, Callable[[Town], None]] = {
     "acme": acme.check,
     "repository": repository.check,
     "follow_ups": follow_ups.check,
+    "restoring": restoring.check,
 }
 # And these by --all once all else was tried: the desk is gone then.
 LAST: dict[str, Callable[[Town], None]] = {"removing": removing.check}

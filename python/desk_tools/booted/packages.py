@@ -15,6 +15,14 @@ case "${1:-}" in
 *) echo "fault 31 row 7" >&2; exit 4 ;;
 esac
 """
+# One that opens the file, by the program of before, and ends as soon as it is to serve.
+ENDING = """#!/bin/sh
+case "${1:-}" in
+--version) echo "desk 0.99.5" ;;
+serve) echo "fault 32" >&2; exit 4 ;;
+*) exec /var/lib/desk-upgrade/desk "$@" ;;
+esac
+"""
 
 
 def made(program: Path, folder: Path) -> Path:

@@ -4,7 +4,7 @@ from __future__ import annotations
 
 from pathlib import Path
 
-from desk_tools.booted import documents, office, writers
+from desk_tools.booted import documents, office, restoring, writers
 from desk_tools.booted.machines import Machine
 from desk_tools.booted.town import Town
 from desk_tools.booted.writers import Writers
@@ -117,6 +117,20 @@ def change(town: Town, old: Machine, new: Machine, text: str, clients: Writers) 
     clients.begun = at_new.begun
 
 
+def check_silent(town: Town, first: Machine, second: Machine, text: str) -> None:
+    """The second machine starts the desk, which ends at once: the first serves again, and the command says so."""
+    checks = town.checks
+    second.run(restoring.ENDING)
+    told = documents.play(second, text, check=False)
+    second.run(restoring.WELL)
+    checks.equal("a desk that ends on the second: the status", 1, told.status)
+    for wanted in "was started and ended again and again", "root@first.example.org serves again":
+        checks.has("a desk that ends on the second", wanted, told.output)
+    checks.holds("the first answers", office.answers(first))
+    checks.equal("its site", 200, office.ask(first, "/agency.json").status)
+    checks.holds("the second does not", not office.answers(second, 0))
+
+
 def check(town: Town, first: Machine, second: Machine) -> None:
     """The second machine is set up, and the desk goes there and back, by the commands of the document."""
     office.make_backup(first)
@@ -124,6 +138,7 @@ def check(town: Town, first: Machine, second: Machine) -> None:
     writers.let_in(town)
     clients = Writers(second, "")
     opening = documents.block(second, BACKUPS, SECOND, "standby open")
+    check_silent(town, first, second, opening)
     change(town, first, second, opening, clients)
     set_up_way_back(town, first, second)
     back = {"root@first.example.org": "root@second.example.org"}

@@ -136,9 +136,18 @@ def give_times(town: Town, day: date) -> None:
 
 
 def check(town: Town) -> None:
-    """The theft, and what the document's command says of it."""
-    machine, checks, day = town.machine, town.checks, today(town.machine)
-    backup = f"/var/backups/desk/{copies(machine)[0].name}"
+    """Both thefts, and what the document's command says of each."""
+    day = today(town.machine)
+    backup = f"/var/backups/desk/{copies(town.machine)[0].name}"
+    check_rider(town, day, backup)
+    check_driver(town, day, backup)
+    # (the command's own writes as the admin have the time for their numbers)
+    town.number = int(time.time()) + 1_000
+
+
+def check_rider(town: Town, day: date, backup: str) -> None:
+    """A rider's key is stolen, and the thief writes."""
+    machine, checks = town.machine, town.checks
     moved = trip(day + timedelta(days=6), 1100)
     del moved["rider"]
     for number, path, body in [
@@ -174,6 +183,11 @@ def check(town: Town) -> None:
     )
     new = machine.run("cat /root/keys/riders-key", check=False).output.strip()
     checks.equal("the new key", 200, office.ask(machine, f"/riders/{RIDER}/trips", key=new).status)
+
+
+def check_driver(town: Town, day: date, backup: str) -> None:
+    """A driver's key is stolen."""
+    machine, checks = town.machine, town.checks
     text = documents.block(machine, RUNNING, KEYS, "--vehicle VEHICLE")
     text = documents.filled(
         text,
@@ -193,5 +207,3 @@ def check(town: Town) -> None:
         401,
         office.ask(machine, "/days/2026-01-01/sheet", key=WHEEL).status,
     )
-    # (the command's own writes as the admin have the time for their numbers)
-    town.number = int(time.time()) + 1_000

@@ -16,6 +16,9 @@ def check(town: Town) -> None:
         refusing = packages.other(town.package, "0.99.0", packages.REFUSING)
         office.bring(town.machine, refusing, refusing.name)
         check_refusal(town, f"/root/{refusing.name}")
+        ending = packages.other(town.package, "0.99.5", packages.ENDING)
+        office.bring(town.machine, ending, ending.name)
+        check_end(town, f"/root/{ending.name}")
 
 
 def check_without_room(town: Town, package: str) -> None:
@@ -98,3 +101,17 @@ def check_refusal(town: Town, package: str) -> None:
     checks.holds("the desk answers then", office.answers(machine))
     started = machine.run("systemctl show -P ExecStart desk").output
     checks.has("by the installed program", "path=/usr/bin/desk ", started)
+
+
+def check_end(town: Town, package: str) -> None:
+    """A program that opens the file and ends as it is to serve: the file and the program of before serve."""
+    checks, machine = town.checks, town.machine
+    ran = office.install(machine, package, check=False)
+    checks.holds("an upgrade after which the desk ends, ends", not ran.is_well)
+    checks.has("it says that the desk ended", "was started and ended again and again", ran.output)
+    checks.has("and who serves", "The desk goes on by the program of before", ran.output)
+    checks.holds("the desk answers by the program of before", office.answers(machine))
+    reply = office.ask(machine, "/days/2026-01-01/sheet", key=town.admin)
+    checks.equal("by its own keys", 403, reply.status)
+    machine.run("cd /root && apt-get install --allow-downgrades ./desk_0.98.0_amd64.deb -y -q")
+    checks.holds("the earlier package goes back", office.answers(machine))

@@ -244,19 +244,7 @@ def add_questions(parsers: "argparse._SubParsersAction[argparse.ArgumentParser]"
         action="store_true",
         help="without files, sheets and manifests of several riders",
     )
-    question(
-        parsers,
-        "caller",
-        "what a caller did",
-        lambda words, asked: questions.of_caller(asked, words.number),
-        "CALLER",
-    )
-    question(
-        parsers,
-        "keys",
-        "who changed keys, and which were borrowed",
-        lambda words, asked: questions.of_keys(asked),
-    )
+    add_questions_of_callers(parsers)
     question(
         parsers,
         "standing",
@@ -273,8 +261,37 @@ def add_questions(parsers: "argparse._SubParsersAction[argparse.ArgumentParser]"
     )
 
 
+def add_questions_of_callers(
+    parsers: "argparse._SubParsersAction[argparse.ArgumentParser]",
+) -> None:
+    """The parsers of the questions about callers and their keys."""
+    question(
+        parsers,
+        "caller",
+        "what a caller did",
+        lambda words, asked: questions.of_caller(asked, words.number),
+        "CALLER",
+    )
+    question(
+        parsers,
+        "keys",
+        "who changed keys, and which were borrowed",
+        lambda words, asked: questions.of_keys(asked),
+    )
+
+
 def add_tasks(parsers: "argparse._SubParsersAction[argparse.ArgumentParser]") -> None:
     """The parsers of what keeps and checks the record."""
+    add_take(parsers)
+    add_verify(parsers)
+    add_check(parsers)
+    add_beginning(parsers)
+    add_travel(parsers)
+    add_keeping(parsers)
+
+
+def add_take(parsers: "argparse._SubParsersAction[argparse.ArgumentParser]") -> None:
+    """The parser of `take`."""
     one = parsers.add_parser(
         "take", help="takes what the site wrote into the record; the unit's work"
     )
@@ -292,6 +309,10 @@ def add_tasks(parsers: "argparse._SubParsersAction[argparse.ArgumentParser]") ->
         default=CORRECTIONS,
         help=f"the corrected outcomes ({CORRECTIONS})",
     )
+
+
+def add_verify(parsers: "argparse._SubParsersAction[argparse.ArgumentParser]") -> None:
+    """The parser of `verify`."""
     one = parsers.add_parser(
         "verify", help="says whether the record holds, or the first line that does not"
     )
@@ -305,6 +326,10 @@ def add_tasks(parsers: "argparse._SubParsersAction[argparse.ArgumentParser]") ->
     one.add_argument(
         "--today", type=day, metavar="DAY", help="the day up to which the record has to go"
     )
+
+
+def add_check(parsers: "argparse._SubParsersAction[argparse.ArgumentParser]") -> None:
+    """The parser of `check`."""
     one = parsers.add_parser(
         "check", help="replays the writes between two copies, and names rows that no line explains"
     )
@@ -332,6 +357,10 @@ def add_tasks(parsers: "argparse._SubParsersAction[argparse.ArgumentParser]") ->
         metavar="FOLDER",
         help="a copy of the record's folder of another machine that served the agency meanwhile",
     )
+
+
+def add_beginning(parsers: "argparse._SubParsersAction[argparse.ArgumentParser]") -> None:
+    """The parsers of what a record begins with: `callers` and `begin`."""
     one = parsers.add_parser(
         "callers", help="adds the callers of a copy, whose keys are older than the record"
     )
@@ -343,7 +372,10 @@ def add_tasks(parsers: "argparse._SubParsersAction[argparse.ArgumentParser]") ->
     one.set_defaults(do=begin)
     one.add_argument("--key", type=Path, default=KEY)
     one.add_argument("--public", type=Path, default=PUBLIC)
-    add_travel(parsers)
+
+
+def add_keeping(parsers: "argparse._SubParsersAction[argparse.ArgumentParser]") -> None:
+    """The parsers of what goes on day by day: `serve` and `keep`."""
     one = parsers.add_parser(
         "serve", help="answers the page Record, to the site by a socket; the unit's work"
     )

@@ -44,9 +44,7 @@ def advice_of(event: Event) -> str:
         fields = event.line.fields
         number, subject = fields.get("id"), fields.get("subject")
         if isinstance(number, int) and text_of(fields, "role"):
-            who = Caller(
-                text_of(fields, "role"), subject if isinstance(subject, int) else 0, b""
-            )
+            who = Caller(text_of(fields, "role"), subject if isinstance(subject, int) else 0, b"")
             return f"whoever has that key goes on: give another one, {keys_of_then.command_for(number, who)} ..."
         return "whoever has that key goes on: look at the callers, and give another key"
     if event.kind == "trip" and event.line.path.endswith("/outcome"):
@@ -64,9 +62,7 @@ def finding_of(asked: Asked, event: Event, trips: Mapping[int, Trip]) -> Finding
     return Finding(said, advice_of(event), event.rider, pickup)
 
 
-def deeds_of(
-    asked: Asked, caller: int, since: datetime | None, trips: Mapping[int, Trip]
-) -> Deeds:
+def deeds_of(asked: Asked, caller: int, since: datetime | None, trips: Mapping[int, Trip]) -> Deeds:
     """What any key of the caller did from a moment on."""
     reader, history = reading.Reader(asked.places, checks=True), History(asked.people)
     digits = [it.encode() for it in asked.people.all_digits(caller)]

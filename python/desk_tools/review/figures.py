@@ -4,6 +4,7 @@ from collections.abc import Callable, Sequence
 from dataclasses import dataclass
 
 from desk_tools.review.month import (
+    Denial,
     BUS,
     CANCELED,
     CAPACITY,
@@ -83,52 +84,64 @@ def _asked(month: Month) -> Group:
     return Group(
         "Requests and denials",
         [
-            _of_log(
-                month,
-                "requests",
-                asked,
-                "Trips that were booked, canceled ones too, and trips that were denied.",
-            ),
-            Figure("booked", len(month.trips), "Trips that were booked, canceled ones too."),
-            _of_log(
-                month,
-                "requested time on record",
-                _count(month, lambda it: it.requested is not None),
-                "Booked trips of which the site's log has the time that the rider named.",
-            ),
-            _of_log(
-                month,
-                "promised more than an hour from the request",
-                sum(abs(it) > HOUR for it in known),
-                "Booked trips whose promised window begins more than 60 minutes before or after the time that was named. "
-                "Trips to be there by a time are not among them.",
-            ),
-            _of_log(
-                month,
-                "denied",
-                len(month.denials),
-                "Denials by any rule; the table below has each rule and channel.",
-            ),
-            _of_log(
-                month,
-                "denied for lack of capacity",
-                len(capacity),
-                "Denials by the rule no vehicle (37.131(f)), lost ways back included.",
-            ),
-            _of_log(
-                month,
-                "ways back lost",
-                sum(it.leg == LOST for it in capacity),
-                "Ways back that were not asked for, because the way there was denied for lack of capacity.",
-            ),
-            _of_log(
-                month,
-                "denied for lack of capacity, percent",
-                None if asked is None else percent(len(capacity), asked),
-                "Of the requests.",
-            ),
+            *_booked(month, asked, known),
+            *_denied(month, asked, capacity),
         ],
     )
+
+
+def _booked(month: Month, asked: int | None, known: list[int]) -> list[Figure]:
+    return [
+        _of_log(
+            month,
+            "requests",
+            asked,
+            "Trips that were booked, canceled ones too, and trips that were denied.",
+        ),
+        Figure("booked", len(month.trips), "Trips that were booked, canceled ones too."),
+        _of_log(
+            month,
+            "requested time on record",
+            _count(month, lambda it: it.requested is not None),
+            "Booked trips of which the site's log has the time that the rider named.",
+        ),
+        _of_log(
+            month,
+            "promised more than an hour from the request",
+            sum(abs(it) > HOUR for it in known),
+            "Booked trips whose promised window begins more than 60 minutes before or after the time that was named. "
+            "Trips to be there by a time are not among them.",
+        ),
+    ]
+
+
+def _denied(month: Month, asked: int | None, capacity: list[Denial]) -> list[Figure]:
+    return [
+        _of_log(
+            month,
+            "denied",
+            len(month.denials),
+            "Denials by any rule; the table below has each rule and channel.",
+        ),
+        _of_log(
+            month,
+            "denied for lack of capacity",
+            len(capacity),
+            "Denials by the rule no vehicle (37.131(f)), lost ways back included.",
+        ),
+        _of_log(
+            month,
+            "ways back lost",
+            sum(it.leg == LOST for it in capacity),
+            "Ways back that were not asked for, because the way there was denied for lack of capacity.",
+        ),
+        _of_log(
+            month,
+            "denied for lack of capacity, percent",
+            None if asked is None else percent(len(capacity), asked),
+            "Of the requests.",
+        ),
+    ]
 
 
 def _pickups(month: Month) -> Group:
@@ -235,53 +248,71 @@ def _rides(month: Month) -> Group:
     return Group(
         "Rides",
         [
-            _of_log(
-                month,
-                "rides with both ends known",
-                len(driven),
-                "Trips ridden for which a driver tapped when the rider was aboard and was dropped off. Others go by the "
-                "manifest's minutes.",
-            ),
-            _of_log(
-                month,
-                "minutes aboard, mean",
-                mean(driven),
-                "From aboard to the drop-off, of the rides with both ends known.",
-            ),
-            Figure(
-                "rides compared with fixed route",
-                len(by_bus) if month.has_feed else None,
-                "Rides that a bus of the timetable serves on that day, with its walks, waits between buses and changes.",
-            ),
-            Figure(
-                "longer than by fixed route",
-                sum(it > 0 for it in by_bus) if month.has_feed else None,
-                "Of these, rides that took longer.",
-            ),
-            Figure(
-                f"more than {MUCH_LONGER} minutes longer than by fixed route",
-                sum(it > MUCH_LONGER for it in by_bus) if month.has_feed else None,
-                "Of these.",
-            ),
-            Figure(
-                "rides compared with the direct drive",
-                len(direct),
-                "The others: no timetable tells how long a bus takes, so the direct drive stands in its place.",
-            ),
-            Figure(
-                "minutes longer than the direct drive, mean",
-                mean(direct),
-                "Of these. A ride that is shared takes longer than the direct drive.",
-            ),
-            Figure(
-                "trip length in miles, mean",
-                mean([it.miles for it in ridden]),
-                "Straight from place to place, of trips ridden. Nobody measures the miles that are driven.",
-            ),
-            Figure(
-                "direct drive in minutes, mean",
-                mean([it.drive for it in ridden if it.drive is not None]),
-                "By the agency's driving times, of trips ridden.",
-            ),
+            *_aboard(month, driven),
+            *_against_buses(month, by_bus),
+            *_against_drives(ridden, direct),
         ],
     )
+
+
+def _aboard(month: Month, driven: list[float]) -> list[Figure]:
+    return [
+        _of_log(
+            month,
+            "rides with both ends known",
+            len(driven),
+            "Trips ridden for which a driver tapped when the rider was aboard and was dropped off. Others go by the "
+            "manifest's minutes.",
+        ),
+        _of_log(
+            month,
+            "minutes aboard, mean",
+            mean(driven),
+            "From aboard to the drop-off, of the rides with both ends known.",
+        ),
+    ]
+
+
+def _against_buses(month: Month, by_bus: list[float]) -> list[Figure]:
+    return [
+        Figure(
+            "rides compared with fixed route",
+            len(by_bus) if month.has_feed else None,
+            "Rides that a bus of the timetable serves on that day, with its walks, waits between buses and changes.",
+        ),
+        Figure(
+            "longer than by fixed route",
+            sum(it > 0 for it in by_bus) if month.has_feed else None,
+            "Of these, rides that took longer.",
+        ),
+        Figure(
+            f"more than {MUCH_LONGER} minutes longer than by fixed route",
+            sum(it > MUCH_LONGER for it in by_bus) if month.has_feed else None,
+            "Of these.",
+        ),
+    ]
+
+
+def _against_drives(ridden: list[Trip], direct: list[float]) -> list[Figure]:
+    return [
+        Figure(
+            "rides compared with the direct drive",
+            len(direct),
+            "The others: no timetable tells how long a bus takes, so the direct drive stands in its place.",
+        ),
+        Figure(
+            "minutes longer than the direct drive, mean",
+            mean(direct),
+            "Of these. A ride that is shared takes longer than the direct drive.",
+        ),
+        Figure(
+            "trip length in miles, mean",
+            mean([it.miles for it in ridden]),
+            "Straight from place to place, of trips ridden. Nobody measures the miles that are driven.",
+        ),
+        Figure(
+            "direct drive in minutes, mean",
+            mean([it.drive for it in ridden if it.drive is not None]),
+            "By the agency's driving times, of trips ridden.",
+        ),
+    ]

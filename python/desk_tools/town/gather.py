@@ -8,18 +8,21 @@ import csv
 import io
 from collections import Counter
 from collections.abc import Sequence
-from dataclasses import dataclass, replace
+from dataclasses import dataclass, field, replace
 
 import numpy as np
 
-from desk_tools.town import grouping
+from desk_tools.town import conditional, grouping
 from desk_tools.town.addresses import Address, Plane
 from desk_tools.town.corridor import Line, Point, is_served_alike, lines_at, nearest
 from desk_tools.town.grouping import Grouped, Wanted
+from desk_tools.town.joining import is_open_to
 from desk_tools.town.medoids import Points, Show, TooFewPlaces
 from desk_tools.town.places import Place, feet_between, riders_of
 from desk_tools.town.sheets import Refusal, Unreadable
 
+# So many times it is grouped, where homes turn out to need places of their own.
+MOST_ROUNDS = 3
 MOST_PLACES, FEET_A_MINUTE = 100, 88  # (feet a minute at one mile an hour)
 WORST = 20
 NO_POINT = "it has no position: latitude and longitude, or x and y"
@@ -37,6 +40,7 @@ class Town:
     detour: float = 1.4
     is_outside_served: bool = False
     most: int = MOST_PLACES
+    grants: conditional.Grants = field(default_factory=dict)
 
     @property
     def minutes_a_foot(self) -> float:
@@ -53,21 +57,97 @@ class Gathered:
     feet: list[float]
     refused: list[Refusal]
     outside: int = 0
+    alone: int = 0
 
 
 def gathered(town: Town, addresses: Sequence[Address], show: Show) -> Gathered:
-    """The addresses, each at a place."""
+    """The addresses, each at a place. A home whose rider's grant no place fits gets a place of its own.
+
+    Half of the free places at most are such; further homes of that kind are refused by their rows.
+    """
     if not town.lines:
         raise Unreadable("agency.json has no fixed routes: run move-in routes first")
-    refused: list[Refusal] = []
-    found = Gathered([], {it.number: it for it in town.places}, [], refused)
+    alone: set[int] = set()
+    room = max(0, town.most - len(town.places)) // 2
+    for at in range(1, MOST_ROUNDS + 1):
+        found = gathered_once(town, addresses, alone, show)
+        denied = homes_denied(town, found)
+        more = sorted(denied)[: room - len(alone)]
+        if not more or at == MOST_ROUNDS:
+            break
+        alone |= set(more)
+    refuse_homes(town, found, denied)
+    return found
+
+
+def refuse_homes(town: Town, found: Gathered, denied: set[int]) -> None:
+    """Refuses the homes of these rows, since a grant would hold there less than at the home."""
+    kept = [at for at, it in enumerate(found.addresses) if it.row not in denied]
+    for it in found.addresses:
+        if it.row in denied:
+            conditions = "; ".join(conditional.conditions_of(it.riders, town.grants))
+            reason = (
+                f"at no place that is right for {it.street} does the grant ({conditions}) hold as at the home, "
+                "and there is no room for one more: put a place there"
+            )
+            found.refused.append(Refusal(it.row, reason, []))
+    found.feet = [found.feet[at] for at in kept]
+    found.addresses = [found.addresses[at] for at in kept]
+
+
+def gathered_once(
+    town: Town, addresses: Sequence[Address], alone: set[int], show: Show
+) -> Gathered:
+    """The addresses, each at a place; those of the rows `alone` at their own."""
+    found = Gathered([], {it.number: it for it in town.places}, [], [])
     open_, points = sorted_out(town, addresses, found)
-    if open_:
-        grouped_open(town, open_, points, found, show)
+    together = [at for at, it in enumerate(open_) if it.row not in alone]
+    own = [it for it in open_ if it.row in alone]
+    if together:
+        some = points.some(np.array(together, dtype=np.int64))
+        grouped_open(town, [open_[at] for at in together], some, found, show, len(own))
+    for it in own:
+        number = max(found.places, default=0) + 1
+        place = Place(number, f"Area {number}", it.point or (0, 0), it.core, it.riders, True)
+        found.places[number] = place
+        found.addresses.append(replace(it, place=number))
+    found.alone = len(own)
     found.addresses.sort(key=lambda it: it.row)
     spots = {it.number: it.point for it in found.places.values()}
     found.feet = [feet_between(it.point, spots[it.place or 0]) for it in found.addresses]
     return found
+
+
+def homes_denied(town: Town, found: Gathered) -> set[int]:
+    """The rows of homes at a place where the rider's grant does not hold as at the home.
+
+    One that another place fits is moved to the nearest of these.
+    """
+    denied: set[int] = set()
+    for at, it in enumerate(found.addresses):
+        conditions = conditional.conditions_of(it.riders, town.grants)
+        if not conditions or it.point is None:
+            continue
+        places = [found.places[it.place or 0], *found.places.values()]
+        right = [place for place in places if fits(it, place, conditions, town.lines)]
+        if not right:
+            denied.add(it.row)
+        elif right[0].number != it.place:
+            nearest_one = min(right, key=lambda place: feet_between(it.point, place.point))
+            found.addresses[at] = replace(it, place=nearest_one.number)
+    spots = {it.number: it.point for it in found.places.values()}
+    found.feet = [feet_between(it.point, spots[it.place or 0]) for it in found.addresses]
+    return denied
+
+
+def fits(address: Address, place: Place, conditions: Sequence[str], lines: Sequence[Line]) -> bool:
+    """Whether a home may be at a place: its lines serve the place, and the grant holds there as at the home."""
+    home = address.point
+    if home is None or address.core != place.core or not is_open_to(place, address):
+        return False
+    mask = lines_at(home, address.core, lines)
+    is_served = is_served_alike(mask, lines_at(place.point, place.core, lines))
+    return is_served and conditional.line_that_denies(home, place.point, conditions, lines) is None
 
 
 def sorted_out(
@@ -120,9 +200,9 @@ def fault_of(
 
 
 def grouped_open(
-    town: Town, open_: list[Address], points: Points, found: Gathered, show: Show
+    town: Town, open_: list[Address], points: Points, found: Gathered, show: Show, kept: int = 0
 ) -> None:
-    """Groups what has no place yet."""
+    """Groups what has no place yet. So many places are kept for homes of their own."""
     public = [it for it in town.places if it.private == () or it.private is False]
     own_at = np.array([it.point for it in public], dtype=np.int64).reshape(-1, 2)
     own_core = np.array([it.core for it in public], dtype=bool)
@@ -130,7 +210,7 @@ def grouped_open(
         points,
         np.array([bool(it.riders) for it in open_], dtype=bool),
         grouping.points_of(own_at, own_core, town.lines, is_place=True),
-        town.most - len(town.places),
+        max(0, town.most - len(town.places) - kept),
         town.minutes_a_foot,
     )
     try:
@@ -140,6 +220,10 @@ def grouped_open(
             f"the addresses lie in so many groups of lines that {error.needed} new places are needed, "
             f"and {wanted.free} are free. Fewer fixed routes need fewer: "
             "move-in routes with a lower --most"
+            + (
+                f". {kept} homes take places of their own, since a grant holds there alone"
+                * bool(kept)
+            )
         ) from None
     numbered = [it.number for it in public] + new_places(open_, grouped, len(public), found)
     found.addresses += [
@@ -209,10 +293,10 @@ def told(town: Town, found: Gathered) -> list[str]:
     ]
     if found.outside:
         lines.append(f"{found.outside} addresses OUTSIDE EVERY CORRIDOR would be served")
-    return lines + conditional(town, found) + worst(town, found)
+    return lines + told_of_grants(town, found) + worst(town, found)
 
 
-def conditional(town: Town, found: Gathered) -> list[str]:
+def told_of_grants(town: Town, found: Gathered) -> list[str]:
     """Whom a grouping may still deny: riders whose grant holds of some trips alone (37.123(b))."""
     lifts = sum(1 << at for at, it in enumerate(town.lines) if it.accessible)
     own = own_points(list(found.places.values()), town.lines)
@@ -220,7 +304,12 @@ def conditional(town: Town, found: Gathered) -> list[str]:
     core = np.array([it.core for it in found.addresses], dtype=bool)
     masks = (grouping.points_of(at, core, town.lines).masks & grouping.LINES).tolist()
     more = sum(bool(own[it.place or 0] & lifts & ~mask) for it, mask in zip(found.addresses, masks))
-    return [
+    homes = sum(bool(conditional.conditions_of(it.riders, town.grants)) for it in found.addresses)
+    kept = [
+        f"{homes:,} homes of riders with nolift or farther are at places where the grant holds as at the home; "
+        f"{found.alone:,} of them have places of their own"
+    ]
+    return (kept if town.grants else []) + [
         f"{more:,} addresses are at a place that more accessible lines serve than the address. A grant "
         "with the condition nolift or farther counts from the place, and may deny a trip there"
     ]

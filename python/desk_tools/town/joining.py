@@ -4,6 +4,7 @@ from collections.abc import Sequence
 from dataclasses import dataclass, replace
 
 from desk_tools.town.addresses import Address
+from desk_tools.town.conditional import line_that_denies
 from desk_tools.town.corridor import Line, feet_missing, is_served_alike, lines_at, nearest
 from desk_tools.town.places import Place, feet_between, riders_of
 
@@ -21,10 +22,13 @@ class Joined:
     feet: float
 
 
-def joined(address: Address, places: Sequence[Place], lines: Sequence[Line]) -> Joined:
+def joined(
+    address: Address, places: Sequence[Place], lines: Sequence[Line], conditions: Sequence[str] = ()
+) -> Joined:
     """The address at the nearest place that lies in the corridors of at least its lines.
 
-    A rider's home goes to a place that is the rider's own, where that is right.
+    A rider's home goes to a place that is the rider's own, where that is right; and only to one where
+    a grant with these conditions holds as at the home.
     """
     if address.point is None:
         raise NoPlace("it has no position: latitude and longitude, or x and y")
@@ -44,6 +48,12 @@ def joined(address: Address, places: Sequence[Place], lines: Sequence[Line]) -> 
         names = [it.name for it in lines if feet_missing(address.point, it) <= 0]
         raise NoPlace(
             f"no place lies in the corridors of all its lines ({', '.join(names)}): it takes a new place"
+        )
+    right = [it for it in right if not line_that_denies(address.point, it.point, conditions, lines)]
+    if not right:
+        raise NoPlace(
+            f"at no place that is right for {address.street} does the grant ({'; '.join(conditions)}) "
+            "hold as at the home: it takes a new place"
         )
     own = [it for it in right if set(riders_of(it)) & set(address.riders)]
     place = min(own or right, key=lambda it: feet_between(address.point, it.point))

@@ -13,7 +13,7 @@ from collections.abc import Callable, Sequence
 from dataclasses import dataclass, field, replace
 from pathlib import Path
 
-from desk_tools.town import cells, sheets
+from desk_tools.town import cells, conditional, sheets
 from desk_tools.town.addresses import Address, Plane, named, refuse_wrong, with_point
 from desk_tools.town.cells import WrongCell
 from desk_tools.town.joining import NoPlace
@@ -63,13 +63,22 @@ class Cut:
     without_home: int = 0
 
 
-Join = Callable[[Address], Address]
+# An address and a grant's conditions: the address at its place, or NoPlace.
+Join = Callable[[Address, tuple[str, ...]], Address]
+# Why a grant does not hold at the place of an address as at the address itself, or nothing.
+Deny = Callable[[Address, tuple[str, ...]], str]
 
 
-def cut(path: Path, plane: Plane | None, known: Sequence[Address], join: Join) -> Cut:
+def cut(
+    path: Path,
+    plane: Plane | None,
+    known: Sequence[Address],
+    join: Join,
+    deny: Deny = lambda address, conditions: "",
+) -> Cut:
     """The table's riders, and the addresses with their homes among them.
 
-    `join` gives an address its place, or raises NoPlace.
+    `join` gives an address its place, or raises NoPlace; `deny` says why a place is not right for a grant.
     """
     sheet = sheets.read(path, COLUMNS, cells.HIGHEST_NUMBER)
     for name in ("number", "name"):
@@ -88,7 +97,7 @@ def cut(path: Path, plane: Plane | None, known: Sequence[Address], join: Join) -
         if number in seen:
             raise WrongCell(f"row {seen[number]} has the number {number} already")
         rider = rider_of(number, row.fields, made.forms)
-        home = home_of(number, row.fields, plane, made, streets, join)
+        home = home_of(number, row.fields, plane, made, streets, join, deny)
         seen[number] = row.number
         made.without_home += home == ""
         made.people.append(
@@ -151,35 +160,40 @@ def home_of(
     made: Cut,
     streets: dict[str, int],
     join: Join,
+    deny: Deny,
 ) -> str:
     """The number of the home's place, and the home's address among the addresses."""
     home = named("home", fields, cells.number)
+    conditions = conditional.conditions_in(fields.get("conditions", ""))
+    conditions = conditions if conditional.matters(conditions) else ()
     street = fields.get("home_address", "")
     if not street:
         return str(home or "")
     at = streets.get(plain(street))
     if at is not None:
         there = made.addresses[at]
+        if said := deny(there, conditions):
+            raise WrongCell(said)
         riders = tuple(sorted({*there.riders, number}))
         made.addresses[at] = replace(there, riders=riders)
         return str(home or there.place or "")
     new = max((it.number for it in made.addresses), default=0) + 1
     address = with_point(Address(new, street, place=home, riders=(number,)), fields, plane)
     if home is None:
-        address = joined(address, join)
+        address = joined(address, join, conditions)
     streets[plain(street)] = len(made.addresses)
     made.addresses.append(address)
     return str(address.place)
 
 
-def joined(address: Address, join: Join) -> Address:
+def joined(address: Address, join: Join, conditions: tuple[str, ...]) -> Address:
     """The address at a place."""
     if address.point is None:
         raise WrongCell(
             f"home_address {address.street!r} is in no table of addresses, and has no position"
         )
     try:
-        return join(address)
+        return join(address, conditions)
     except NoPlace as error:
         raise WrongCell(str(error)) from None
 

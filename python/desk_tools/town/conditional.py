@@ -1,0 +1,48 @@
+"""Riders whose grant holds of some trips alone (37.123(b)), and whether a place would deny what the address would not.
+
+The desk counts from the place: `nolift` by the accessible lines whose corridors hold it, and `farther` by the feet to
+each line. A home of such a rider is right at a place that no accessible line serves more than the home, and that is
+no nearer to a line than the grant says, where the home is not.
+"""
+
+import re
+from collections.abc import Mapping, Sequence
+
+from desk_tools.town.corridor import Line, Point, feet_from_line, feet_missing
+
+ALWAYS, NO_LIFT = "always", "nolift"
+FARTHER = re.compile(r"farther:([1-9]\d*)")
+Grants = Mapping[int, Sequence[str]]
+
+
+def matters(conditions: Sequence[str]) -> bool:
+    """Whether it matters for such a grant at which place the home is."""
+    is_some = any(it == NO_LIFT or FARTHER.fullmatch(it) for it in conditions)
+    return is_some and ALWAYS not in conditions
+
+
+def conditions_in(text: str) -> tuple[str, ...]:
+    """The conditions of a cell, with ; between two."""
+    return tuple(it.strip() for it in text.lower().split(";") if it.strip())
+
+
+def conditions_of(riders: Sequence[int], grants: Grants) -> tuple[str, ...]:
+    """All conditions of those who live at an address for which the place matters."""
+    found = {it for rider in riders if matters(grants.get(rider, ())) for it in grants[rider]}
+    return tuple(sorted(found))
+
+
+def line_that_denies(
+    home: Point, place: Point, conditions: Sequence[str], lines: Sequence[Line]
+) -> Line | None:
+    """The first line because of which the grant would hold at the home and not at the place, or None."""
+    feet = [int(found[1]) for it in conditions if (found := FARTHER.fullmatch(it))]
+    for line in lines:
+        is_more = line.accessible and feet_missing(place, line) <= 0 < feet_missing(home, line)
+        if NO_LIFT in conditions and is_more:
+            return line
+        if feet:
+            there, here = feet_from_line(place, line.points), feet_from_line(home, line.points)
+            if any(there <= it < here for it in feet):
+                return line
+    return None
