@@ -446,24 +446,8 @@ def offers(copy, log, today, names):
             "Call the rider: the trip is kept on a yes, and canceled as the agency's on a no.")
     return Listed(
         "offers", "Offers that wait for an answer", "clerk",
-<<<<<<< HEAD
         note if log else f"{WITHOUT_LOG}was offered.",
         ("Rider", "Name", "Day", "Asked for", "Window", "Trip", "From", "To"), rows, by_log(log))
-=======
-        note if log else "The site's log (--tally) was not given, so nobody knows which offers wait.",
-        ("Rider", "Name", "Day", "Asked for", "Window", "Trip", "From", "To"), rows)
-
-
-def taken_out(others, number, way, window):
-    """Takes out of a rider's trips of a day, by number, the next one that came in place of a canceled one, and gives it;
-    None where there is none. It may be canceled itself: then the one after it stands for both. The way back stands for no way there."""
-    for row in others:
-        trip, _, _, _, origin, goal, begins, ends, _ = row
-        if trip > number and ((origin, goal) == way or (goal, origin) != way and begins <= window[1] and ends >= window[0]):
-            others.remove(row)
-            return row
-    return None
->>>>>>> main
 
 
 def vehicles(copy, now, names):

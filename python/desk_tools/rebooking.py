@@ -2,11 +2,15 @@
 
 A trip stands in another's place where its rider, its day, and both ends in their direction are the same, and where it
 was booked after the other was canceled. A trip of which nobody knows when it was booked stands in no other's place.
+
+The desk numbers trips in the order in which they are booked. So a trip whose booking the log lacks was booked after
+each lower number that the log has as new: one above all numbers that it named until then.
 """
 
+import bisect
 import datetime
 from collections import defaultdict
-from collections.abc import Iterable, Mapping
+from collections.abc import Iterable, Iterator, Mapping
 from dataclasses import dataclass
 
 from desk_tools.event_log import Told
@@ -36,24 +40,46 @@ class Ride:
 
 @dataclass(frozen=True)
 class Times:
-    """When trips were booked and canceled, by number, as far as the site's log says."""
+    """When trips were booked and canceled, by number, as far as the site's log says. `new` has the trips that were new
+    when they were booked, by rising number, and so in their order."""
 
     booked: Mapping[int, Moment]
     canceled: Mapping[int, Moment]
+    new: tuple[tuple[int, Moment], ...] = ()
+
+    def booked_after(self, trip: int) -> Moment | None:
+        """When a trip was booked; where that is not told, a moment after which it was."""
+        if trip in self.booked:
+            return self.booked[trip]
+        place = bisect.bisect_left(self.new, trip, key=lambda it: it[0])
+        return self.new[place - 1][1] if place else None
 
 
 def times_in(events: Iterable[Told]) -> Times:
     """The first booking of each trip, since what comes later is a change; and its last cancellation."""
     booked: dict[int, Moment] = {}
     canceled: dict[int, Moment] = {}
+    named: list[tuple[Moment, int, str]] = []
     for place, it in enumerate(events):
+        trip, at = it.fields.get("trip"), it.fields.get("at")
+        if not isinstance(trip, int) or not isinstance(at, datetime.datetime):
+            continue
+        moment = at, place
+        named.append((moment, trip, it.kind))
         if it.kind == "bookings":
-            moment, trip = (it.moment("at"), place), it.number("trip")
             booked[trip] = min(moment, booked.get(trip, moment))
         elif it.kind == "cancellations":
-            moment, trip = (it.moment("at"), place), it.number("trip")
             canceled[trip] = max(moment, canceled.get(trip, moment))
-    return Times(booked, canceled)
+    return Times(booked, canceled, tuple(_new_in(named)))
+
+
+def _new_in(named: list[tuple[Moment, int, str]]) -> Iterator[tuple[int, Moment]]:
+    """The bookings of trips above all that were named before them."""
+    highest = 0
+    for moment, trip, kind in sorted(named):
+        if trip > highest and kind == "bookings":
+            yield trip, moment
+        highest = max(highest, trip)
 
 
 def in_place(rides: Iterable[Ride], lost: Iterable[int], times: Times) -> dict[int, Ride]:
@@ -73,7 +99,7 @@ def in_place(rides: Iterable[Ride], lost: Iterable[int], times: Times) -> dict[i
 
 def _in_place(same: list[Ride], lost: set[int], times: Times) -> dict[int, Ride]:
     """The same for the trips of one rider, day and way: what happened to them, one after the other."""
-    happened = [(times.booked[it.trip], True, it) for it in same if it.trip in times.booked]
+    happened = [(moment, True, it) for it in same if (moment := times.booked_after(it.trip))]
     happened += [
         (times.canceled[it.trip], False, it)
         for it in same
@@ -81,7 +107,7 @@ def _in_place(same: list[Ride], lost: set[int], times: Times) -> dict[int, Ride]
     ]
     still: list[Ride] = []
     found: dict[int, Ride] = {}
-    for _, is_booked, ride in sorted(happened, key=lambda it: it[0]):
+    for _, is_booked, ride in sorted(happened, key=lambda it: (it[0], it[2].trip)):
         earlier = [it for it in still if it.trip < ride.trip]
         if not is_booked:
             still.append(ride)

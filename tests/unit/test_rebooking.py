@@ -25,6 +25,8 @@ CASES = json.loads(Path(__file__, "../../windows/same.json").resolve().read_text
 START = datetime.datetime(2026, 12, 3, 10, 0)
 HOME, STORE = 1, 2
 NINE, TEN = (540, 555), (600, 615)
+SITE = START.replace(tzinfo=datetime.timezone.utc)
+KINDS = {"b": "bookings", "c": "cancellations"}
 
 
 def at(step: int) -> Moment:
@@ -56,9 +58,10 @@ def most(rides: list[Ride], lost: list[int], times: Times) -> int:
     return best(kept, frozenset(it.trip for it in rides))
 
 
-def stories(count: int) -> Iterator[tuple[list[Ride], list[int], Times]]:
+def stories(count: int) -> Iterator[tuple[list[Ride], list[int], Times, Times, bool]]:
     """All orders in which so many trips are booked, by rising number, and canceled or not, each this way or back, at one of
-    two windows; of each booking the log may say nothing, and a trip may be there before all."""
+    two windows; what is true of each, what the log says, and whether it says all: of a booking it may say nothing.
+    """
     for canceled in itertools.product([False, True], repeat=count):
         events = [("b", it) for it in range(count)] + [
             ("c", it) for it in range(count) if canceled[it]
@@ -75,9 +78,14 @@ def stories(count: int) -> Iterator[tuple[list[Ride], list[int], Times]]:
                 itertools.product([False, True], repeat=count),
             ):
                 rides = [ride(it + 1, back=backs[it], window=windows[it]) for it in range(count)]
-                booked = {it + 1: at(places["b", it]) for it in range(count) if told[it]}
+                truth = {it + 1: at(places["b", it]) for it in range(count)}
                 gone = {it + 1: at(places["c", it]) for it in range(count) if canceled[it]}
-                yield rides, sorted(gone), Times(booked, gone)
+                events = [
+                    Told(KINDS[kind], SITE, "office", {"trip": it + 1, "at": at(step)[0]})
+                    for step, (kind, it) in enumerate(order)
+                    if kind == "c" or told[it]
+                ]
+                yield rides, sorted(gone), Times(truth, gone), times_in(events), all(told)
 
 
 @pytest.mark.parametrize("count", [1, 2, 3])
@@ -85,14 +93,14 @@ def test_a_trip_stands_in_a_place_by_the_rule_and_no_place_stays_empty_that_one_
     count: int,
 ) -> None:
     seen = 0
-    for rides, lost, times in stories(count):
-        found = in_place(rides, lost, times)
+    for rides, lost, times, told, is_whole in stories(count):
+        found = in_place(rides, lost, told)
         by_number = {it.trip: it for it in rides}
         assert set(found) <= set(lost)
         assert len({it.trip for it in found.values()}) == len(found)
         for old, new in found.items():
             assert may_stand(by_number[old], new, times), (rides, times)
-        assert len(found) == most(rides, lost, times), (rides, times)
+        assert not is_whole or len(found) == most(rides, lost, times), (rides, times)
         seen += 1
     assert seen > 4**count
 
@@ -128,6 +136,12 @@ def test_a_trip_of_a_lower_number_was_there_before_whatever_is_told_of_it() -> N
     assert not in_place([ride(1), ride(2)], [2], times)
 
 
+def test_an_untold_booking_is_later_than_a_new_trip_of_a_lower_number() -> None:
+    times = Times({5: at(3), 4: at(4)}, {1: at(2)}, ((5, at(3)),))
+    for trip, is_found in [(3, False), (6, True)]:
+        assert bool(in_place([ride(1), ride(trip)], [1], times)) is is_found
+
+
 def test_a_change_is_no_new_booking_and_the_last_cancellation_counts() -> None:
     def told(kind: str, trip: int, minute: int) -> Told:
         when = START + datetime.timedelta(minutes=minute)
@@ -138,6 +152,9 @@ def test_a_change_is_no_new_booking_and_the_last_cancellation_counts() -> None:
     events += [told("calls", 1, 3), told("cancellations", 1, 4)]
     times = times_in(events)
     assert times.booked == {2: (START, 0)}
+    assert times.new == ((2, (START, 0)),)
+    changed = [told("cancellations", 30, 0), told("bookings", 12, 1), told("bookings", 31, 2)]
+    assert [trip for trip, _ in times_in(changed).new] == [31]
     assert times.canceled == {1: (START + datetime.timedelta(minutes=4), 4)}
 
 
