@@ -17,7 +17,8 @@ import { LAST_MINUTE, MOST_DURATION, NEGOTIATED_MINUTES } from "./limits.js";
  *   booked or changed; isChanged says that it came anew into the list since it was changed */
 /** @typedef {{ days: number[], depot: number, capacity: number, chairs: number, opens: number, closes: number, duration: number }} Settings of a vehicle */
 /** @typedef {{ vehicle: number, from: string, back: string | null, mode: "cancel" | "move", depot: number, settings: Settings | null, isOut: boolean, isBack: boolean,
- *   backDenied: string | null, stopped: string | null, done: boolean, counted: number[], items: Item[] }} Plan back is the first day on duty again */
+ *   backDenied: string | null, stopped: string | null, done: boolean, counted: number[], items: Item[], waits?: boolean }} Plan back is the first day on duty again; waits: it is
+ *   read again until what somebody else does with its trips stands still */
 /** @typedef {{ denied?: string, value?: any }} Told */
 /**
  * @typedef {object} Ports what a plan asks for
@@ -30,6 +31,7 @@ import { LAST_MINUTE, MOST_DURATION, NEGOTIATED_MINUTES } from "./limits.js";
  * @property {(plan: Plan) => Promise<void>} keep
  * @property {(denial: { day: string, minute: number, rule: string }) => void} count
  * @property {(item: Item, ticket: Ticket) => void} booked tells of a new trip, whose rider asked for what saidOf says
+ * @property {() => Promise<void>} pause lets some seconds pass before the desk is read again
  * @property {() => boolean} isMine whether the key that began it is still signed in with
  */
 
@@ -40,6 +42,8 @@ const LATER = [10, 25, 45];
 /** Denials after which nobody knows whether it was done, or nothing more can be done: the desk has to be read again first. */
 const STOPS = ["left", "desk.key", "desk.caller", "desk.number"];
 const LONGEST_ABSENCE = 14;
+/** What somebody else does stands still once so many looks in a row have found nothing new. */
+const STILL = 3;
 
 /** The name under which a plan is kept: any dispatcher of this browser goes on with it.
  * @param {{ vehicle: number, from: string }} plan
@@ -249,11 +253,11 @@ export async function carryOut(begun, ports) {
         (/** @type {Plan} */ plan) => each(plan, "booked", ports, cancelOne(ports)), (/** @type {Plan} */ plan) => takeOff(plan, ports),
         (/** @type {Plan} */ plan) => putBack(plan, ports),
         async (/** @type {Plan} */ plan) => (plan.mode === "move" ? each(plan, "cancelled", ports, bookOne(ports)) : { plan, stop: null }),
-        (/** @type {Plan} */ plan) => lookAtGone(plan, ports)];
-    let plan = { ...begun, stopped: /** @type {string | null} */ (null) };
+        (/** @type {Plan} */ plan) => lookUntilStill(plan, ports)];
+    let plan = { ...begun, waits: false, stopped: /** @type {string | null} */ (null) };
     for (const step of steps) {
         const done = await step(plan);
-        plan = { ...done.plan, stopped: done.stop };
+        plan = { ...done.plan, waits: false, stopped: done.stop };
         if (done.stop) {
             await ports.keep(plan);
             return plan;
@@ -270,6 +274,32 @@ const lookAtGone = (plan, ports) => each(plan, "gone", ports, async (now, item) 
     const { value, denied } = await ports.tripsOf(item.rider), others = takenIn(withItem(now, item, { other: null }));
     return denied !== undefined ? { plan: now, stop: denied } : { plan: withItem(now, item, { other: anewOf(item, value.trips, others) }), stop: null };
 });
+
+/** Trips that somebody else canceled, and in whose place no other trip is known.
+ * @param {Plan} plan
+ */
+export const unanswered = ({ items }) => items.filter(({ step, other }) => step === "gone" && !other).length;
+
+/** Looks at what somebody else canceled again and again while it is being booked again: until each has another trip, or some looks in a row found nothing new.
+ * @param {Plan} plan @param {Ports} ports @returns {Promise<Done>}
+ */
+async function lookUntilStill(plan, ports) {
+    let { plan: now, stop } = await lookAtGone(plan, ports);
+    for (let still = 0; !stop && unanswered(now) > 0 && still < STILL;) {
+        if (!ports.isMine()) return { plan: now, stop: "left" };
+        const before = unanswered(now);
+        await ports.keep(now = { ...now, waits: true });
+        await ports.pause();
+        ({ plan: now, stop } = await lookAtGone(now, ports));
+        still = unanswered(now) < before ? 0 : still + 1;
+    }
+    return { plan: now, stop };
+}
+
+/** How many trips of a list are on the day of the vehicle's return or later.
+ * @param {{ back: string | null, items: Item[] }} plan
+ */
+export const afterReturn = ({ back, items }) => (back === null ? 0 : items.filter(({ old }) => old.day >= back).length);
 
 // After a break.
 

@@ -73,6 +73,14 @@ export const correctionFile = (line) => `${COLUMNS.join(",")}\r\n${line}\r\n`;
  */
 export const rowKey = ({ day, trip, minute, told = "" }) => `${day} ${trip} ${minute} ${told}`;
 
+/** What somebody else found right of a trip since a dispatcher opened it; null where nobody did.
+ * @template {{ day: string, trip: number, outcome: string, minute: number }} T @param {T[]} before what was settled then @param {T[]} now @param {number} trip @returns {T | null}
+ */
+export function settledSince(before, now, trip) {
+    const of = (/** @type {T[]} */ all) => all.find((it) => it.trip === trip), last = of(now), first = of(before);
+    return last && !(first && first.day === last.day && first.minute === last.minute && first.outcome === last.outcome) ? last : null;
+}
+
 /** What is to be done once somebody has said which outcome is right: the desk has another one, or none, or this one.
  * @param {Outcome} right @param {string | null} record the status of the trip at the desk @returns {"enter" | "correct" | "confirm"}
  */

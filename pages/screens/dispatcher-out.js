@@ -8,7 +8,7 @@ import { denialOf, inWords } from "../parts/denials.js";
 import { button, part } from "../parts/element.js";
 import { dayField, form, valuesOf } from "../parts/fields.js";
 import { alone as oneAtATime } from "../parts/locks.js";
-import { byPickup, countsOf, isFar, keyOf, movedBy, saidOf, toTryAgain } from "../parts/out-of-service.js";
+import { afterReturn, byPickup, countsOf, isFar, keyOf, movedBy, saidOf, toTryAgain, unanswered } from "../parts/out-of-service.js";
 import { printManifests } from "../parts/paper-day.js";
 import { makeScreen } from "../parts/screen.js";
 import { keepSubject, subjectOf } from "../parts/subject.js";
@@ -85,11 +85,12 @@ const settingsCard = ({ vehicle, back, settings }) => back !== null && part("fie
 
 /** @param {Shown} found @param {(mode: Mode) => void} begin @param {boolean} isBegun */
 function laterCard(found, begin, isBegun) {
-    const { vehicle, from, back, items, depot } = found, name = `list-${keyOf(found)}`, said = { count: items.length, vehicle: vehicleName(vehicle), day: dayInWords(from) };
+    const { vehicle, from, back, items, depot } = found, name = `list-${keyOf(found)}`, said = { count: items.length, vehicle: vehicleName(vehicle), day: dayInWords(from) }, later = afterReturn(found);
     const heading = t("dispatcher.out-later", said), off = depot === null || isBegun;
     if (!items.length) return part("section", { class: "card" }, part("h3", {}, heading), part("p", {}, t("dispatcher.out-none")));
     const wishes = new Map(items.map((item) => [item.old.trip, wishWords(item)])), trips = items.map(calledOf);
-    const steps = ["1", "2", back === null ? "no-return" : "return", "3", "4"].map((step) => part("li", {}, t(`dispatcher.out-step-${step}`, { ...said, back: back && dayInWords(back) })));
+    const steps = ["1", "2", back === null ? "no-return" : "return", "3", "4"].map((step) => part("li", {}, t(`dispatcher.out-step-${step}`, { ...said, back: back && dayInWords(back) }),
+        step === "1" && later > 0 && [" ", part("strong", {}, t("dispatcher.out-after-return", { count: later, back: back && dayInWords(back) }))]));
     return part("section", { class: "card", "aria-labelledby": "out-later" }, part("h3", { id: "out-later" }, heading),
         part("div", { class: "row" }, callTools(name, callsTitle(vehicleName(vehicle)), trips, () => "")),
         callsTable(name, t("dispatcher.out-later-list"), trips, (it) => wishes.get(it.trip) ?? "", t("dispatcher.column-wish")), settingsCard(found),
@@ -98,9 +99,10 @@ function laterCard(found, begin, isBegun) {
             button(t("dispatcher.out-cancel", said), () => begin("cancel"), { class: "danger", disabled: off })));
 }
 
-/** @param {Read} found @param {Mode} mode */
-const sure = ({ vehicle, items, from }, mode) => asked({ question: t(`dispatcher.out-${mode}-question`, { vehicle: vehicleName(vehicle), count: items.length }), danger: true,
-    detail: t(`dispatcher.out-${mode}-detail`, { day: dayInWords(from) }), yes: t(`dispatcher.out-${mode}-yes`, { count: items.length }) });
+/** @param {Shown} found @param {Mode} mode */
+const sure = ({ vehicle, items, from, back }, mode) => asked({ question: t(`dispatcher.out-${mode}-question`, { vehicle: vehicleName(vehicle), count: items.length }), danger: true,
+    detail: [t(`dispatcher.out-${mode}-detail`, { day: dayInWords(from) }), back !== null && afterReturn({ back, items }) > 0 && part("p", {}, part("strong", {}, t("dispatcher.out-after-return", {
+        count: afterReturn({ back, items }), back: dayInWords(back) })))], yes: t(`dispatcher.out-${mode}-yes`, { count: items.length }) });
 
 // What came of it.
 
@@ -122,14 +124,14 @@ function againWords(item) {
 /** What a rider has to be told.
  * @param {Item} item @param {Plan} plan
  */
-function resultWords(item, { mode }) {
+function resultWords(item, { mode, done }) {
     const { step, other, denied } = item;
     if (step === "again") return againWords(item);
     if (step === "nowhere") return t("dispatcher.nowhere", { says: inWords(denied ?? "", "trip").says });
     if (step === "kept") return t("dispatcher.kept", { says: inWords(denied ?? "", "cancel").says });
     if (step === "cancelled" && mode === "move") return t("dispatcher.step-waits");
     const said = t(step === "booked" && item.isChanged ? "dispatcher.step-booked-changed" : `dispatcher.step-${step}`);
-    if (step === "gone") return `${said} ${other ? tripWords(other) : t("dispatcher.no-other")}`;
+    if (step === "gone") return `${said} ${other ? tripWords(other) : t(done ? "dispatcher.no-other" : "dispatcher.no-other-yet")}`;
     return other ? `${said} ${tripWords(other)}` : said;
 }
 
@@ -142,6 +144,7 @@ const stoppedWords = (stopped) => [stopped !== null && part("p", {}, stopped ===
 /** @param {Plan} plan @param {boolean} running */
 function statusWords(plan, running) {
     const counts = countsOf(plan), { mode, done, stopped, vehicle, from, back, isBack, backDenied } = plan, named = { ...counts, vehicle: vehicleName(vehicle), day: dayInWords(from) };
+    if (running && plan.waits) return part("p", { class: "note" }, t("dispatcher.out-waits", { ...named, count: unanswered(plan) }));
     if (running) return part("p", {}, t(mode === "move" ? "dispatcher.out-running-move" : "dispatcher.out-running-cancel", counts));
     if (!done) return part("div", { class: "note" }, part("p", {}, t("dispatcher.out-broken", counts)), stoppedWords(stopped));
     const others = ["gone", "elsewhere", "passed"].filter((name) => counts[/** @type {"gone"} */ (name)] > 0);

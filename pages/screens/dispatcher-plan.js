@@ -21,6 +21,9 @@ import { firstSaid, keepSaid, keepSettings } from "./dispatcher-settings.js";
  *   drops has the planned drop of each trip of today */
 /** @typedef {Read | { denied: string }} Found */
 
+/** Milliseconds between two looks at what another dispatcher does with the same trips. */
+const BETWEEN_LOOKS = 10_000;
+
 // Kept.
 
 const within = storeOf("desk-out", "plans");
@@ -174,7 +177,7 @@ const bookListed = (fields) => {
 function portsOf(vehicle, keep) {
     const whose = desk.digest();
     return { tripsOf: desk.tripsOf, cancel: (trip) => cancelTrip(trip, "agency"), book: bookListed, putVehicle, dutyOn: (days) => dutyOn(vehicle, days), itemsNow, keep,
-        count: tellDenial, booked: tellBooked, isMine: () => desk.digest() === whose };
+        count: tellDenial, booked: tellBooked, pause: () => new Promise((go) => { setTimeout(go, BETWEEN_LOOKS); }), isMine: () => desk.digest() === whose };
 }
 
 /** Goes on with a plan to its end, or to where it has to stop.

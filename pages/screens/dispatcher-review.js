@@ -2,15 +2,17 @@
 // leaves everybody's list; where the desk has another outcome, the line for corrections.csv is made here.
 
 import { agency, vehicleName } from "../parts/agency.js";
-import { choose } from "../parts/ask.js";
-import { between, clock, dayShort } from "../parts/clock.js";
+import { asked, choose } from "../parts/ask.js";
+import { between, clock, dayShort, serverNow, today } from "../parts/clock.js";
 import * as desk from "../parts/desk.js";
 import { inWords } from "../parts/denials.js";
 import { button, fresh, make, part, save, say } from "../parts/element.js";
-import { correctionFile, correctionLine, doubtOf, MOST, nextOf, outcomesBy, rowKey, tapsOn, withArrival } from "../parts/reviews.js";
+import { correctionFile, correctionLine, doubtOf, MOST, nextOf, outcomesBy, rowKey, settledSince, tapsOn, withArrival } from "../parts/reviews.js";
+import { toldIn } from "../parts/lateness.js";
 import { riderLabel } from "../parts/roster.js";
 import { count } from "../parts/tally.js";
 import { rowsIn } from "../parts/texts.js";
+import { toldRead } from "../parts/told.js";
 import { t } from "../parts/words.js";
 import { statusOf, windowOf } from "./booking.js";
 
@@ -95,12 +97,26 @@ function askCorrection(trip, right) {
     });
 }
 
-/** Does what follows from what is right; what has to be said where it could not be done.
- * @param {number} trip @param {Outcome} right @param {string | null} record @returns {Promise<{ isDone: boolean, says?: string }>}
+/** Reads again what was told: whether a trip may be settled still, since nobody else did meanwhile, or the dispatcher wants it changed. "same" where somebody else found the same.
+ * @param {number} trip @param {Outcome} right @param {Told} told @returns {Promise<"open" | "same" | "left">}
  */
-async function settle(trip, right, record) {
+async function standing(trip, right, told) {
+    const { value } = await toldRead().again(), now = toldIn(value ?? null, today(), serverNow()), settled = now && settledSince(told.settled, now.settled, trip);
+    if (!settled) return "open";
+    told.settled = now.settled;
+    const time = settled.day === today() ? clock(settled.minute) : `${dayShort(settled.day)}, ${clock(settled.minute)}`, outcome = t(`dispatcher.told-${settled.outcome}`);
+    if (settled.outcome === right) return "same";
+    return await asked({ question: t("dispatcher.review-settled", { time, outcome }), detail: t("dispatcher.review-settled-detail"),
+        yes: t("dispatcher.review-settled-yes", { outcome: t(`dispatcher.told-${right}`) }), no: t("dispatcher.review-settled-no"), danger: true }) ? "open" : "left";
+}
+
+/** Does what follows from what is right; what has to be said where it could not be done.
+ * @param {number} trip @param {Outcome} right @param {string | null} record @param {Told} told @returns {Promise<{ isDone: boolean, says?: string }>}
+ */
+async function settle(trip, right, record, told) {
     const next = nextOf(right, record);
-    if (next === "correct") return { isDone: await askCorrection(trip, right) };
+    // (a correction takes its minutes to type)
+    if (next === "correct") return { isDone: await askCorrection(trip, right) && await standing(trip, right, told) === "open" };
     const denied = next === "enter" ? (await desk.tellOutcome(trip, right)).denied : undefined;
     return denied === undefined ? { isDone: true } : { isDone: false, says: inWords(denied, "outcome").says };
 }
@@ -118,11 +134,13 @@ export async function review(about, told) {
     const answer = await choose({ question: t("dispatcher.review-question", { trip, rider, vehicle: vehicleName(vehicle), day: dayShort(day) }), detail: detailOf(known, row), careful: true,
         choices, none: t("dispatcher.review-later") });
     if (answer === "show" || answer === null) return answer;
-    const { isDone, says } = await settle(trip, answer, row?.status ?? null);
+    const before = { ...told }, found = await standing(trip, answer, before);
+    if (found === "left") return null;
+    const { isDone, says } = found === "same" ? { isDone: true, says: undefined } : await settle(trip, answer, row?.status ?? null, before);
     if (says) await choose({ question: says, choices: [], none: t("common.close") });
     if (!isDone) return null;
     for (const it of [...known.noShows, ...known.disagreements]) seen.add(rowKey(it));
-    await count("reviews", { trip, outcome: answer });
-    say(t("dispatcher.review-done", { trip }));
+    if (found === "open") await count("reviews", { trip, outcome: answer });
+    say(t(found === "same" ? "dispatcher.review-same" : "dispatcher.review-done", { trip }));
     return null;
 }

@@ -230,6 +230,7 @@ def day_of(known: Known, today: datetime.date, zone: datetime.tzinfo) -> dict[st
         "calls": _calls(of["calls"], lambda it: it.fields["result"]),
         "call_times": _calls(of["calls"], lambda it: _spelled(moment_of(it, zone))),
         "unreviewed": _unreviewed(events, today, zone),
+        "settled": _settled(of["reviews"], zone),
         "late": [_late(it, zone) for it in events if _is_late(it, today, zone)],
         "denials": _denials(events, today, zone),
         "partial_grants": _partial_grants(of["partial-grants"]),
@@ -354,6 +355,15 @@ def _unreviewed(
         told: dict[str, object] = {"day": day.isoformat(), **_row(it, zone, *names)}
         found[it.kind.replace("-", "_")].append(told)
     return found
+
+
+def _settled(reviews: list[Told], zone: datetime.tzinfo) -> list[dict[str, object]]:
+    """What dispatch found right of each trip at last, and when, for who settles the same trip."""
+    found: dict[object, dict[str, object]] = {}
+    for it in reviews:
+        day = moment_of(it, zone).date().isoformat()
+        found[it.fields["trip"]] = {"day": day, **_row(it, zone, "trip", "outcome")}
+    return [*found.values()]
 
 
 def _day_of(told: Told, zone: datetime.tzinfo) -> datetime.date:

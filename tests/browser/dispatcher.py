@@ -381,11 +381,12 @@ def spoken(minute):
 
 
 # What drivers told of vans 1 and 2, and a phone of van 9 of a trip on which entries disagree.
-def told_file(at, minute, taps):
+def told_file(at, minute, taps, settled=()):
     made = at.town.get("dispatcher", f"/days/{DAY}/sheet") and json.dumps({
         "day": DAY, "made": f"{DAY}T{minute // 60 + 4:02}:{minute % 60:02}:00Z", "vehicles": {"1": {"taps": taps}, "9": {"taps": [{"trip": 1, "kind": "aboard", "minute": minute - 30}]}}, "notes": [],
         "bookings": {}, "no_shows": [], "calls": {}, "unreviewed": {"no_shows": [], "disagreements": [
-            {"day": DAY, "trip": 1, "vehicle": 2, "record": "ridden", "told": "missed-rider", "minute": minute}]}})
+            {"day": DAY, "trip": 1, "vehicle": 2, "record": "ridden", "told": "missed-rider", "minute": minute}]},
+        "settled": [*settled]})
     at.town.write_file("staff/today.json", made)
 
 
@@ -414,6 +415,22 @@ def what_needs_a_person_stands_on_top_and_leads_to_its_row(at):
     at.town.write_file("staff/today.json", None)
     sign_in(at, DAY, "10:30")
     at.browser.sees("Drivers' taps are not here, so late vans can't be shown.")
+    sign_in(at, DAY, "23:00", "trips")
+
+
+@check
+def who_settles_what_a_colleague_has_settled_is_told_first(at):
+    told_file(at, 601, [])
+    sign_in(at, DAY, "10:02")
+    at.browser.press(f"{VAN_2}: two entries disagree")
+    at.browser.sees("what is right?")
+    told_file(at, 602, [], [{"day": DAY, "trip": 1, "outcome": "missed-rider", "minute": 601}])
+    at.browser.requests()
+    at.browser.press("The rider rode")
+    at.browser.sees("Settled at 10:01 AM by another dispatcher: No-show. Do you want to change it?", "Ask the other dispatcher before you change it.")
+    at.browser.press("No, leave it as settled")
+    same("reviews that were told", [], [it for it in at.browser.requests() if "/tally/reviews?" in it])
+    at.town.write_file("staff/today.json", None)
     sign_in(at, DAY, "23:00", "trips")
 
 

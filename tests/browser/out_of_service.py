@@ -288,6 +288,26 @@ def what_a_colleague_cancelled_is_said_so_and_never_that_it_is_too_late(at):
 
 
 @check
+def a_report_waits_until_what_a_colleague_does_with_the_same_trips_stands_still(at):
+    for van in range(1, VANS + 1):
+        put_on_duty(at, van)
+    van, before = fill_van(at)
+    sign_in(at)
+    show_out(at, van, LATER)
+    row = before[0]
+    at.browser.sees("What happens next")
+    at.town.post(SECOND, f"/trips/{row['trip']}/cancel", {})
+    begin(at, f"cancel {many(len(before))}", len(before))
+    at.browser.sees("Somebody else is moving the trips of", "The list is read again until nothing changes.", "It may be booked again right now. Don't call yet.")
+    at.browser.sees_no("No other trip of that day")
+    other = at.town.book(int(row["rider"]), LATER, int(row["wish"]), int(row["from"]), int(row["to"]))
+    until("the list is not read again by itself", lambda: f"Trip {other}" in at.browser.text())
+    at.browser.sees("is out of service from", f"Trip {other}")
+    at.browser.sees_no("No other trip of that day", "Somebody else is moving")
+    discard(at)
+
+
+@check
 def the_call_list_is_on_disk_before_the_first_trip_is_cancelled_and_the_van_comes_back(at):
     for van in range(1, VANS + 1):
         put_on_duty(at, van)

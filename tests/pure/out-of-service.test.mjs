@@ -12,7 +12,7 @@ const trip = (number, rider, begins, more = {}) => ({ trip: number, day: DAY, ve
     window_from: begins, window_to: begins + 30, fare: 350, due: 350, status: "booked", ...more });
 
 /** A desk of some riders' trips. fails(count, done) may break a request: it throws nothing, and gives a denial. */
-function makeDesk(lists, { fails = () => null, booked = () => undefined } = {}) {
+function makeDesk(lists, { fails = () => null, booked = () => undefined, pauses = () => undefined } = {}) {
     const riders = new Map(Object.entries(lists).map(([rider, trips]) => [Number(rider), trips.map((it) => ({ ...it }))]));
     const all = () => [...riders.values()].flat();
     let next = Math.max(...all().map((it) => it.trip)) + 1, count = 0;
@@ -51,6 +51,7 @@ function makeDesk(lists, { fails = () => null, booked = () => undefined } = {}) 
         count: (denial) => counted.push(denial),
         booked: (item, ticket) => { first[ticket.trip] = plans.saidOf(item); },
         isMine: () => true,
+        pause: async () => pauses(all()),
     };
     return { riders, ports, versions, counted, keptPlans, all, first };
 }
@@ -302,4 +303,36 @@ test("a plan that the desk does not let read stays as it is, and says why", asyn
     // (another key goes on)
     desk.ports.tripsOf = tripsOf;
     assert.equal((await plans.readAgain(denied, desk.ports)).stopped, null);
+});
+
+test("what a colleague cancels and books again is read until it stands still, and the plan is not done before", async () => {
+    let looks = 0;
+    const anew = (number, rider, begins, more) => trip(number, rider, begins, { vehicle: 7, ...more });
+    const desk = makeDesk(THREE, { pauses: () => {
+        looks += 1;
+        if (looks === 2) desk.riders.get(1).push(anew(30, 1, 605));
+        if (looks === 4) desk.riders.get(2).push(anew(31, 2, 485, { from: 3, to: 4 }));
+    } });
+    const plan = planOf(desk);
+    for (const it of desk.all()) it.status = "cancelled";
+    const done = await plans.carryOut(plan, desk.ports);
+    assert.deepEqual(done.items.map(({ step, other }) => [step, other?.trip ?? null]), [["gone", 31], ["gone", null], ["gone", 30]]);
+    assert.deepEqual([done.done, done.waits, plans.unanswered(done), looks], [true, false, 1, 7]);
+    const waiting = desk.keptPlans.filter((it) => it.waits);
+    assert.ok(waiting.length > 0 && waiting.every((it) => !it.done));
+    const own = makeDesk(THREE, { pauses: () => assert.fail("nothing is gone") });
+    await plans.carryOut(planOf(own), own.ports);
+});
+
+test("who signs out while a colleague's work is watched leaves the plan unfinished", async () => {
+    const desk = makeDesk(THREE), plan = planOf(desk);
+    for (const it of desk.all()) it.status = "cancelled";
+    let paused = false;
+    const done = await plans.carryOut(plan, { ...desk.ports, pause: async () => { paused = true; }, isMine: () => !paused });
+    assert.deepEqual([done.done, done.stopped], [false, "left"]);
+});
+
+test("trips of the return day and later are counted apart", () => {
+    const items = [{ old: trip(1, 1, 600) }, { old: trip(2, 1, 600, { day: "2026-03-12" }) }, { old: trip(3, 1, 600, { day: NEXT }) }];
+    assert.deepEqual([null, "2026-03-11", "2026-03-12", NEXT, "2026-03-18"].map((back) => plans.afterReturn({ back, items })), [0, 2, 2, 1, 0]);
 });

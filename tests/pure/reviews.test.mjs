@@ -3,7 +3,7 @@
 import assert from "node:assert/strict";
 import { test } from "node:test";
 
-import { correctionLine, doubtOf, nextOf, OUTCOMES, outcomesBy, rowKey, tapsOn, withArrival } from "../../pages/parts/reviews.js";
+import { correctionLine, doubtOf, nextOf, OUTCOMES, outcomesBy, rowKey, settledSince, tapsOn, withArrival } from "../../pages/parts/reviews.js";
 
 const WINDOW = { from: 545, to: 560 };
 
@@ -49,4 +49,12 @@ test("a row is the same one after a renewal, and a later entry is another one", 
     const row = { day: "2026-03-10", trip: 5, minute: 560, told: "ridden" };
     assert.equal(rowKey(row), rowKey({ ...row }));
     assert.notEqual(rowKey(row), rowKey({ ...row, minute: 561 }));
+});
+
+test("what somebody else settled since the trip was opened is known by its moment and outcome", () => {
+    const row = { day: "2026-03-10", trip: 5, outcome: "ridden", minute: 613 }, other = { ...row, trip: 6 };
+    assert.equal(settledSince([], [other], 5), null);
+    assert.equal(settledSince([row], [row, other], 5), null);
+    assert.equal(settledSince([], [other, row], 5), row);
+    for (const later of [{ ...row, minute: 614 }, { ...row, day: "2026-03-11" }, { ...row, outcome: "missed-rider" }]) assert.equal(settledSince([row], [later], 5), later);
 });

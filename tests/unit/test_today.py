@@ -297,6 +297,10 @@ def test_what_dispatch_has_not_looked_at_waits_over_days_and_comes_back_where_mo
     )
     waits = made(*lines, review)["unreviewed"]
     assert [it["trip"] for it in waits["no_shows"]] == [5] and not waits["disagreements"]
+    assert made(*lines, review)["settled"] == [
+        {"day": "2026-12-07", "trip": 7, "outcome": "ridden", "minute": 559},
+        {"day": "2026-12-07", "trip": 6, "outcome": "missed-rider", "minute": 560},
+    ]
     again = line(
         "disagreements",
         7,
