@@ -4,7 +4,7 @@ import sys
 
 sys.path.append(os.path.join(os.path.dirname(os.path.realpath(__file__)), "..", "..", "python"))
 from desk_tools import (
-    ending, event_log, events, holidays, law, miles, offers, outbox, review, served_copy, sponsors, telling, today, warehouse,
+    ending, event_log, events, holidays, law, miles, offers, outbox, rebooking, review, served_copy, sponsors, telling, today, warehouse,
 )
 from desk_tools.counting import counted
 from desk_tools.letters import on_record

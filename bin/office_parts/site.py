@@ -79,6 +79,8 @@ def list_waiting(top, folder, work, program):
             shutil.copy(f"{folder}/{building.DATABASE}{end_of_name}", f"{copy}{end_of_name}")
     words = [sys.executable, f"{top}/bin/worklist", copy, "--html", f"{folder}/{SITE}/{WAITING}"]
     words += ["--agency", f"{folder}/{building.AGENCY}", "--roster", f"{folder}/{building.ROSTER}", "--program", program]
+    # (before its first day the office has no log)
+    words += ["--tally", f"{folder}/{TALLY}"] if os.path.exists(f"{folder}/{TALLY}") else []
     subprocess.run(words, capture_output=True, stdin=subprocess.DEVNULL, check=False)
 
 

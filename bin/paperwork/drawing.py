@@ -2,7 +2,7 @@
 import datetime
 import html
 
-from paperwork.lists import Number, Rider
+from paperwork.lists import NOT_KNOWN, UNCOUNTED, Number, Rider
 
 # The site serves the page beside those of the office, and lets no style stand within it.
 STYLE = "/desk.css"
@@ -19,9 +19,20 @@ def cell_text(cell):
     return shown(str(cell.number if isinstance(cell, Rider) else cell))
 
 
+def count_of(listed):
+    """What a list counts, as it stands in its title: a number, or that it is not known; empty where it counts nothing."""
+    return str(len(listed.rows) if listed.count is None else listed.count)
+
+
+def titled(listed, title):
+    """A title with what the list counts."""
+    count = count_of(listed)
+    return title if count == UNCOUNTED else f"{title}: {count}"
+
+
 def list_text(listed):
     """A list as lines."""
-    lines = [f"{listed.title.upper()}: {len(listed.rows)}"] + ([listed.note] if listed.note else [])
+    lines = [titled(listed, listed.title.upper())] + ([listed.note] if listed.note else [])
     table = [listed.columns, *([cell_text(cell) for cell in row] for row in listed.rows)]
     widths = [max(map(len, column)) for column in zip(*table)]
     if listed.rows:
@@ -57,12 +68,12 @@ def table_html(listed, on_page):
 
 def list_html(listed, on_page):
     note = f"For the {listed.reader}. {listed.note}" if listed.reader else listed.note
-    title = html.escape(shown(listed.title))
-    count = f": {len(listed.rows)}" if listed.reader else ""
+    title = html.escape(shown(titled(listed, listed.title) if listed.reader else listed.title))
+    nothing = "" if NOT_KNOWN in count_of(listed) else "<p>Nothing waits here.</p>"
     return "\n".join([
         f'<section id="{listed.name}" aria-labelledby="title-{listed.name}">',
-        f'<h2 id="title-{listed.name}">{title}{count}</h2>', f"<p>{html.escape(note)}</p>" if note else "",
-        table_html(listed, on_page) if listed.rows else "<p>Nothing waits here.</p>", "</section>"])
+        f'<h2 id="title-{listed.name}">{title}</h2>', f"<p>{html.escape(note)}</p>" if note else "",
+        table_html(listed, on_page) if listed.rows else nothing, "</section>"])
 
 
 def file_html(listed, sentences, is_alone):
@@ -80,7 +91,7 @@ def paragraphs(sentences):
 def page(title, sentences, lists, files, notes=()):
     """The page: lists, and below them the case files, each with its sentences, or notes."""
     on_page = {int(it.name.removeprefix("rider-")) for it, _ in files}
-    links = [f'<li><a href="#{it.name}">{html.escape(it.title)}: {len(it.rows)}</a></li>' for it in lists if it.reader]
+    links = [f'<li><a href="#{it.name}">{html.escape(titled(it, it.title))}</a></li>' for it in lists if it.reader]
     below = ['<section aria-labelledby="title-files">', '<h2 id="title-files">Case files</h2>',
              *(file_html(listed, said, not lists) for listed, said in files), "</section>"] if files else []
     return "\n".join([

@@ -6,7 +6,7 @@ import collections
 
 from moving.limits import MANY_VERSIONS, MOST_VERSIONS
 from moving.tally_log import AGENCY
-from moving.typed import law, offers as told_offers
+from moving.typed import law, offers as told_offers, rebooking
 from moving.typed import today as day_file
 from paperwork import case_files, copies
 from paperwork.corrected import OUTCOMES
@@ -18,8 +18,10 @@ POLICIES = [copies.Policy(*it) for it in [(1, 100, 1), (2, 10, 30), (3, 10, 30),
 # What is to be done next for a grant in part; pages/words/on-record.js has the same words.
 TAKE, GRANT = "Take the new application", "Grant it with its conditions"
 
-# A list: its name, title, who works with it, what it means, its columns, and its rows of numbers, days and texts.
-Listed = collections.namedtuple("Listed", "name title reader note columns rows")
+# A list: its name, title, who works with it, what it means, its columns, and its rows of numbers, days and texts. The count
+# stands in the title where it is not that of the rows: a number, NOT_KNOWN, or UNCOUNTED.
+Listed = collections.namedtuple("Listed", "name title reader note columns rows count", defaults=(None,))
+NOT_KNOWN, UNCOUNTED = "not known", ""
 Rider = collections.namedtuple("Rider", "number")
 # A figure or the head of a column of figures, which go to the right.
 Number = collections.namedtuple("Number", "text")
@@ -38,10 +40,10 @@ class Names:
         return (Rider(number), self.riders.get(number, ""))
 
 
-def all_lists(copy, desk, today, names, log=None, corrected=None, closed=()):
+def all_lists(copy, desk, today, names, log=None, corrected=None, closed=None):
     """Each list, for today, and the riders whose case files somebody has to decide on. The desk serves the same copy, and
     says what stands. The log is the site's; corrected has the outcomes of corrections.csv, by trip, and is None where there
-    is no such file; closed has the words of the days on which nobody is served."""
+    is no such file; closed has the words of the days on which nobody is served, and is None where nobody knows them."""
     files, now = copy.case_files(), number_of(today)
     lists = [
         first(files, desk, now, names), applications(files, now, names), in_part(files, now, names), appeals(files, now, names), grants(files, now, names),
@@ -192,7 +194,7 @@ def policies(copy, now):
         "policies", "What a no-show policy would mean", "officer and manager",
         f"How many riders would have met each on some of the last {DAYS_LOOKED_BACK} days. What is beyond a rider's control "
         "is no ground (37.125(h)(1)): where many riders meet a policy, look at the vans first.",
-        ("No-shows", "Share", "Days", "Riders who meet it", "Riders with trips", ""), rows)
+        ("No-shows", "Share", "Days", "Riders who meet it", "Riders with trips", ""), rows, UNCOUNTED)
 
 
 def missed(files, counts, desk, now, names):
@@ -242,70 +244,95 @@ def without_outcome(copy, now, names):
     return Listed(
         "outcomes", "Trips without an outcome", "dispatcher",
         "Days before today. Until it has an outcome, a trip counts as neither ridden nor missed.",
-        ("Day", "Vehicle", "Trips", "Their numbers"), rows)
+        ("Day", "Vehicle", "Trips", "Their numbers"), rows, sum(map(len, days.values())))
 
 
 WITHOUT_LOG = "The site's log (--tally) was not given, so nobody knows what "
+# What of no-shows and disagreements is looked at.
+OF_LAST_DAYS = f"Of the last {day_file.DAYS_KEPT} days."
 
 
-def agency_canceled(log):
-    """The trips that the agency canceled, as far as the site's log says."""
-    return {it.trip for it in log.cancellations if it.by == AGENCY} if log else set()
+def by_log(log, count=None):
+    """The count of a list that comes from the site's log: NOT_KNOWN where there is no log."""
+    return count if log else NOT_KNOWN
 
 
 def on_closed_days(copy, log, now, names, closed):
-    """Trips of days on which nobody is served: those that are booked, and those that the agency canceled."""
-    days, ours = {number_of(it): word for it, word in dict(closed).items()}, agency_canceled(log)
+    """Trips of days on which nobody is served: those that are booked, and those that were canceled by the agency, or by nobody
+    knows whom."""
+    days, by = {number_of(it): word for it, word in dict(closed or ()).items()}, {it.trip: it.by for it in log.cancellations} if log else {}
+    found = [row for row in copy.rows("SELECT id, rider, day, vehicle, window_from, window_to, status FROM trips WHERE day >= ? "
+                                      "ORDER BY day, window_from, id", now) if row[2] in days]
     rows = [(*names.rider(rider), day_of(day), days[day], f"{clock(begins)} to {clock(ends)}", trip, vehicle_named(vehicle, names),
-             "canceled: call the rider" if status == copies.CANCELLED else "booked: cancel it")
-            for trip, rider, day, vehicle, begins, ends, status in copy.rows(
-                "SELECT id, rider, day, vehicle, window_from, window_to, status FROM trips WHERE day >= ? ORDER BY day, window_from, id", now)
-            if day in days and (status == copies.BOOKED or status == copies.CANCELLED and trip in ours)]
-    return Listed(
-        "closed", "Trips on closed days", "dispatcher",
-        "The agency's file names these days as closed. Cancel what is booked as the agency, and call each rider.",
-        ("Rider", "Name", "Day", "Closed for", "Window", "Trip", "Vehicle", "What to do"), rows)
+             "booked: cancel it" if status == copies.BOOKED else CANCELED_BY[by.get(trip)])
+            for trip, rider, day, vehicle, begins, ends, status in found
+            if status == copies.BOOKED or log and status == copies.CANCELLED and by.get(trip) in CANCELED_BY]
+    count = None if log or not any(it[-1] == copies.CANCELLED for it in found) else f"{len(rows)} booked, canceled ones {NOT_KNOWN}"
+    return Listed("closed", "Trips on closed days", "dispatcher", closed_told(log, closed),
+                  ("Rider", "Name", "Day", "Closed for", "Window", "Trip", "Vehicle", "What to do"), rows, NOT_KNOWN if closed is None else count)
 
 
-def rebooked(copy, log, now, names, closed=()):
+CANCELED_BY = {AGENCY: "canceled: call the rider", None: "canceled, not known by whom: call the rider"}
+
+
+def closed_told(log, closed):
+    """What the list of closed days means, and what it lacks."""
+    if closed is None:
+        return "The agency's file (--agency) was not given, so nobody knows which days are closed."
+    means = "The agency's file names these days as closed. Cancel what is booked as the agency, and call each rider."
+    return means if log else f"{means} {WITHOUT_LOG}the agency canceled: those trips are not here."
+
+
+def rebooked(copy, log, now, names, closed=None):
     """Trips from today on that the agency canceled: those whose riders have no other trip in their place, and those whose
     riders have one at another time and were not called. One of which the log says nothing may be the agency's: where a
     browser ended in the middle, its last word did not come. Days on which nobody is served are a list of their own."""
-    by, free = {it.trip: it.by for it in log.cancellations} if log else {}, {number_of(it) for it in dict(closed)}
+    by, free = {it.trip: it.by for it in log.cancellations} if log else {}, {number_of(it) for it in dict(closed or ())}
     # (whoever said no to an offer has lost no trip)
-    declined = told_offers.declined_offers(log.events) if log else set()
-    canceled, others = [], collections.defaultdict(list)
+    declined, rows, rides, lost = told_offers.declined_offers(log.events) if log else set(), {}, {}, []
     for row in copy.rows("SELECT id, rider, day, vehicle, origin, goal, window_from, window_to, status FROM trips "
                          "WHERE day >= ? ORDER BY day, window_from, id", now):
         is_ours = log and by.get(row[0], AGENCY) == AGENCY and row[2] not in free and row[0] not in declined
-        if row[-1] != copies.CANCELLED or is_ours:
-            others[row[1], row[2]].append(row)
+        rows[row[0]], rides[row[0]] = row, rebooking.Ride(*row[:3], *row[4:6], (row[6], row[7]))
         if row[-1] == copies.CANCELLED and is_ours:
-            canceled.append(row)
-    calls, without, moved = calls_of(log), [], []
-    for it in others.values():
-        it.sort()
-    for trip, rider, day, vehicle, origin, goal, begins, ends, _ in sorted(canceled):
-        window = f"{clock(begins)} to {clock(ends)}"
-        new = taken_out(others[rider, day], trip, (origin, goal), (begins, ends))
-        if not new:
-            without.append((*names.rider(rider), day_of(day), window, trip, origin, goal, vehicle_named(vehicle, names),
-                            by.get(trip, "not known"), calls.get(trip, "")))
-        elif trip in by and new[8] != copies.CANCELLED and new[6:8] != (begins, ends) and calls.get(trip) != CALLED:
-            moved.append((*names.rider(rider), day_of(day), window, trip, f"{clock(new[6])} to {clock(new[7])}", new[0],
-                          vehicle_named(new[3], names), calls.get(trip, "")))
-    without.sort(key=lambda it: (it[2], it[3], it[4]))
-    moved.sort(key=lambda it: (it[2], it[3], it[4]))
-    yield Listed(
+            lost.append(row[0])
+    found = rebooking.in_place(rides.values(), lost, rebooking.times_in(log.events if log else ()))
+    return [not_again(rows, [it for it in lost if it not in found], by, calls_of(log), log, names),
+            moved_to(rows, rebooking.heads(found), rides, found, calls_of(log), log, names)]
+
+
+def not_again(rows, trips, by, calls, log, names):
+    """Trips of which none stands in their place; in the order in which riders wait for them."""
+    unknown = sum(it not in by for it in trips)
+    told = [(*names.rider(rider), day_of(day), window_told(rows[trip]), trip, origin, goal, vehicle_named(vehicle, names), by.get(trip, NOT_KNOWN),
+             calls.get(trip, "")) for trip, rider, day, vehicle, origin, goal, *_ in (rows[it] for it in trips)]
+    return Listed(
         "canceled", "Canceled by the agency and not booked again", "dispatcher",
-        "The agency canceled these for a vehicle out of service, or the log does not say who did, and no other trip of that "
-        "day stands in their place. Call the rider, and book again." if log else f"{WITHOUT_LOG}the agency canceled.",
-        ("Rider", "Name", "Day", "Window", "Trip", "From", "To", "Vehicle", "Canceled by", "Call"), without)
-    yield Listed(
+        "The agency canceled these for a vehicle out of service, or the log does not say who did. No trip stands in their place: "
+        "none of that rider, day and way was booked since. Call the rider, and book again." if log else f"{WITHOUT_LOG}the agency canceled.",
+        ("Rider", "Name", "Day", "Window", "Trip", "From", "To", "Vehicle", "Canceled by", "Call"), told,
+        by_log(log, f"{len(told) - unknown}, and {unknown} by nobody knows whom" if unknown else len(told)))
+
+
+def moved_to(rows, firsts, rides, found, calls, log, names):
+    """Trips whose riders know another window than the one that they have now."""
+    called, moved = {trip for trip, word in calls.items() if word == CALLED}, []
+    for first in firsts:
+        old, new = rebooking.known_and_now(rides[first], found, called)
+        if rows[new.trip][-1] == copies.BOOKED and not rebooking.is_same_window(old.window, new.window):
+            moved.append((*names.rider(old.rider), day_of(old.day), window_told(rows[old.trip]), old.trip, window_told(rows[new.trip]), new.trip,
+                          vehicle_named(rows[new.trip][3], names), calls.get(old.trip, "")))
+    moved.sort(key=lambda it: (it[2], it[3], it[4]))
+    return Listed(
         "moved", "Moved by the agency, rider not called", "dispatcher",
-        "The agency canceled these for a vehicle out of service, and the trip in their place has another window. Call the "
-        "rider; a tick on the call list takes the row away." if log else f"{WITHOUT_LOG}the agency moved.",
-        ("Rider", "Name", "Day", "Old window", "Old trip", "New window", "New trip", "Vehicle", "Call"), moved)
+        "The agency canceled these for a vehicle out of service, and the window of the trip in their place is neither the same "
+        "nor within the old one. Call the rider; a tick on the call list takes the row away." if log else f"{WITHOUT_LOG}the agency moved.",
+        ("Rider", "Name", "Day", "Old window", "Old trip", "New window", "New trip", "Vehicle", "Call"), moved, by_log(log))
+
+
+def window_told(row):
+    """The pickup window of a trip's row."""
+    return f"{clock(row[6])} to {clock(row[7])}"
 
 
 CALLED, NOT_HERE = "called", "not in this copy"
@@ -356,9 +383,9 @@ def no_shows(copy, log, now, names):
                      "not tapped" if it.arrived is None else clock(it.arrived), it.wait, vehicle_named(it.vehicle, names), status, doubt_of(it)))
     return Listed(
         "no-shows", "No-shows to confirm", "dispatcher and officer",
-        "What the driver's phone has of each, until dispatch has settled it on Day. A van that came after the window was missed by "
-        "the agency." if log else f"{WITHOUT_LOG}speaks for a no-show.",
-        ("Rider", "Name", "Day", "Trip", "Window", "Arrived", "Minutes waited", "Vehicle", "On record", "Doubt"), rows)
+        f"{OF_LAST_DAYS} What the driver's phone has of each, until dispatch has settled it on Day. A van that came after the window was "
+        "missed by the agency." if log else f"{WITHOUT_LOG}speaks for a no-show.",
+        ("Rider", "Name", "Day", "Trip", "Window", "Arrived", "Minutes waited", "Vehicle", "On record", "Doubt"), rows, by_log(log, len({it.trip for it, _ in found})))
 
 
 def doubt_of(it):
@@ -380,9 +407,9 @@ def disagreements(copy, log, now, names):
                      clock(60 * it.at.hour + it.at.minute)))
     return Listed(
         "disagreements", "Entries that disagree", "dispatcher",
-        "A driver entered another outcome than the one on record. Ask the driver, and settle it on Day."
+        f"{OF_LAST_DAYS} A driver entered another outcome than the one on record. Ask the driver, and settle it on Day."
         if log else f"{WITHOUT_LOG}was entered twice.",
-        ("Rider", "Name", "Day", "Trip", "Vehicle", "On record", "Entered too", "At"), rows)
+        ("Rider", "Name", "Day", "Trip", "Vehicle", "On record", "Entered too", "At"), rows, by_log(log))
 
 
 def corrections(copy, log, corrected, names):
@@ -395,9 +422,10 @@ def corrections(copy, log, corrected, names):
             rows.append((*names.rider(rider), trip, record, right[trip]))
     return Listed(
         "corrections", "Corrections to write down", "dispatcher and manager",
-        "Dispatch found another outcome right than the one on record. Add a line to corrections.csv, so that reports count it."
-        + ("" if corrected is not None else " That file (--corrections) was not given."),
-        ("Rider", "Name", "Trip", "On record", "Right"), rows)
+        ("Dispatch found another outcome right than the one on record. Add a line to corrections.csv, so that reports count it."
+         + ("" if corrected is not None else " That file (--corrections) was not given: what it has already is here too."))
+        if log else f"{WITHOUT_LOG}dispatch found right.",
+        ("Rider", "Name", "Trip", "On record", "Right"), rows, by_log(log))
 
 
 MEANT = {"around": "around", "not-before": "not before", "by": "be there by"}
@@ -418,6 +446,10 @@ def offers(copy, log, today, names):
             "Call the rider: the trip is kept on a yes, and canceled as the agency's on a no.")
     return Listed(
         "offers", "Offers that wait for an answer", "clerk",
+<<<<<<< HEAD
+        note if log else f"{WITHOUT_LOG}was offered.",
+        ("Rider", "Name", "Day", "Asked for", "Window", "Trip", "From", "To"), rows, by_log(log))
+=======
         note if log else "The site's log (--tally) was not given, so nobody knows which offers wait.",
         ("Rider", "Name", "Day", "Asked for", "Window", "Trip", "From", "To"), rows)
 
@@ -431,6 +463,7 @@ def taken_out(others, number, way, window):
             others.remove(row)
             return row
     return None
+>>>>>>> main
 
 
 def vehicles(copy, now, names):
@@ -447,7 +480,7 @@ def vehicles(copy, now, names):
     return Listed(
         "vehicles", "Vehicles with trips ahead", "dispatcher and manager",
         "Trips from today on that stand after the vehicle's last version begins. A new version can begin on the last "
-        "column's day; for an earlier day those trips have to be moved or cancelled first.",
+        "column's day; for an earlier day those trips have to be moved or canceled first.",
         ("Vehicle", "Last version from", "Trips", "First day", "Last day", "Free from"), rows)
 
 

@@ -5,7 +5,7 @@ from moving.limits import Wrong
 from moving.typed import kept, reminder_settings
 from paperwork import copies
 from paperwork.copies import day_of, number_of
-from paperwork.lists import Listed, clock
+from paperwork.lists import NOT_KNOWN, Listed, clock
 
 DAYS_OF_ANSWERS, LAST_DIGITS = 7, 10
 
@@ -34,7 +34,8 @@ def failed(sent, booked, today, names):
     ran = (today.isoformat(), reminder_settings.EVENING) in sent.runs
     note = "Call these riders: their reminder did not go out, or nobody knows whether it did. A trip that was canceled since is not here."
     return Listed("reminders", "Reminders that did not go out", "dispatcher", note if ran else f"{note} {kept.NO_RUN}",
-                  ("Rider", "Name", "Day", "Window", "Trip", "Sent to", "Why not"), rows)
+                  ("Rider", "Name", "Day", "Window", "Trip", "Sent to", "Why not"), rows,
+                  None if ran else f"{len(rows)}, others {NOT_KNOWN}" if rows else NOT_KNOWN)
 
 
 def answers(sent, answered, booked, today, names):
@@ -49,7 +50,7 @@ def answers(sent, answered, booked, today, names):
     return Listed(
         "answers", "Answers to reminders", "clerk",
         "Call the rider. An answer such as C cancels nothing: cancel the trip at the desk once the rider has said so. A trip that was canceled or ridden leaves the list.",
-        ("Rider", "Name", "Day", "Trip", "From", "Answer", "At"), list(dict.fromkeys(rows)))
+        ("Rider", "Name", "Day", "Trip", "From", "Answer", "At"), list(dict.fromkeys(rows)), len({row[4:] for row in rows}))
 
 
 def day_of_text(at):

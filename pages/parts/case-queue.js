@@ -1,6 +1,6 @@
 // The queue of an examiner and of an officer: the cases on the night's list, those with the fewest days left first. Nothing here knows of a page.
 
-/** @typedef {{ heads: string[], values: string[][] }} Table a list of what waits, as programs read it */
+/** @typedef {{ heads: string[], rows: string[][] }} Table a list of what waits; its days are YYYY-MM-DD */
 /** @typedef {"application" | "appeal" | "hearing" | "missed"} Kind what waits: a decision of an application, of an appeal that was heard, an appeal's hearing, a pattern of missed trips */
 /** @typedef {{ rider: number, name: string, kind: Kind, since: string | null, due: string | null, left: number | null, of: number | null, words: string }} Case
  *     since and due are days; left is the days until due, 0 today and less than 0 past it; of is the days from since to due; words are what else the list says */
@@ -37,7 +37,7 @@ const urgentFirst = (a, b) => (a.left ?? Infinity) - (b.left ?? Infinity) || (a.
  * @param {"examiner" | "officer" | "suspensions"} reader @param {{ id: string, tables: Table[] }[]} lists @param {string} today @returns {Case[]}
  */
 export const queueOf = (reader, lists, today) => OWN[reader].flatMap((kind) => lists.filter(({ id }) => id === kind.list).flatMap(({ tables }) => tables)
-    .flatMap((table) => table.values.filter(([rider]) => /^\d+$/.test(rider)).map((row) => caseIn(kind, table, row, today)))).sort(urgentFirst);
+    .flatMap((table) => table.rows.filter(([rider]) => /^\d+$/.test(rider)).map((row) => caseIn(kind, table, row, today)))).sort(urgentFirst);
 
 /** How a case's days stand: past the last day, the last five, or more.
  * @param {Case} it @returns {"past" | "soon" | "time" | "none"}

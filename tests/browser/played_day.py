@@ -12,6 +12,7 @@ import os
 import re
 import subprocess
 import time
+import urllib.parse
 from collections import Counter
 
 import driver as phone
@@ -422,6 +423,13 @@ def a_tick_of_another_machine_is_seen_here(at):
 # One o'clock: a van for a week, and the dispatcher's key is replaced in the middle.
 
 
+def canceled_at(at, trip):
+    """When a trip was canceled, as the site has been told, or None."""
+    with open(f"{at.town.folder}/tally.log", encoding="utf-8") as log:
+        parts = [urllib.parse.parse_qs(line.split("\t")[2]) for line in log if "\t/tally/cancellations\t" in line]
+    return next((it["at"][0] for it in parts if it["trip"] == [str(trip)]), None)
+
+
 def replace_key(at):
     digest = hashlib.sha256(NEW_KEY.encode()).hexdigest()
     at.town.number += 1_000_000
@@ -458,8 +466,10 @@ def a_van_goes_for_a_week_and_a_new_key_goes_on_where_the_old_one_ended(at):
     gone = [row for row in rows if trip_status(at, row) == "cancelled"]
     holds(f"{len(gone)} of {len(rows)} are cancelled", gone)
     # (one of them rings, and a clerk books her again)
-    anew = next(row for row in gone if not any(it["rider"] == row["rider"] and it["day"] == row["day"] and it["trip"] != row["trip"] for it in rows))
+    anew = next(row for row in gone if canceled_at(at, row["trip"]) and not any(it["rider"] == row["rider"] and it["day"] == row["day"] and it["trip"] != row["trip"] for it in rows))
     STORY.anew.append(at.town.book(anew["rider"], anew.get("day") or day_of(anew), anew["window_from"] + 30, anew["from"], anew["to"]))
+    Teller(at.town).tells_as("third clerk", "bookings", {"id": key_for("booked anew"), "day": anew.get("day") or day_of(anew), "trip": STORY.anew[-1], "mode": "around",
+                                                         "minute": anew["window_from"], "from": anew["window_from"], "to": anew["window_to"], "channel": "page", "at": canceled_at(at, anew["trip"])})
     worklist = today_lists(at)["canceled"]
     same("cancelled and not booked again, by What waits", sorted([*left, *(row["trip"] for row in gone if row["trip"] != anew["trip"])]), sorted(int(it[4]) for it in worklist))
     at.browser.sign_in(NEW_KEY, "dispatcher", "out")

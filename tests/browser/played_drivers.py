@@ -105,10 +105,14 @@ class Teller:
         raise Trouble(f"the site does not take {path}")
 
     def tells(self, van, kind, fields):
+        self.tells_as(f"driver {van}", kind, fields)
+
+    def tells_as(self, holder, kind, fields):
+        """Tells the site an event by the key of whoever this is."""
         path = events.path_of(kind, fields)
-        status, text = self.send(path, {"Desk-Key": self.town.keys[f"driver {van}"]})
+        status, text = self.send(path, {"Desk-Key": self.town.keys[holder]})
         if status != 204:
-            raise Trouble(f"{path} of van {van} is {status} {text}")
+            raise Trouble(f"{path} of {holder} is {status} {text}")
 
     def outcome(self, van, trip, outcome):
         """The desk's reply; another phone of the van may have used a higher number."""

@@ -5,7 +5,7 @@ import { queueOf, shareOver, urgencyOf } from "../../pages/parts/case-queue.js";
 
 const TODAY = "2026-11-30";
 const day = (more) => new Date(Date.parse(TODAY) + more * 86_400_000).toISOString().slice(0, 10);
-const list = (id, heads, values) => ({ id, tables: [{ heads, values }] });
+const list = (id, heads, rows) => ({ id, tables: [{ heads, rows }] });
 const applications = (...since) => list("applications", ["Rider", "Name", "Complete on", "Presumed from", "When"],
     since.map((it, at) => [String(100 + at), `Name ${at}`, day(it), day(it + 21), "in some days"]));
 const APPEALS = list("appeals", ["Rider", "Name", "Against", "Filed on", "Heard on", "Overdue from", "When"], [

@@ -1,5 +1,6 @@
 // The plan of a vehicle that is out of service, over a small desk of its own that can fail at each request.
 import assert from "node:assert/strict";
+import { readFileSync } from "node:fs";
 import test from "node:test";
 import * as plans from "../../pages/parts/out-of-service.js";
 
@@ -80,6 +81,16 @@ test("each rider is booked again, whose pickup is nearest first, in the old wind
     assert.deepEqual(plan.items.map((it) => it.step), ["again", "again", "again"]);
     assert.deepEqual(plan.items.map(plans.movedBy), [0, 0, 0]);
     assert.deepEqual(desk.all().filter((it) => it.trip > 12).sort((a, b) => a.trip - b.trip).map((it) => it.rider), [2, 3, 1]);
+});
+
+test("the page and bin/worklist have one rule of the same window", () => {
+    const cases = JSON.parse(readFileSync(new URL("../windows/same.json", import.meta.url), "utf8"));
+    const ofTrip = ([begins, ends]) => ({ window_from: begins, window_to: ends });
+    for (const it of cases) {
+        const item = { old: ofTrip(it.old), ticket: ofTrip(it.new) };
+        assert.equal(plans.isSameWindow(item), it.same, JSON.stringify(it));
+        assert.equal(plans.movedBy(item) === 0, it.same, JSON.stringify(it));
+    }
 });
 
 test("a window holds where the new one is the same or within it; else it is said by how much it differs", () => {
