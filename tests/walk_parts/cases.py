@@ -35,7 +35,8 @@ ENTRIES = {"in-part": "refuse", "rest": "grant"}
 KINDS = ("complete", "grant", "in-part", "rest", "refuse", "heard", "appeal-granted", "appeal-denied", "overturn", "notice", "notice-heard", "suspend")
 # Of entries in a row at most four have no letter.
 WITHOUT_LETTER = 4
-ISO = re.compile(r"\d{4}-\d\d-\d\d")
+# A cell that is marked as a day: a page writes it in its reader's language.
+DAY = re.compile(r"@(\d{4}-\d\d-\d\d)")
 LONG_EN, LONG_ES = re.compile(r"[A-Z]\w+day, ([A-Z]\w+ \d{1,2}, \d{4})"), re.compile(r"(\d{1,2}) de (\w+) de (\d{4})")
 
 
@@ -170,16 +171,18 @@ class Lists(HTMLParser):
 
     def handle_data(self, data: str) -> None:
         if self.cell:
-            self.rows[self.list][-1][-1] += self.day or data
+            self.rows[self.list][-1][-1] += f"@{self.day}" if self.day else data
 
 
 def is_cell(shown: str, cell: str, today: str, language: str) -> bool:
     """Whether a cell is shown: a day as the reader's language has it, without its year where that is this one."""
-    if not ISO.fullmatch(cell):
+    marked = DAY.fullmatch(cell)
+    if not marked:
         return shown == cell
+    day = marked[1]
     if language != "en":
-        return bool(re.search(rf"(?<!\d){int(cell[8:])}(?!\d)", shown))
-    return shown == (speech.day_short(cell) if cell[:4] == today[:4] else speech.day_long(cell))
+        return bool(re.search(rf"(?<!\d){int(day[8:])}(?!\d)", shown))
+    return shown == (speech.day_short(day) if day[:4] == today[:4] else speech.day_long(day))
 
 
 def fault_of_lists(shown: list[dict[str, Any]], text: str, left_out: set[str], today: str = "", language: str = "en") -> str | None:
