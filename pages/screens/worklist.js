@@ -97,7 +97,7 @@ function partsOf(reader, lists, told) {
 const riderCell = (rider, address) => (address && /^\d+$/.test(rider) ? button(rider, () => {
     keepSubject("rider", Number(rider));
     location.hash = address;
-}, { class: "small", "aria-label": t("cases.waits-open", { rider }) }) : rider);
+}, { class: "small", "aria-label": t("cases.waits-open", { rider }) }) : cellWords(rider));
 
 /** @param {List} list @param {string} [address] */
 const tablesOf = ({ title, tables }, address = "") => tables.map(({ heads, rows }) => table(title, heads.map((head, at) => ({ head,

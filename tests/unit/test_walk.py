@@ -176,3 +176,13 @@ def test_what_waits_is_the_nights_list() -> None:
     assert fault(["7", "by Monday"], ["8", "now"]) is None
     assert "lacks" in str(fault(["7", "by Monday"]))
     assert "of its own" in str(fault(["7", "by Monday"], ["8", "now"], ["9", ""]))
+    day = '<section id=first><table><tbody><tr><td><time datetime="2025-05-19">Mon, May 19, 2025</time></td></tr></tbody></table></section>'
+
+    def of_day(shown: str, today: str, language: str = "en") -> str | None:
+        return cases.fault_of_lists([{"rows": [[shown]]}], day, set(), today, language)
+
+    assert of_day("Mon, May 19", "2025-05-20") is None
+    assert "lacks" in str(of_day("Mon, May 18", "2025-05-20"))
+    assert of_day("Monday, May 19, 2025", "2026-01-02") is None
+    assert "lacks" in str(of_day("Mon, May 19", "2026-01-02"))
+    assert of_day("lun, 19 may", "2025-05-20", "es") is None

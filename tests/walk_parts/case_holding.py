@@ -33,7 +33,7 @@ def faults(walker: "Walker", given: dict[str, Any] | None) -> Iterator[tuple[str
     yield from said_as_done(walker, case["done"])
     reader, _, part = walker.look.address.lstrip("#").partition("/")
     if part == "waits" and reader in LIVE and walker.here.role in LIVE and (rows := walker.browser.script(cases.ROWS)):
-        found = [cases.fault_of_lists(rows, text, LIVE[reader]) for text in town.worklists[-2:]]
+        found = [cases.fault_of_lists(rows, text, LIVE[reader], town.today, language) for text in town.worklists[-2:]]
         yield from told(walker, AGE, None if None in found else found[-1])
 
 

@@ -35,6 +35,8 @@ ENTRIES = {"in-part": "refuse", "rest": "grant"}
 KINDS = ("complete", "grant", "in-part", "rest", "refuse", "heard", "appeal-granted", "appeal-denied", "overturn", "notice", "notice-heard", "suspend")
 # Of entries in a row at most four have no letter.
 WITHOUT_LETTER = 4
+# A cell that is marked as a day: a page writes it in its reader's language.
+DAY = re.compile(r"@(\d{4}-\d\d-\d\d)")
 LONG_EN, LONG_ES = re.compile(r"[A-Z]\w+day, ([A-Z]\w+ \d{1,2}, \d{4})"), re.compile(r"(\d{1,2}) de (\w+) de (\d{4})")
 
 
@@ -143,7 +145,7 @@ class Lists(HTMLParser):
     def __init__(self, text: str) -> None:
         super().__init__()
         self.rows: dict[str, list[list[str]]] = {}
-        self.list, self.cell, self.in_body = "", False, False
+        self.list, self.cell, self.in_body, self.day = "", False, False, ""
         self.feed(text)
 
     def handle_starttag(self, tag: str, attrs: list[tuple[str, str | None]]) -> None:
@@ -158,20 +160,40 @@ class Lists(HTMLParser):
         if tag in ("td", "th") and self.in_body and self.list and self.rows[self.list]:
             self.cell = True
             self.rows[self.list][-1].append("")
+        if tag == "time":
+            self.day = dict(attrs).get("datetime") or ""
 
     def handle_endtag(self, tag: str) -> None:
         if tag in ("td", "th"):
             self.cell = False
+        if tag == "time":
+            self.day = ""
 
     def handle_data(self, data: str) -> None:
         if self.cell:
-            self.rows[self.list][-1][-1] += data
+            self.rows[self.list][-1][-1] += f"@{self.day}" if self.day else data
 
 
-def fault_of_lists(shown: list[dict[str, Any]], text: str, left_out: set[str]) -> str | None:
+def is_cell(shown: str, cell: str, today: str, language: str) -> bool:
+    """Whether a cell is shown: a day as the reader's language has it, without its year where that is this one."""
+    marked = DAY.fullmatch(cell)
+    if not marked:
+        return shown == cell
+    day = marked[1]
+    if language != "en":
+        return bool(re.search(rf"(?<!\d){int(day[8:])}(?!\d)", shown))
+    return shown == (speech.day_short(day) if day[:4] == today[:4] else speech.day_long(day))
+
+
+def fault_of_lists(shown: list[dict[str, Any]], text: str, left_out: set[str], today: str = "", language: str = "en") -> str | None:
     """How the lists of what waits differ from the night's list, or None."""
     lists = {name: rows for name, rows in Lists(text).rows.items() if name and name not in left_out | {"folded"}}
-    wanted = sorted(" ".join(" ".join(row).split()) for rows in lists.values() for row in rows)
-    got = sorted(" ".join(" ".join(row).split()) for it in shown for row in it["rows"])
-    lacks, has = [it for it in wanted if it not in got], [it for it in got if it not in wanted]
-    return f"what waits lacks {lacks[:3]} and has {has[:3]} of its own" if lacks or has or len(wanted) != len(got) else None
+    lacks = [[" ".join(cell.split()) for cell in row] for rows in lists.values() for row in rows]
+    has = []
+    for got in ([" ".join(cell.split()) for cell in row] for it in shown for row in it["rows"]):
+        same = next((row for row in lacks if len(row) == len(got) and all(is_cell(one, cell, today, language) for one, cell in zip(got, row, strict=True))), None)
+        if same is None:
+            has.append(got)
+        else:
+            lacks.remove(same)
+    return f"what waits lacks {lacks[:3]} and has {has[:3]} of its own" if lacks or has else None
