@@ -17,6 +17,9 @@ from desk_tools.event_log import Told
 
 # A moment by the agency's clock, and the place in the log, which settles two events of one second.
 Moment = tuple[datetime.datetime, int]
+# A page goes by the site's clock, which replies tell to the second alone: of one action, a booking may seem to come a
+# second or two before the cancellation that it followed.
+SLACK = datetime.timedelta(seconds=5)
 # Minutes of the day: when the pickup window begins and ends.
 Window = tuple[int, int]
 
@@ -56,7 +59,9 @@ class Times:
 
 
 def times_in(events: Iterable[Told]) -> Times:
-    """The first booking of each trip, since what comes later is a change; and its last cancellation."""
+    """The first booking of each trip, since what comes later is a change; and its last cancellation.
+
+    A booking counts as five seconds later than it was told: see SLACK."""
     booked: dict[int, Moment] = {}
     canceled: dict[int, Moment] = {}
     named: list[tuple[Moment, int, str]] = []
@@ -67,7 +72,8 @@ def times_in(events: Iterable[Told]) -> Times:
         moment = at, place
         named.append((moment, trip, it.kind))
         if it.kind == "bookings":
-            booked[trip] = min(moment, booked.get(trip, moment))
+            late = at + SLACK, place
+            booked[trip] = min(late, booked.get(trip, late))
         elif it.kind == "cancellations":
             canceled[trip] = max(moment, canceled.get(trip, moment))
     return Times(booked, canceled, tuple(_new_in(named)))
@@ -78,7 +84,7 @@ def _new_in(named: list[tuple[Moment, int, str]]) -> Iterator[tuple[int, Moment]
     highest = 0
     for moment, trip, kind in sorted(named):
         if trip > highest and kind == "bookings":
-            yield trip, moment
+            yield trip, (moment[0] + SLACK, moment[1])
         highest = max(highest, trip)
 
 

@@ -11,6 +11,7 @@ import pytest
 
 from desk_tools.event_log import Told
 from desk_tools.rebooking import (
+    SLACK,
     Moment,
     Ride,
     Times,
@@ -151,7 +152,7 @@ def test_a_change_is_no_new_booking_and_the_last_cancellation_counts() -> None:
     events = [told("bookings", 2, 0), told("cancellations", 1, 1), told("bookings", 2, 2)]
     events += [told("calls", 1, 3), told("cancellations", 1, 4)]
     times = times_in(events)
-    assert times.booked == {2: (START, 0)}
+    assert times.booked == {2: (START + SLACK, 0)}
     assert times.new == ((2, (START, 0)),)
     changed = [told("cancellations", 30, 0), told("bookings", 12, 1), told("bookings", 31, 2)]
     assert [trip for trip, _ in times_in(changed).new] == [31]
@@ -174,3 +175,15 @@ def test_a_call_about_a_lost_trip_told_of_the_one_in_its_place(
 @pytest.mark.parametrize("case", CASES)
 def test_a_window_holds_where_the_new_one_is_the_same_or_within_it(case: dict[str, Any]) -> None:
     assert is_same_window(tuple(case["old"]), tuple(case["new"])) is case["same"]
+
+
+def test_a_booking_may_be_told_some_seconds_before_the_cancellation_of_its_action() -> None:
+    lost, anew = (Ride(trip, 7, 20, 1, 2, (600, 630)) for trip in (1, 2))
+    for early in range(0, 12):
+        moments = [START + datetime.timedelta(seconds=early), START]
+        events = [
+            Told(kind, it.replace(tzinfo=datetime.timezone.utc), "office", {"trip": trip, "at": it})
+            for kind, trip, it in zip(("cancellations", "bookings"), (1, 2), moments)
+        ]
+        found = in_place([lost, anew], [1], times_in(events))
+        assert found == ({1: anew} if early <= 5 else {}), early
