@@ -153,7 +153,7 @@ def test_a_change_is_no_new_booking_and_the_last_cancellation_counts() -> None:
     events += [told("calls", 1, 3), told("cancellations", 1, 4)]
     times = times_in(events)
     assert times.booked == {2: (START + SLACK, 0)}
-    assert times.new == ((2, (START, 0)),)
+    assert times.new == ((2, (START + SLACK, 0)),)
     changed = [told("cancellations", 30, 0), told("bookings", 12, 1), told("bookings", 31, 2)]
     assert [trip for trip, _ in times_in(changed).new] == [31]
     assert times.canceled == {1: (START + datetime.timedelta(minutes=4), 4)}
