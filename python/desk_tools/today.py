@@ -338,7 +338,10 @@ def _calls(events: list[Told], said: Callable[[Told], object]) -> dict[str, dict
 def _unreviewed(
     events: list[Told], today: datetime.date, zone: datetime.tzinfo
 ) -> dict[str, list[dict[str, object]]]:
-    """No-shows and disagreements of the last days at which nobody of dispatch has looked since, each with its day."""
+    """No-shows and disagreements of the last days at which nobody of dispatch has looked since, each with its day.
+
+    A phone that asked the desk twice may have told the same of one trip twice: that is one."""
+    known: set[tuple[object, ...]] = set()
     reviewed = {it.fields["trip"]: _at(it, zone) for it in events if it.kind == "reviews"}
     found: dict[str, list[dict[str, object]]] = {"no_shows": [], "disagreements": []}
     for it in events:
@@ -352,6 +355,10 @@ def _unreviewed(
             if it.kind == "no-shows"
             else ("trip", "vehicle", "record", "told")
         )
+        same = (it.kind, day, *(it.fields.get(name) for name in names))
+        if same in known:
+            continue
+        known.add(same)
         told: dict[str, object] = {"day": day.isoformat(), **_row(it, zone, *names)}
         found[it.kind.replace("-", "_")].append(told)
     return found

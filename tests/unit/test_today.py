@@ -311,6 +311,8 @@ def test_what_dispatch_has_not_looked_at_waits_over_days_and_comes_back_where_mo
         at="2026-12-07T09:19:30",
     )
     assert [it["trip"] for it in made(*lines, review, again)["unreviewed"]["disagreements"]] == [7]
+    # (a phone that asked twice: one disagreement, until dispatch has looked at it)
+    assert [it["trip"] for it in made(*lines, again)["unreviewed"]["disagreements"]] == [7]
 
 
 def test_a_tap_that_comes_a_day_late_and_a_phone_with_the_wrong_date_are_named() -> None:
