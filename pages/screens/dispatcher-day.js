@@ -2,7 +2,6 @@
 
 import { placeName, vehicleName } from "../parts/agency.js";
 import { between, clock, dayInWords, minuteNow, today } from "../parts/clock.js";
-import { denialOf } from "../parts/denials.js";
 import { button, part, say } from "../parts/element.js";
 import { dropText, keptText } from "../parts/kept.js";
 import { printDaySheet, printManifests } from "../parts/paper-day.js";
@@ -13,7 +12,7 @@ import { bringIntoView, doingWords, hoursOf, legend, scaleOf, stopWords, tableOf
 import { fits, searchText, vanFirst } from "../parts/trip-search.js";
 import { t } from "../parts/words.js";
 import { attention, attentionBar, readUnplaced, vansIn } from "./dispatcher-attention.js";
-import { dayBar, nowOn, STOP, theDay } from "./dispatcher-bar.js";
+import { dayBar, dayDenied, nowOn, STOP, theDay } from "./dispatcher-bar.js";
 import { dutyOn, dutyRead, noteButton, notesList, notesOn } from "./dispatcher-notes.js";
 import { dayNow, dayRead, driversRead, toldNow } from "./dispatcher-reads.js";
 import { roomTable } from "./dispatcher-room.js";
@@ -270,7 +269,7 @@ export function dayPicture() {
             change(({ asRoom }) => ({ asRoom: !asRoom }));
             fill();
         } };
-        return [dayBar({ ...state, go, kept }), dayRead(state.day).age(), state.denied ? denialOf(state.denied) : state.text === null ? part("p", {}, t("dispatcher.reading"))
+        return [dayBar({ ...state, go, kept }), dayRead(state.day).age(), state.denied ? dayDenied(state.denied) : state.text === null ? part("p", {}, t("dispatcher.reading"))
             : [part("div", { class: "finding" }, attentionBar(known.needs, { told: state.told, unplaced: state.unplaced, isToday: state.day === today(), go: show, review: look }), searchRow(state, known, finding)),
                 part("div", { class: known.one ? "day-view with-one" : "day-view" }, pictureCard(state, known, acts), oneVan(state, known, { close, noted: () => change(({ noted }) => ({ noted: noted + 1 })) }))]];
     } });

@@ -14,7 +14,7 @@ import { manifestsIn, rowsIn } from "../parts/texts.js";
 import { fits, searchText } from "../parts/trip-search.js";
 import { language, t } from "../parts/words.js";
 import { dollars, statusOf, windowOf } from "./booking.js";
-import { dayBar, nowOn, STOP, theDay } from "./dispatcher-bar.js";
+import { dayBar, dayDenied, nowOn, STOP, theDay } from "./dispatcher-bar.js";
 import { saveCsv, spreadsheetOf } from "./dispatcher-files.js";
 import { notesList, notesOn } from "./dispatcher-notes.js";
 import { dayNow, dayRead, driversRead, toldNow } from "./dispatcher-reads.js";
@@ -233,7 +233,7 @@ export function dayTrips() {
             change({ ...firstState(day), typed: state.typed, order: state.order });
             follow();
         };
-        return [dayBar({ ...state, go, kept }), dayRead(state.day).age(), state.denied ? denialOf(state.denied) : state.text === null ? part("p", {}, t("dispatcher.reading"))
+        return [dayBar({ ...state, go, kept }), dayRead(state.day).age(), state.denied ? dayDenied(state.denied) : state.text === null ? part("p", {}, t("dispatcher.reading"))
             : tripsCard(state, acts)];
     } });
     let leave = () => {};

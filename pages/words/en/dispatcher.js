@@ -36,6 +36,7 @@ export const words = {
     "dispatcher.today": "Today",
     "dispatcher.day-after": "Day after",
     "dispatcher.is-today": "today",
+    "dispatcher.sign-in-again": "Sign in again",
     "dispatcher.is-tomorrow": "tomorrow",
     "dispatcher.is-over": "this day is over",
     "dispatcher.is-to-come": "this day is to come",

@@ -36,6 +36,7 @@ export const words = {
     "dispatcher.today": "Hoy",
     "dispatcher.day-after": "Día siguiente",
     "dispatcher.is-today": "hoy",
+    "dispatcher.sign-in-again": "Iniciar sesión de nuevo",
     "dispatcher.is-tomorrow": "mañana",
     "dispatcher.is-over": "este día ya pasó",
     "dispatcher.is-to-come": "este día aún no llega",
