@@ -316,7 +316,9 @@ def test_what_dispatch_has_not_looked_at_waits_over_days_and_comes_back_where_mo
 def test_notes_of_the_day_before_stay_with_that_day() -> None:
     notes = [
         line("notes", 1, vehicle=4, day="2026-12-05", trip=0, text="old", at="2026-12-05T10:00:00"),
-        line("notes", 2, vehicle=4, day="2026-12-06", trip=0, text="flat", at="2026-12-06T10:15:00"),
+        line(
+            "notes", 2, vehicle=4, day="2026-12-06", trip=0, text="flat", at="2026-12-06T10:15:00"
+        ),
         line("notes", 3, vehicle=4, day="2026-12-07", trip=9, text="new", at="2026-12-07T09:00:00"),
     ]
     told = made(*notes)
