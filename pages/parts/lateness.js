@@ -15,7 +15,7 @@ import { carried, progressOf } from "./delay.js";
 /** @typedef {{ day: string, trip: number, vehicle: number, record: string, told: string, minute: number }} Disagreement */
 /** @typedef {{ vehicle: number, trip: number, text: string, minute: number }} Note */
 /** @typedef {{ day: string, trip: number, outcome: string, minute: number }} Settled the outcome that dispatch last found right, and when */
-/** @typedef {{ day: string, made: number, vehicles: Map<number, Tap[]>, notes: Note[], noShows: NoShow[], disagreements: Disagreement[], settled: Settled[], late: { vehicle: number, at: string }[] }} Told late are taps of an
+/** @typedef {{ day: string, made: number, vehicles: Map<number, Tap[]>, notes: Note[], earlier: (Note & { day: string })[], noShows: NoShow[], disagreements: Disagreement[], settled: Settled[], late: { vehicle: number, at: string }[] }} Told late are taps of an
  *   earlier day that came today; noShows and disagreements are those of the
  *   last days at which nobody of dispatch has looked */
 
@@ -36,12 +36,17 @@ export function toldIn(text, day, now) {
         if (it?.day !== day || !(now - made < OLDEST)) return null;
         const vehicles = Object.entries(it.vehicles ?? {}).map(([id, van]) => /** @type {[number, Tap[]]} */ ([Number(id), listIn(van?.taps).filter((tap) => isNumber(tap.trip)
             && isNumber(tap.minute))]));
-        return { day, made, vehicles: new Map(vehicles), notes: listIn(it.notes), noShows: listIn(it.unreviewed?.no_shows), disagreements: listIn(it.unreviewed?.disagreements),
+        return { day, made, vehicles: new Map(vehicles), notes: listIn(it.notes), earlier: listIn(it.earlier_notes), noShows: listIn(it.unreviewed?.no_shows), disagreements: listIn(it.unreviewed?.disagreements),
             settled: listIn(it.settled).filter(({ trip, minute }) => isNumber(trip) && isNumber(minute)), late: listIn(it.late).filter((tap) => isNumber(tap.vehicle) && typeof tap.at === "string") };
     } catch {
         return null;
     }
 }
+
+/** The notes of a day, as far as the file of today has them: today's, and those of the day before.
+ * @param {Told | null} told @param {string} day @returns {Note[]}
+ */
+export const notesOfDay = (told, day) => (told?.day === day ? told.notes : (told?.earlier ?? []).filter((it) => it.day === day));
 
 /** Whether what was told is fresh still.
  * @param {Told} told @param {number} now milliseconds

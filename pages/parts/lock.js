@@ -17,9 +17,14 @@ export const heardNow = (now) => ({ at: now, seen: now, ran: 0 });
  * @returns {Heard} */
 export const later = ({ at, seen, ran: before }, now, ran) => ({ at, seen: Math.max(seen, now), ran: before + Math.max(0, ran) });
 
+/** Whether the phone's clock was set back by more than a correction, so that it locks at once.
+ * @param {Heard} heard @param {number} now the phone's clock */
+export const isSetBack = ({ seen }, now) => now < seen - CORRECTED * MINUTE;
+
 /** Milliseconds until the phone locks; 0: it is locked.
  * @param {Heard} heard @param {number} now the phone's clock @param {number} minutes the agency's */
-export function leftUntilLock({ at, seen, ran }, now, minutes) {
-    if (now < seen - CORRECTED * MINUTE) return 0;
+export function leftUntilLock(heard, now, minutes) {
+    const { at, seen, ran } = heard;
+    if (isSetBack(heard, now)) return 0;
     return Math.max(0, minutes * MINUTE - Math.max(seen - at, now - at, ran));
 }

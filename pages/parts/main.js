@@ -472,6 +472,7 @@ await useWords("common", "signing");
 whenNotKept(() => note("not-kept", () => t("common.not-kept")));
 window.addEventListener("hashchange", () => show());
 window.addEventListener("desk.key-gone", keyGone);
+window.addEventListener("desk.leave", leaveByHand);
 window.addEventListener("desk.stay-gone", stayGone);
 window.addEventListener("desk.look", showLooks);
 window.addEventListener("keydown", slash);

@@ -2,7 +2,7 @@
 // stands as it is on pages of its own where one asks for it.
 
 import { agency, placeName, placeNote, vehicleName } from "./agency.js";
-import { between, clock, dayInWords } from "./clock.js";
+import { between, clock, dayInWords, minuteNow, today } from "./clock.js";
 import { drawInto, found, part } from "./element.js";
 import { printParts, trialMark } from "./paper.js";
 import { pagesOf } from "./paper-pages.js";
@@ -44,13 +44,14 @@ const whatWords = ({ what, trip }) => (what === "DEPOT" ? t("dispatcher.depot") 
 const notesWords = (notes) => notes.length > 0 && part("em", { class: "noted" }, ` ${notes.map(({ minute, text }) => t("dispatcher.note-at", { time: clock(minute), text })).join("; ")}`);
 
 /** Who it is, what the roster says of who comes aboard, and where. A drop is one line: its rider is aboard, and is known.
- * @param {Stop} stop @param {{ minute: number, text: string }[]} notes
+ * @param {Stop} stop @param {{ minute: number, text: string }[]} notes @param {string} over how its trip ended, or empty
  */
-function whoAndWhere(stop, notes) {
+function whoAndWhere(stop, notes, over) {
+    const ended = over && [" ", part("strong", { class: "over" }, t("dispatcher.paper-over", { outcome: t(`dispatcher.paper-over-${over}`) }))];
     if (stop.what === "DEPOT") return [part("strong", {}, whatWords(stop)), ` ${placeWords(stop.place)}`];
-    if (stop.what === "DROP") return [part("strong", {}, whatWords(stop)), ` ${riderLabel(Number(stop.rider))}, ${stopWhere(stop)}`];
+    if (stop.what === "DROP") return [part("strong", {}, whatWords(stop)), ` ${riderLabel(Number(stop.rider))}, ${stopWhere(stop)}`, ended];
     const note = [stopNote(stop), placeNote(stop.place)].filter(Boolean).join(", "), rider = riderOf(Number(stop.rider)), more = [rider?.aid, rider?.note, agency().manifest_telephone && rider?.telephone].filter(Boolean).join("; ");
-    return [part("strong", {}, whatWords(stop)), ` ${riderLabel(Number(stop.rider))}`, more && part("span", { class: "more" }, ` (${more})`), part("br"), stopWhere(stop),
+    return [part("strong", {}, whatWords(stop)), ` ${riderLabel(Number(stop.rider))}`, more && part("span", { class: "more" }, ` (${more})`), ended, part("br"), stopWhere(stop),
         note && part("span", { class: "more" }, `, ${note}`), notesWords(notes)];
 }
 
@@ -62,11 +63,11 @@ function partyAndFare({ what, trip, people, wheelchairs }, dues) {
 }
 
 /** What a driver has to know of a stop, and to write. A line of another form stands as the desk wrote it.
- * @param {string} line @param {Stop | null} stop @param {Dues} dues @param {(trip: number) => { minute: number, text: string }[]} notes
+ * @param {string} line @param {Stop | null} stop @param {Dues} dues @param {(trip: number) => { minute: number, text: string }[]} notes @param {(trip: number) => string} over
  */
-function stopRows(line, stop, dues, notes) {
+function stopRows(line, stop, dues, notes, over) {
     if (!stop) return part("tbody", {}, part("tr", {}, part("td", { colspan: COLUMNS }, line)));
-    const cells = [[part("strong", {}, clock(stop.at)), stop.window && [part("br"), part("span", { class: "more" }, between(...stop.window))]], whoAndWhere(stop, stop.trip === undefined ? [] : notes(stop.trip)), partyAndFare(stop, dues)];
+    const cells = [[part("strong", {}, clock(stop.at)), stop.window && [part("br"), part("span", { class: "more" }, between(...stop.window))]], whoAndWhere(stop, stop.trip === undefined ? [] : notes(stop.trip), stop.trip === undefined ? "" : over(Number(stop.trip))), partyAndFare(stop, dues)];
     return part("tbody", {}, part("tr", {}, cells.map((cell) => part("td", {}, cell)), ["", "", "", ""].map(() => part("td", { class: "blank" }))));
 }
 
@@ -77,7 +78,8 @@ const ownPages = (texts) => texts.map((text) => part("pre", { class: "own-text" 
 
 const blank = (/** @type {string} */ name) => part("span", { class: "fill" }, t(name), " ", part("span", { class: "line" }));
 
-/** @typedef {{ original?: boolean, notes?: (vehicle: number, trip: number) => { minute: number, text: string }[], duty?: (vehicle: number) => string }} Options original: with
+/** @typedef {{ original?: boolean, notes?: (vehicle: number, trip: number) => { minute: number, text: string }[], duty?: (vehicle: number) => string,
+ *     over?: (trip: number) => string }} Options original: with
  *     the desk's own text; notes of the day; who drives the vehicle on it */
 
 /** @typedef {{ from: number, to: number, page: number, pages: number }} Page the rows of a page, its number and how many pages the manifest has */
@@ -85,7 +87,7 @@ const blank = (/** @type {string} */ name) => part("span", { class: "fill" }, t(
 /** A page of a vehicle's manifest. The first one has what the driver signs.
  * @param {Manifest} manifest @param {Dues} dues @param {Options} options @param {Page} page
  */
-function manifestPage(manifest, dues, { notes = () => [], duty = () => "" }, { from, to, page, pages }) {
+function manifestPage(manifest, dues, { notes = () => [], duty = () => "", over = () => "" }, { from, to, page, pages }) {
     const heads = ["planned", "who-where", "party", "arrived", "left", "odometer", "paid"].map((name) => part("th", { scope: "col" }, t(`dispatcher.head-${name}`)));
     const label = duty(manifest.vehicle), title = part("h2", {}, t("dispatcher.manifest-of", { vehicle: vehicleName(manifest.vehicle), day: dayInWords(manifest.day) }),
         label && part("small", {}, ` ${label}`));
@@ -94,7 +96,7 @@ function manifestPage(manifest, dues, { notes = () => [], duty = () => "" }, { f
         part("span", { class: "page-of" }, t("dispatcher.page-of", { page, pages }))), title,
     page === 1 && part("div", { class: "first" }, part("p", { class: "signatures" }, blanks), ofVan.length > 0 && part("p", {}, notesWords(ofVan))),
     part("table", { class: "manifest" }, part("colgroup", {}, heads.map(() => part("col"))), part("thead", {}, part("tr", {}, heads)),
-        linesOf(manifest).slice(from, to).map(([line, stop]) => stopRows(line, stop, dues, (trip) => notes(manifest.vehicle, trip)))));
+        linesOf(manifest).slice(from, to).map(([line, stop]) => stopRows(line, stop, dues, (trip) => notes(manifest.vehicle, trip), over))));
 }
 
 /** @param {Manifest} manifest @returns {Page} */
@@ -156,6 +158,8 @@ export function printCalls(title, trips, more, called = () => "") {
     const heads = ["rider", "telephone", "day", "promised", "from-to", "say", "called"].map((name) => part("th", { scope: "col" }, t(`dispatcher.head-${name}`)));
     const cells = (/** @type {Called} */ it) => [part("strong", {}, riderLabel(it.rider)), riderOf(it.rider)?.telephone ?? "", dayInWords(it.day), between(it.window_from, it.window_to),
         t("dispatcher.way", { trip: it.trip, from: placeName(it.from), to: placeName(it.to) }), more(it), called(it)];
-    printParts(title, part("table", { class: "calls" }, part("thead", {}, part("tr", {}, heads)),
-        part("tbody", {}, trips.map((it) => part("tr", {}, cells(it).map((cell) => part("td", {}, cell)))))), { class: "sheets" });
+    const head = part("p", { class: "own-head" }, part("span", {}, [agency().name, agency().telephone].filter(Boolean).join(", ")),
+        part("span", {}, t("dispatcher.printed-at", { day: dayInWords(today()), time: clock(minuteNow()) })));
+    printParts(title, [head, part("table", { class: "calls" }, part("thead", {}, part("tr", {}, heads)),
+        part("tbody", {}, trips.map((it) => part("tr", {}, cells(it).map((cell) => part("td", {}, cell))))))], { class: "sheets" });
 }

@@ -83,6 +83,14 @@ export function rowsIn(csv) {
     return rows;
 }
 
+/** The status of a trip that is over: how it ended, or that it was canceled; empty where it is still booked, or is none of the day.
+ * @param {Pick<Row, "trip" | "status">[]} rows @returns {(trip: number) => string}
+ */
+export function overOf(rows) {
+    const ended = new Map(rows.filter(({ status }) => status !== "booked").map(({ trip, status }) => [trip, status]));
+    return (trip) => ended.get(trip) ?? "";
+}
+
 /** How each trip of a day is doing, by its number. now is the minute of that day: before it began it is negative, after it was over 1440.
  * @param {Manifest[]} manifests @param {Row[]} rows @param {number} now
  */

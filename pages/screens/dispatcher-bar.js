@@ -1,6 +1,7 @@
 // Which day the dispatcher looks at, over all parts of the screen, and the bar that changes it.
 
 import { dayInWords, minuteNow, plus, today } from "../parts/clock.js";
+import { denialOf } from "../parts/denials.js";
 import { button, element, part } from "../parts/element.js";
 import { dayField } from "../parts/fields.js";
 import { t } from "../parts/words.js";
@@ -24,6 +25,12 @@ function whenWords(day) {
     if (day === plus(today(), 1)) return t("dispatcher.is-tomorrow");
     return t(day < today() ? "dispatcher.is-over" : "dispatcher.is-to-come");
 }
+
+/** Why a day can't be read. Where nobody has the key any more, a button leads to the form that signs in.
+ * @param {any} denied
+ */
+export const dayDenied = (denied) => [denialOf(denied), denied.denied === "desk.key" && part("div", { class: "row" },
+    button(t("dispatcher.sign-in-again"), () => window.dispatchEvent(new Event("desk.leave")), { class: "main" }))];
 
 /** The day with the day before and the day after. go(day) follows; ended says that the day ended while it was on the screen.
  * @param {{ day: string, ended: boolean, go: (day: string) => void, kept: <Made>(name: string, make: () => Made) => Made }} given

@@ -2,18 +2,17 @@
 
 import { placeName, vehicleName } from "../parts/agency.js";
 import { between, clock, dayInWords, minuteNow, today } from "../parts/clock.js";
-import { denialOf } from "../parts/denials.js";
 import { button, part, say } from "../parts/element.js";
 import { dropText, keptText } from "../parts/kept.js";
 import { printDaySheet, printManifests } from "../parts/paper-day.js";
 import { folded, riderLabel, riderName, riderOf } from "../parts/roster.js";
 import { makeScreen } from "../parts/screen.js";
-import { doingOf, manifestsIn, rowsIn, tripsThatStand } from "../parts/texts.js";
+import { doingOf, manifestsIn, overOf, rowsIn, tripsThatStand } from "../parts/texts.js";
 import { bringIntoView, doingWords, hoursOf, legend, scaleOf, stopWords, tableOfDay, timeline } from "../parts/timeline.js";
 import { fits, searchText, vanFirst } from "../parts/trip-search.js";
 import { t } from "../parts/words.js";
 import { attention, attentionBar, readUnplaced, vansIn } from "./dispatcher-attention.js";
-import { dayBar, nowOn, STOP, theDay } from "./dispatcher-bar.js";
+import { dayBar, dayDenied, nowOn, STOP, theDay } from "./dispatcher-bar.js";
 import { dutyOn, dutyRead, noteButton, notesList, notesOn } from "./dispatcher-notes.js";
 import { dayNow, dayRead, driversRead, toldNow } from "./dispatcher-reads.js";
 import { roomTable } from "./dispatcher-room.js";
@@ -29,7 +28,7 @@ import { review } from "./dispatcher-review.js";
 /** @typedef {{ day: string, chosen: number | null, now: number, ended: boolean, asTable: boolean, wide: number, unplaced: number, onlyNeeds: boolean, printing: boolean,
  *   original: boolean, typed: string, marked: number | null, noted: number, asRoom: boolean }} Own noted counts the notes that were written here; marked is the trip whose stop is shown in the manifest */
 /** @typedef {Own & import("./dispatcher-reads.js").Day & { told: Told | null, notes: Notes, duty: Duty }} State with what the desk, drivers and dispatchers told of the day */
-/** @typedef {{ manifests: Manifest[], busy: Manifest[], shown: Manifest[], idle: Manifest[], one: Manifest | undefined, doings: Doings, dues: Map<number, number>,
+/** @typedef {{ manifests: Manifest[], busy: Manifest[], shown: Manifest[], idle: Manifest[], one: Manifest | undefined, doings: Doings, dues: Map<number, number>, over: (trip: number) => string,
  *   lates: Map<number, import("../parts/lateness.js").Late>, needs: import("./dispatcher-attention.js").Attention }} Known shown are the rows, in their order */
 
 const NAMES_WIDE = 176, NAMES_NARROW = 104, NARROW = 640, BESIDE = 1_200, ONE_WIDE = 452, PADDING = 62, LEAST_ROOM = 320, TIP_WIDE = 260, TIP_BELOW = 34,
@@ -68,7 +67,7 @@ function knownMade({ day, text, csv, chosen, now, told, onlyNeeds }) {
     const worst = (/** @type {Manifest} */ { vehicle }) => Math.max(lates.get(vehicle)?.delay ?? 0, lates.get(vehicle)?.silent ?? 0);
     const shown = onlyNeeds ? busy.filter(({ vehicle }) => wanted.has(vehicle)).sort((a, b) => worst(b) - worst(a) || a.vehicle - b.vehicle) : busy;
     return { manifests, busy, shown, idle: manifests.filter(({ stops }) => stops.length === 0), one: manifests.find(({ vehicle }) => vehicle === chosen),
-        doings, dues: new Map(rows.map(({ trip, due }) => [trip, due])), lates, needs };
+        doings, dues: new Map(rows.map(({ trip, due }) => [trip, due])), over: overOf(rows), lates, needs };
 }
 
 // One search over the day's trips.
@@ -162,13 +161,13 @@ const stopsOf = ({ vehicle, stops }, { day, marked, notes }, doings, noted) => p
     stop.trip !== undefined && day === today() && noteButton({ day, vehicle, trip: stop.trip }, `${t(`dispatcher.paper-${stop.what}`, { trip: stop.trip })} ${riderLabel(Number(stop.rider))}`, noted)))));
 
 /** @param {State} state @param {Known} known @param {{ close: () => void, noted: () => void }} acts */
-function oneVan(state, { one, doings, dues }, { close, noted }) {
+function oneVan(state, { one, doings, dues, over }, { close, noted }) {
     if (!one) return null;
     const { day, original, notes, duty } = state, label = duty(one.vehicle);
     const heading = t("dispatcher.manifest-of", { vehicle: vehicleName(one.vehicle), day: dayInWords(day) });
     return part("section", { class: "card one-van", key: `one-${one.vehicle}`, "aria-labelledby": "one-van" }, part("h3", { id: "one-van", tabindex: -1 }, heading),
         label && part("p", { class: "duty" }, label), notesList(notes(one.vehicle, 0)),
-        part("div", { class: "row" }, one.stops.length > 0 && button(t("dispatcher.print-manifest"), () => printManifests([one], dues, { original, notes, duty })),
+        part("div", { class: "row" }, one.stops.length > 0 && button(t("dispatcher.print-manifest"), () => printManifests([one], dues, { original, notes, duty, over })),
             day === today() && noteButton({ day, vehicle: one.vehicle, trip: 0 }, "", noted), button(t("dispatcher.close"), close)),
         one.stops.length ? stopsOf(one, state, doings, noted) : part("p", {}, t("dispatcher.no-stops")),
         part("details", {}, part("summary", {}, t("dispatcher.own-text")), part("pre", { tabindex: 0, role: "region", "aria-label": t("dispatcher.own-text") }, one.text)));
@@ -178,7 +177,7 @@ function oneVan(state, { one, doings, dues }, { close, noted }) {
 
 /** @param {State} state @param {Known} known @param {{ chosen: (vehicle: number) => void, tip: ReturnType<typeof tipScreen>, toNow: () => void, tabled: () => void, roomed: () => void, original: (original: boolean) => void }} acts */
 function pictureCard(state, known, { chosen, tip, toNow, tabled, roomed, original }) {
-    const { manifests, busy, shown, idle, one, doings, dues, lates } = known, { day, text, now, asTable, asRoom, notes, duty, chosen: selected } = state, stand = tripsThatStand(text ?? ""), isNow = day === today();
+    const { manifests, busy, shown, idle, one, doings, dues, lates, over } = known, { day, text, now, asTable, asRoom, notes, duty, chosen: selected } = state, stand = tripsThatStand(text ?? ""), isNow = day === today();
     const labelled = (/** @type {Label | null} */ label, spoken = false) => {
         const stop = label && manifests.find(({ vehicle }) => vehicle === label.vehicle)?.stops[label.at], words = stop ? stopWords(stop, doings) : "";
         tip.show(label, words);
@@ -186,13 +185,13 @@ function pictureCard(state, known, { chosen, tip, toNow, tabled, roomed, origina
     };
     return part("div", { class: "card picture-card" },
         busy.length > 0 && part("div", { class: "scroll timeline", id: "picture", tabindex: 0, role: "region", "aria-label": t("dispatcher.picture"), on: { pointerleave: () => labelled(null) } },
-            tip.element, rowsOnce([known, selected, isNow ? now : null, roomOf(state, Boolean(one)), state.noted, dutyRead().reply()], () => timeline(shown, { chosen, selected, now: isNow ? now : null,
+            tip.element, rowsOnce([known, selected, isNow ? now : null, roomOf(state, Boolean(one)), state.noted, dutyRead().reply(), toldNow(today())], () => timeline(shown, { chosen, selected, now: isNow ? now : null,
                 room: roomOf(state, Boolean(one)), doings, labelled, lates, duty, noted: (it) => [0, ...it.stops.flatMap(({ what, trip }) => (what === "PICK" ? Number(trip) : []))].reduce((sum, trip) => sum + notes(it.vehicle, trip).length, 0) }))),
         idle.length > 0 && part("details", { class: "idle" }, part("summary", {}, t("dispatcher.idle", { count: idle.length })),
             part("ul", { class: "row" }, idle.map(({ vehicle }) => part("li", { key: vehicle }, vehicleName(vehicle))))),
         part("div", { class: "row tools" }, part("p", {}, t("dispatcher.stand", { count: stand }), " ", t(manifests.length ? "dispatcher.choose" : "dispatcher.nobody")),
             button(t("dispatcher.print-sheet"), () => printDaySheet(day, manifests, text ?? "", { original: state.original, duty })),
-            busy.length > 0 && button(t("dispatcher.print-manifests", { count: busy.length }), () => printManifests(busy, dues, { original: state.original, notes, duty })),
+            busy.length > 0 && button(t("dispatcher.print-manifests", { count: busy.length }), () => printManifests(busy, dues, { original: state.original, notes, duty, over })),
             part("label", { class: "tick" }, part("input", { type: "checkbox", checked: state.original, on: { change: (event) => original(event.target.checked) } }), t("dispatcher.with-original")),
             isNow && busy.length > 0 && button(t("dispatcher.to-now"), toNow), button(t("dispatcher.as-table"), tabled, { "aria-expanded": String(asTable), "aria-controls": "as-table" }),
             manifests.length > 0 && button(t("dispatcher.as-room"), roomed, { "aria-expanded": String(asRoom), "aria-controls": "as-room" }), busy.length > 0 && legend()),
@@ -234,7 +233,7 @@ function openAt({ now }, vehicle, trip) {
 /** @param {Own} own @returns {State} */
 function stateOf(own) {
     const told = toldNow(own.day);
-    return { ...own, ...dayNow(own.day), told, notes: notesOn(own.day, told), duty: dutyOn(own.day) };
+    return { ...own, ...dayNow(own.day), told, notes: notesOn(own.day, toldNow(today())), duty: dutyOn(own.day) };
 }
 
 /** @param {string} day @returns {Own} */
@@ -270,7 +269,7 @@ export function dayPicture() {
             change(({ asRoom }) => ({ asRoom: !asRoom }));
             fill();
         } };
-        return [dayBar({ ...state, go, kept }), dayRead(state.day).age(), state.denied ? denialOf(state.denied) : state.text === null ? part("p", {}, t("dispatcher.reading"))
+        return [dayBar({ ...state, go, kept }), dayRead(state.day).age(), state.denied ? dayDenied(state.denied) : state.text === null ? part("p", {}, t("dispatcher.reading"))
             : [part("div", { class: "finding" }, attentionBar(known.needs, { told: state.told, unplaced: state.unplaced, isToday: state.day === today(), go: show, review: look }), searchRow(state, known, finding)),
                 part("div", { class: known.one ? "day-view with-one" : "day-view" }, pictureCard(state, known, acts), oneVan(state, known, { close, noted: () => change(({ noted }) => ({ noted: noted + 1 })) }))]];
     } });
@@ -286,7 +285,7 @@ export function dayPicture() {
      * @param {string} day
      */
     function isNews(day) {
-        const { text, csv, denied } = dayNow(day), now = [day, text, csv, denied, toldNow(day), dutyRead().reply(), nowOn(day), JSON.stringify(dayRead(day).age())];
+        const { text, csv, denied } = dayNow(day), now = [day, text, csv, denied, toldNow(today()), dutyRead().reply(), nowOn(day), JSON.stringify(dayRead(day).age())];
         const news = now.some((it, at) => it !== drawn[at]);
         drawn = now;
         return news;

@@ -3,6 +3,7 @@
 import { askNote } from "../parts/ask-note.js";
 import { clock, minuteNow } from "../parts/clock.js";
 import { button, part, say } from "../parts/element.js";
+import { notesOfDay } from "../parts/lateness.js";
 import { fileAt, reading } from "../parts/reads.js";
 import { count } from "../parts/tally.js";
 import { t } from "../parts/words.js";
@@ -23,10 +24,10 @@ let mine = [];
 const isSame = (one) => (/** @type {Note} */ other) => one.vehicle === other.vehicle && one.trip === other.trip && one.text === other.text;
 
 /** The notes of a day, the first one first.
- * @param {string} day @param {Told | null} told @returns {Notes}
+ * @param {string} day @param {Told | null} told of today @returns {Notes}
  */
 export function notesOn(day, told) {
-    const known = told?.notes ?? [];
+    const known = notesOfDay(told, day);
     mine = mine.filter((it) => it.day !== day || !known.some(isSame(it)));
     const all = [...known, ...mine.filter((it) => it.day === day)].sort((a, b) => a.minute - b.minute);
     return (vehicle, trip) => all.filter((it) => it.vehicle === vehicle && it.trip === trip);

@@ -12,7 +12,7 @@ import { afterReturn, byPickup, countsOf, isFar, keyOf, movedBy, saidOf, toTryAg
 import { printManifests } from "../parts/paper-day.js";
 import { makeScreen } from "../parts/screen.js";
 import { keepSubject, subjectOf } from "../parts/subject.js";
-import { manifestsIn, rowsIn } from "../parts/texts.js";
+import { manifestsIn, overOf, rowsIn } from "../parts/texts.js";
 import { vehicleField } from "../parts/vehicle-field.js";
 import { t } from "../parts/words.js";
 import { dollars, windowOf } from "./booking.js";
@@ -53,7 +53,8 @@ const callsTitle = (vehicle) => t("dispatcher.calls-of", { vehicle });
 async function printToday(vehicle) {
     const [text, csv] = await Promise.all([desk.manifest(vehicle, today()), desk.tripsOn(today())]);
     if (text.denied !== undefined || csv.denied !== undefined) return;
-    printManifests(manifestsIn(text.value), new Map(rowsIn(csv.value).map(({ trip, due }) => [trip, due])));
+    const rows = rowsIn(csv.value);
+    printManifests(manifestsIn(text.value), new Map(rows.map(({ trip, due }) => [trip, due])), { over: overOf(rows) });
 }
 
 /** Whom to call first: by pickup. What is over by the plan stands apart.

@@ -14,7 +14,7 @@ import { manifestsIn, rowsIn } from "../parts/texts.js";
 import { fits, searchText } from "../parts/trip-search.js";
 import { language, t } from "../parts/words.js";
 import { dollars, statusOf, windowOf } from "./booking.js";
-import { dayBar, nowOn, STOP, theDay } from "./dispatcher-bar.js";
+import { dayBar, dayDenied, nowOn, STOP, theDay } from "./dispatcher-bar.js";
 import { saveCsv, spreadsheetOf } from "./dispatcher-files.js";
 import { notesList, notesOn } from "./dispatcher-notes.js";
 import { dayNow, dayRead, driversRead, toldNow } from "./dispatcher-reads.js";
@@ -142,7 +142,7 @@ const vanCell = (row) => button(vehicleName(row.vehicle), () => toDay(row), { cl
 /** @param {State} state @param {(name: string) => void} sort @param {Tell} tell */
 function columnsOf(state, sort, tell) {
     const [by, way] = state.order, now = today();
-    const notes = notesOn(state.day, toldNow(state.day));
+    const notes = notesOn(state.day, toldNow(today()));
     const columns = COLUMNS.map(([name, cell]) => ({ cell: name === "rider" ? riderCell(notes) : name === "vehicle" ? (/** @type {Planned} */ row) => (row.status === "cancelled" ? vehicleName(row.vehicle) : vanCell(row)) : cell,
         number: name === "due", whole: ["window_from", "planned", "wish", "telephone"].includes(name), sorted: by === name ? (way > 0 ? "ascending" : "descending") : null,
         head: button([t(`dispatcher.column-${name}`), part("span", { "aria-hidden": "true" }, by !== name ? " ↕" : way > 0 ? " ▲" : " ▼")], () => sort(name), { class: "sort", id: `sort-${name}` }) }));
@@ -158,7 +158,7 @@ const lines = new Map();
  * @param {State} state @param {Tell} tell @returns {(row: Planned, make: () => import("../types").Part) => import("../types").Part}
  */
 function lineMade({ day, answers }, tell) {
-    const now = today(), notes = notesOn(day, toldNow(day)), words = language();
+    const now = today(), notes = notesOn(day, toldNow(today())), words = language();
     return (row, make) => {
         const says = JSON.stringify([COLUMNS.map(([, cell]) => cell(row)), notes(row.vehicle, row.trip)]);
         const from = [says, row.vehicle, answers[row.trip], mayTell(row, now), words, tell], last = lines.get(row.trip);
@@ -175,7 +175,7 @@ function cardsOf(rows, state, tell) {
     return part("ul", { class: "cards", "aria-label": t("dispatcher.trips-of-day") }, rows.map((row) => part("li", { key: row.trip },
         part("p", {}, part("strong", {}, windowOf(row)), ` ${riderLabel(row.rider)} (${statusOf(row.status)})`),
         part("p", {}, t("dispatcher.way", { trip: row.trip, from: placeName(row.from), to: placeName(row.to) }), `, ${vehicleName(row.vehicle)}, ${dollars(row.due)}`),
-        notesList(notesOn(state.day, toldNow(state.day))(row.vehicle, row.trip)), outcomeTools(row, state, tell, now))));
+        notesList(notesOn(state.day, toldNow(today()))(row.vehicle, row.trip)), outcomeTools(row, state, tell, now))));
 }
 
 /** @param {State} state @param {{ sort: (name: string) => void, tell: Tell, endRest: (vehicle: number, rest: Row[]) => void, search: (typed: string) => void, more: () => void }} acts */
@@ -233,7 +233,7 @@ export function dayTrips() {
             change({ ...firstState(day), typed: state.typed, order: state.order });
             follow();
         };
-        return [dayBar({ ...state, go, kept }), dayRead(state.day).age(), state.denied ? denialOf(state.denied) : state.text === null ? part("p", {}, t("dispatcher.reading"))
+        return [dayBar({ ...state, go, kept }), dayRead(state.day).age(), state.denied ? dayDenied(state.denied) : state.text === null ? part("p", {}, t("dispatcher.reading"))
             : tripsCard(state, acts)];
     } });
     let leave = () => {};

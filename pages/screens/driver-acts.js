@@ -5,11 +5,11 @@ import { agency } from "../parts/agency.js";
 import { asked, choose } from "../parts/ask.js";
 import { askNote } from "../parts/ask-note.js";
 import { clock, momentNow, serverNow } from "../parts/clock.js";
-import { part, say } from "../parts/element.js";
+import { drawInto, make, part, say } from "../parts/element.js";
 import { keep, putAside, takeBack, tellOnce } from "../parts/queue.js";
 import { makeTurns } from "../parts/turns.js";
 import { t } from "../parts/words.js";
-import { choicesAt, doubtWords, evidenceOf, isOutcome, othersHave, skipped } from "./driver-day.js";
+import { choicesAt, doubtWords, evidenceOf, isOutcome, minutesToWindow, othersHave, skipped } from "./driver-day.js";
 import { evidenceList } from "./driver-evidence.js";
 import { placeNameAt, whoAt } from "./driver-read.js";
 import { LOOSE, logOf, namesOf, sheetName, shownDay } from "./driver-state.js";
@@ -25,6 +25,7 @@ import { noShowTold, noteTold, stopTold, undoneTold } from "./driver-told.js";
 
 /** Milliseconds for which a no-show stays on this phone, so that it can be undone. */
 const HELD = 60_000;
+const SECOND = 1000;
 /** For so long a no-show waits for what others tapped meanwhile. */
 const ASKED = 3000;
 
@@ -49,6 +50,18 @@ function tapOf(state, stop, what, at) {
         held: what === "missed-rider" ? HELD : 0, tally: toldOf(state, stop, what, at) };
 }
 
+/** A question's detail that goes on with the clock as long as the question is open.
+ * @template Answer @param {() => import("../types").Given} draw @param {(detail: HTMLElement) => Promise<Answer>} ask @returns {Promise<Answer>} */
+async function following(draw, ask) {
+    const place = make("div"), timer = setInterval(() => drawInto(place, draw()), SECOND);
+    drawInto(place, draw());
+    try {
+        return await ask(place);
+    } finally {
+        clearInterval(timer);
+    }
+}
+
 /** What a no-show becomes once the driver has read what makes it doubtful: null where it is not told.
  * @param {State} state @param {Shown} stop @param {string} at @returns {Promise<What | null>} */
 async function weighed(state, stop, at) {
@@ -57,8 +70,12 @@ async function weighed(state, stop, at) {
     /** @type {[What, string][]} */
     const choices = [["missed-rider", t("driver.no-show-still")]];
     if (doubt === "late") choices.unshift(["missed-operator", t("driver.missed-operator")]);
-    return choose({ question: t("driver.question-missed-rider", { who: whoAt(Number(stop.rider), namesOf(state)) }), careful: true,
-        detail: [evidenceList(evidence, minutes), part("p", { class: "note" }, t(`driver.doubt-${doubtWords(evidence)}`, { minutes }))], choices, none: t("driver.keep-waiting") });
+    const says = () => {
+        const now = evidenceOf(stop, minutes, state.day, momentNow());
+        return [evidenceList(now, minutes), part("p", { class: "note" }, t(`driver.doubt-${doubtWords(now)}`, { minutes }))];
+    };
+    return following(says, (detail) => choose({ question: t("driver.question-missed-rider", { who: whoAt(Number(stop.rider), namesOf(state)) }), careful: true, detail, choices,
+        none: t("driver.keep-waiting") }));
 }
 
 /** Whether a no-show is still meant, though another phone has the rider aboard by now: this is read once more after the yes, as long as it takes little.
@@ -73,9 +90,10 @@ async function isStillMeant(screen, stop, refresh) {
 /** Asks before an outcome, which cannot be taken back once the desk has it.
  * @param {State} state @param {Shown} stop @param {What} what @param {string} at */
 function sure(state, stop, what, at) {
-    const minutes = agency().wait_minutes, evidence = evidenceOf(stop, minutes, state.day, at);
+    const minutes = agency().wait_minutes, evidence = evidenceOf(stop, minutes, state.day, at), early = what === "missed-operator" ? minutesToWindow(stop, state.day, at) : 0;
     return asked({ question: t(`driver.question-${what}`, { who: whoAt(Number(stop.rider), namesOf(state)) }),
-        detail: [what === "missed-rider" && evidenceList(evidence, minutes), part("p", {}, `${t("driver.trip", { trip: stop.trip })}. ${t(`driver.says-${what}`)} `,
+        detail: [what === "missed-rider" && evidenceList(evidence, minutes),
+            early > 0 && part("p", { class: "note" }, t("driver.missed-early", { minutes: early })), part("p", {}, `${t("driver.trip", { trip: stop.trip })}. ${t(`driver.says-${what}`)} `,
             t(what === "missed-rider" ? "driver.final-later" : "driver.final"))], yes: t(`driver.yes-${what}`) });
 }
 

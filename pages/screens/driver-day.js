@@ -194,9 +194,13 @@ export function evidenceOf({ promise, came, what }, minutes, day, now) {
     return { promise, arrived, waited, doubt };
 }
 
-/** The words for a doubt: that the driver came late is said where an arrival is marked.
+/** The words for a doubt: that the driver came late is said where an arrival is marked; "over" where there is none any more, since the wait has ended.
  * @param {Pick<Evidence, "doubt" | "arrived">} evidence */
-export const doubtWords = ({ doubt, arrived }) => (doubt === "late" && arrived === null ? "late-unmarked" : doubt);
+export const doubtWords = ({ doubt, arrived }) => (doubt === "late" && arrived === null ? "late-unmarked" : doubt ?? "over");
+
+/** How many minutes are missing until the promised window opens; 0 once it is open, or where none was promised.
+ * @param {Pick<Shown, "promise">} stop @param {string} day @param {string} now */
+export const minutesToWindow = ({ promise }, day, now) => (promise ? Math.max(0, promise[0] - minuteOn(now, day)) : 0);
 
 /** The earlier stops that count as passed where the driver goes on from a later one: not the drops of riders aboard.
  * @param {Shown[]} stops @param {string} from the later one's name */

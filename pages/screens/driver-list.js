@@ -106,7 +106,8 @@ function deniedOne(entry, state, acts) {
 
 /** What is said of the line: when the manifest was read and until when it is shown, or that it is locked.
  * @param {State} state */
-function lineWords({ silent, read, locked, opensUntil }) {
+function lineWords({ silent, read, locked, setBack, opensUntil }) {
+    if (locked && setBack) return t("driver.locked-clock");
     if (locked) return t("driver.locked", { minutes: agency().lock_minutes });
     if (!silent) return "";
     if (!read) return t("driver.none-kept");

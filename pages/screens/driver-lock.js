@@ -1,7 +1,7 @@
 // When this phone locks: so many minutes after the desk last answered (parts/lock.js). What it goes by is kept beside the copies, for each key.
 
 import { agency } from "../parts/agency.js";
-import { heardNow, later, leftUntilLock } from "../parts/lock.js";
+import { heardNow, isSetBack, later, leftUntilLock } from "../parts/lock.js";
 import { copyOf, keepCopy } from "../parts/queue.js";
 
 const NAME = "heard", WRITTEN = 15_000;
@@ -25,6 +25,8 @@ export function lockOfPhone() {
             heard ??= kept;
             return heard && left();
         },
+        /** Whether it locks since its clock was set back. */
+        isSetBack: () => Boolean(heard && isSetBack(heard, Date.now())),
         /** The desk has answered. */
         answered() {
             heard = heardNow(Date.now());

@@ -24,6 +24,7 @@ import { NO_NAMES } from "./driver-read.js";
  * @property {boolean} begun whether a new day began while this was shown
  * @property {number} waits how many outcomes have waited for a while
  * @property {boolean} locked whether nothing is shown, since the desk has not answered for so long
+ * @property {boolean} setBack whether it is locked since the phone's clock was set back
  * @property {string} opensUntil the moment until which it is shown without a line; empty where nothing has answered yet
  */
 
@@ -37,7 +38,7 @@ export const sheetName = (vehicle, day) => `${vehicle} ${day}`;
 
 /** @param {number} vehicle @param {string} day @returns {State} */
 export const stateOf = (vehicle, day) => ({ vehicle, day, today: today(), now: momentNow(), read: null, kept: [], loose: [], opened: null, denied: null,
-    silent: false, noRoom: null, gone: "", before: null, begun: false, waits: 0, locked: false, opensUntil: "" });
+    silent: false, noRoom: null, gone: "", before: null, begun: false, waits: 0, locked: false, setBack: false, opensUntil: "" });
 
 /** @param {State} state */
 export const allOf = ({ kept, loose }) => [...kept, ...loose];

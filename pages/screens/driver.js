@@ -130,7 +130,7 @@ function readerOf(screen, lock) {
             screen.change({ ...stateOf(vehicle, day), kept, loose, locked, waits: waitingIn(kept).length, begun: begun && day === today() });
             // (the desk is asked at once: what this phone keeps takes its time too)
             const reading = reader.refresh(), left = await lock.read(), read = left ? await keptDay(vehicle, day) : null;
-            if (screen.state.day === day && !screen.state.read) screen.change({ read, locked: left === 0 });
+            if (screen.state.day === day && !screen.state.read) screen.change({ read, locked: left === 0, setBack: lock.isSetBack() });
             await Promise.all([reading, reader.lookBack(), forgetOld(screen.state)]);
         },
         /** Whether the day before is closed. */
@@ -141,7 +141,7 @@ function readerOf(screen, lock) {
         /** Nothing has answered for so long that what is shown is forgotten. */
         async lock() {
             const { vehicle, day, kept, loose } = screen.state;
-            screen.change({ ...stateOf(vehicle, day), kept, loose, waits: waitingIn(kept).length, silent: true, locked: true });
+            screen.change({ ...stateOf(vehicle, day), kept, loose, waits: waitingIn(kept).length, silent: true, locked: true, setBack: lock.isSetBack() });
             await forgetAllDays();
             await reader.refresh();
         } };

@@ -211,6 +211,7 @@ def day_of(known: Known, today: datetime.date, zone: datetime.tzinfo) -> dict[st
         "day": today.isoformat(),
         "vehicles": _taps(of["stops"], zone),
         "notes": [_row(it, zone, "vehicle", "trip", "text") for it in of["notes"]],
+        "earlier_notes": _earlier_notes(events, today, zone),
         "bookings": {
             str(it.fields["trip"]): {
                 name: it.fields[name]
@@ -362,6 +363,18 @@ def _unreviewed(
         told: dict[str, object] = {"day": day.isoformat(), **_row(it, zone, *names)}
         found[it.kind.replace("-", "_")].append(told)
     return found
+
+
+def _earlier_notes(
+    events: list[Told], today: datetime.date, zone: datetime.tzinfo
+) -> list[dict[str, object]]:
+    """The notes of the day before, with that day: who closes it after midnight reads them."""
+    day = today - datetime.timedelta(days=1)
+    return [
+        {"day": day.isoformat(), **_row(it, zone, "vehicle", "trip", "text")}
+        for it in events
+        if it.kind == "notes" and it.fields["day"] == day
+    ]
 
 
 def _settled(reviews: list[Told], zone: datetime.tzinfo) -> list[dict[str, object]]:

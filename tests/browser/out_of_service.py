@@ -296,7 +296,7 @@ def a_report_waits_until_what_a_colleague_does_with_the_same_trips_stands_still(
     show_out(at, van, LATER)
     row = before[0]
     at.browser.sees("What happens next")
-    at.town.post(SECOND, f"/trips/{row['trip']}/cancel", {})
+    at.town.post("dispatcher", f"/trips/{row['trip']}/cancel", {})
     begin(at, f"cancel {many(len(before))}", len(before))
     at.browser.sees("Somebody else is moving the trips of", "The list is read again until nothing changes.", "It may be booked again right now. Don't call yet.")
     at.browser.sees_no("No other trip of that day")

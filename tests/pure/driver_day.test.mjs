@@ -3,7 +3,7 @@ import { test } from "node:test";
 
 import { progressOf } from "../../pages/parts/delay.js";
 import { lateOf } from "../../pages/parts/lateness.js";
-import { behindBy, choicesAt, dayOf, doubtWords, evidenceOf, leftOpen, minuteOn, othersHave, skipped } from "../../pages/screens/driver-day.js";
+import { behindBy, choicesAt, dayOf, doubtWords, evidenceOf, leftOpen, minuteOn, minutesToWindow, othersHave, skipped } from "../../pages/screens/driver-day.js";
 
 const DAY = "2025-03-11";
 const STOPS = [
@@ -187,4 +187,16 @@ test("a tap of another phone counts where it came before the first one here, and
     assert.equal(dayOf(STOPS, [entry("out", "left", at(480))], aboard).stops[1].done, false);
     const undone = dayOf(STOPS, [entry("PICK 9", "undone", at(516))], aboard).stops[1];
     assert.deepEqual([undone.done, undone.elsewhere, undone.taps], [false, null, []]);
+});
+
+test("the words of a no-show's question follow the clock until the wait is over", () => {
+    const stop = { what: "PICK", promise: [545, 560], came: { tap: { at: "2026-03-10T09:06:00" } } };
+    const words = (now) => doubtWords(evidenceOf(stop, 5, "2026-03-10", `2026-03-10T${now}`));
+    assert.deepEqual(["09:00:00", "09:10:59", "09:11:00", "09:20:00"].map(words), ["early", "wait", "over", "over"]);
+});
+
+test("the minutes until a pickup window opens are known before a missed pickup is told", () => {
+    const left = (promise, now) => minutesToWindow({ promise }, "2026-03-10", `2026-03-10T${now}`);
+    assert.deepEqual([left([545, 560], "08:00:00"), left([545, 560], "09:04:59"), left([545, 560], "09:05:00"), left([545, 560], "10:00:00"), left(null, "08:00:00")], [65, 1, 0, 0, 0]);
+    assert.equal(minutesToWindow({ promise: [545, 560] }, "2026-03-10", "2026-03-11T00:05:00"), 0);
 });

@@ -1,7 +1,8 @@
 // How late a van is by what was told, and what needs a person.
 import assert from "node:assert/strict";
 import test from "node:test";
-import { attentionOf, lateOf, toldIn } from "../../pages/parts/lateness.js";
+import { attentionOf, lateOf, notesOfDay, toldIn } from "../../pages/parts/lateness.js";
+import { overOf } from "../../pages/parts/texts.js";
 
 const DAY = "2026-03-10";
 const pick = (trip, at, from = at - 5) => ({ line: "", what: "PICK", trip, rider: 1000 + trip, place: 1, at, window: [from, from + 30], load: 1, people: 1, wheelchairs: 0 });
@@ -132,4 +133,18 @@ test("a no-show on which two devices disagree waits once, among the entries that
     const disagreements = [{ day: DAY, trip: 2, minute: 612, told: "ridden" }, { day: DAY, trip: 2, minute: 640, told: "ridden" }];
     const it = attentionOf([], { day: DAY, vehicles: new Map(), notes: [], noShows, disagreements, late: [] }, new Map(), []);
     assert.deepEqual([it.noShows.map(({ trip }) => trip), it.disagreements.map(({ trip, minute }) => [trip, minute])], [[1], [[2, 612]]]);
+});
+
+test("notes of the day before are those of that day, and today's are today's", () => {
+    const note = (text) => ({ vehicle: 1, trip: 0, text, minute: 600 }), now = Date.parse("2026-03-11T14:00:00Z");
+    const file = { day: "2026-03-11", made: "2026-03-11T14:00:00Z", notes: [note("new")], earlier_notes: [{ ...note("flat"), day: "2026-03-10" }] };
+    const told = toldIn(JSON.stringify(file), "2026-03-11", now), texts = (day) => notesOfDay(told, day).map(({ text }) => text);
+    assert.deepEqual(["2026-03-09", "2026-03-10", "2026-03-11"].map(texts), [[], ["flat"], ["new"]]);
+    assert.deepEqual(notesOfDay(toldIn(JSON.stringify({ ...file, earlier_notes: undefined }), "2026-03-11", now), "2026-03-10"), []);
+    assert.deepEqual(notesOfDay(null, "2026-03-10"), []);
+});
+
+test("what is over is known for paper: every status but booked", () => {
+    const over = overOf(["booked", "ridden", "missed-rider", "missed-operator", "cancelled"].map((status, at) => ({ trip: at + 1, status })));
+    assert.deepEqual([1, 2, 3, 4, 5, 6].map(over), ["", "ridden", "missed-rider", "missed-operator", "cancelled", ""]);
 });

@@ -1,7 +1,7 @@
 import assert from "node:assert/strict";
 import { test } from "node:test";
 
-import { heardNow, later, leftUntilLock } from "../../pages/parts/lock.js";
+import { heardNow, isSetBack, later, leftUntilLock } from "../../pages/parts/lock.js";
 
 const MINUTE = 60_000, START = 1_765_000_000_000;
 
@@ -44,4 +44,10 @@ test("an answer opens it for the whole time again", () => {
     const locked = later(heardNow(START), START + 500 * MINUTE, 0);
     assert.equal(leftUntilLock(locked, START + 500 * MINUTE, 240), 0);
     assert.equal(leftUntilLock(heardNow(START + 500 * MINUTE), START + 500 * MINUTE, 240), 240 * MINUTE);
+});
+
+test("a lock by a clock that was set back is known from one by silence", () => {
+    const heard = later(heardNow(START), START + 60 * MINUTE, 0), old = later(heardNow(START), START + 500 * MINUTE, 0);
+    assert.deepEqual([0, 55, 60, 300].map((minute) => isSetBack(heard, START + minute * MINUTE)), [true, false, false, false]);
+    assert.deepEqual([isSetBack(old, START + 500 * MINUTE), leftUntilLock(old, START + 500 * MINUTE, 240)], [false, 0]);
 });

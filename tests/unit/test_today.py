@@ -315,6 +315,21 @@ def test_what_dispatch_has_not_looked_at_waits_over_days_and_comes_back_where_mo
     assert [it["trip"] for it in made(*lines, again)["unreviewed"]["disagreements"]] == [7]
 
 
+def test_notes_of_the_day_before_stay_with_that_day() -> None:
+    notes = [
+        line("notes", 1, vehicle=4, day="2026-12-05", trip=0, text="old", at="2026-12-05T10:00:00"),
+        line(
+            "notes", 2, vehicle=4, day="2026-12-06", trip=0, text="flat", at="2026-12-06T10:15:00"
+        ),
+        line("notes", 3, vehicle=4, day="2026-12-07", trip=9, text="new", at="2026-12-07T09:00:00"),
+    ]
+    told = made(*notes)
+    assert [it["text"] for it in told["notes"]] == ["new"]
+    assert told["earlier_notes"] == [
+        {"day": "2026-12-06", "vehicle": 4, "trip": 0, "text": "flat", "minute": 615}
+    ]
+
+
 def test_a_tap_that_comes_a_day_late_and_a_phone_with_the_wrong_date_are_named() -> None:
     told = made(
         stop(1, "2026-12-06T18:40:00", "dropped"),
