@@ -3,6 +3,7 @@ import glob
 import json
 import os
 import time
+import time
 
 from .backing_up import Backup
 from .ending import WRONG_WORDS, Failure
@@ -33,6 +34,13 @@ def rotated(log):
     return sorted(it for it in glob.glob(f"{glob.escape(log)}-[0-9]*") if os.path.getmtime(it) >= since)
 
 
+def free_name(desk, folder):
+    """A copy's name, which has the second; a second copy of one second waits for the next."""
+    while os.path.exists(f"{folder}/{(name := f'denial-{now_at(desk):%Y-%m-%d-%H%M%S}.db')}"):
+        time.sleep(0.1)
+    return name
+
+
 def copy_for(folder, agency, most):
     """Makes one copy for all marks that have none, and a note of each beside it; says what was done."""
     log = os.environ.get("TALLY") or f"/var/log/desk/tally{f'-{agency}' if agency else ''}.log"
@@ -42,7 +50,7 @@ def copy_for(folder, agency, most):
     if not marks:
         return "no denial is marked that has no copy"
     desk = Desk(agency)
-    name = f"denial-{now_at(desk):%Y-%m-%d-%H%M%S}.db"
+    name = free_name(desk, folder)
     told = Backup(desk, f"{folder}/{name}", most).make().told()
     for it in marks:
         note = {"copy": name, **{key: str(value) for key, value in it.fields.items() if value is not None}}
