@@ -3,7 +3,6 @@ import glob
 import json
 import os
 import time
-import time
 
 from .backing_up import Backup
 from .ending import WRONG_WORDS, Failure
