@@ -78,6 +78,10 @@ def modes_of(at, legend):
         .find((it) => it.querySelector('legend').textContent === arguments[0])""", legend)
 
 
+# (a day of which no other check knows)
+QUIET = "2025-03-19"
+
+
 def wish(at, **values):
     """Fills the form of a wish: start, goal, day, wish and what else is given by its label."""
     names = {"start": "From", "goal": "To", "day": "Day", "wish": "Pickup time", "back": "Return pickup",
@@ -758,7 +762,7 @@ def a_way_back_that_the_desk_promises_before_the_arrival_is_an_offer(at):
     for answer, status in [("^Yes, keep trip", "booked"), ("^No, cancel trip", "cancelled")]:
         before = {it["trip"] for it in at.town.trips_of(1003)}
         begin(at, "1003")
-        wish(at, start="7 Elm", goal="Riverside", day=THURSDAY, wish="9 am", back="9:10 am", back_matters="around")
+        wish(at, start="7 Elm", goal="Riverside", day=QUIET, wish="9 am", back="9:10 am", back_matters="around")
         at.browser.press(BOOK)
         at.browser.sees("The way back begins at ", "and the way there may arrive as late as 9:10 AM")
         there, back = sorted((it for it in at.town.trips_of(1003) if it["trip"] not in before), key=lambda it: it["trip"])

@@ -854,10 +854,10 @@ def without_a_line_the_phone_locks_in_time_and_a_clock_that_is_set_back_does_not
                 at.browser.settled(500)
                 same("names once the clock is set back", [], names_here(at))
                 at.browser.reload()
-                at.browser.sees("The desk has not answered")
+                at.browser.sees("The clock of this phone was changed, so this phone no longer shows names.")
                 same("names after a reload", [], names_here(at))
             at.browser.sees("Ana María Núñez", "All stops")
-            at.browser.sees_no("has not answered")
+            at.browser.sees_no("has not answered", "was changed")
     finally:
         at.town.write_files()
 
