@@ -9,6 +9,7 @@ from desk_tools.booted.town import Town
 
 HOURS = {"backup": "03:05", "restart": "03:45", "worklist": "04:30"}
 SECONDS_TO_COME_BACK = 60
+COPIES = "ls -p /var/backups/desk | grep -v /"
 NO_BACKUP = "grep -q 'there is no backup'"
 
 
@@ -38,13 +39,14 @@ def check_work(town: Town) -> None:
     """A backup, the work list and a restart, by their units with all that shuts them in."""
     checks, machine = town.checks, town.machine
     machine.run("touch -d '100 days ago' /var/lib/desk/desk.db.before-0.1.0")
+    before = set(machine.run(COPIES, check=False).output.split())
     for name in ("backup", "worklist", "restart"):
         ran = machine.run(f"systemctl start desk-{name}.service", check=False)
         log = machine.run(f"journalctl -u desk-{name} -n 5 -o cat").output
         checks.holds(f"desk-{name}.service", ran.is_well, ran.output + log)
-    copies = machine.run("ls -p /var/backups/desk | grep -v /").output.split()
+    made = sorted(set(machine.run(COPIES).output.split()) - before)
     checks.equal(
-        "a copy and the machine's files", ["desk", "machine"], [it.split("-")[0] for it in copies]
+        "a copy and the machine's files", ["desk", "machine"], [it.split("-")[0] for it in made]
     )
     checks.has(
         "the work list",

@@ -60,7 +60,7 @@ def check_refused(town: Town) -> None:
         ("is not a mounted folder", f"{given} --offsite somewhere"),
     ]:
         ran = machine.run(f"desk-setup {words} </dev/null", check=False)
-        is_one = ran.status == 1 and ran.output.count("\n") == 1 and said in ran.output
+        is_one = ran.status == 2 and ran.output.count("\n") == 1 and said in ran.output
         checks.holds(f"a setup that is refused: {said}", is_one, ran.output)
     machine.run(
         f"cat >{NGINX} && chmod 755 {NGINX}", stdin="#!/bin/sh\necho 'no such word' >&2\nexit 1\n"
