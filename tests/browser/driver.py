@@ -1117,7 +1117,7 @@ window.fetch = (path, ...more) => { window.asked.push(String(path)); return real
 """
 # Seconds: 3 are aimed at, and the machine may be busy. Bytes are those of pages that esbuild has packed.
 # (the form needs the browser's stores, for what a browser keeps that refuses them, and so far the addresses)
-MOST_SECONDS, MOST_BYTES = 6, {"the form to sign in": 49_500, "the next stop": 68_000}
+MOST_SECONDS, MOST_BYTES = 6, {"the form to sign in": 49_500, "the next stop": 69_000}
 
 
 @check
