@@ -24,6 +24,7 @@ Refused = collections.namedtuple("Refused", "what reason")
 Rows = collections.namedtuple("Rows", "header cells")
 LABELS = {"places": "place {number}", "vehicles": "vehicle {number} from {from_day}", "callers": "caller {number}", "riders": "rider {number}"}
 REQUIRED = object()
+MODES = ("around", "not-before", "by")
 
 
 def whole(low, high):
@@ -154,6 +155,14 @@ def one_of(*words):
     return read
 
 
+def mode(text):
+    """What matters of an order's time, as the pages call it."""
+    found = re.sub(r"[\s_-]+", "-", text.lower())
+    if found not in MODES:
+        raise ValueError("is none of around, not before, by")
+    return found
+
+
 def text_of(text):
     return text
 
@@ -183,7 +192,7 @@ COLUMNS = {
         "order": NAME, "rider": NUMBER, "weekdays": Column(weekdays, REQUIRED), "wish": Column(time_of_day, REQUIRED),
         "by": Column(time_of_day, None), "from": NUMBER, "to": NUMBER, "companions": Column(whole(0, 255), 0),
         "attendant": Column(yes_or_no, False), "first_day": Column(any_day, FIRST_DAY), "last_day": Column(any_day, LAST_DAY),
-        "skip_days": Column(days, frozenset()),
+        "skip_days": Column(days, frozenset()), "mode": Column(mode, MODES[0]),
     },
     "riders": {
         "number": NUMBER, "kind": Column(one_of("resident", "visitor"), REQUIRED),
