@@ -1,4 +1,5 @@
 """The command that groups addresses into places: its folder's files, and what it prints. The rest is desk_tools.town."""
+import datetime
 import os
 import pathlib
 import sys
@@ -21,41 +22,40 @@ def gather(words):
     try:
         agency, plane = carry.kept_agency(words.folder), geometry.kept_plane(words.folder)
         read, sheet = addresses.read(pathlib.Path(words.csv), plane)
+        grants, faults = grants_of(words.riders)
         known = town.Town(places_of(agency), corridor.lines_of(agency["routes"]), plane, words.speed, words.detour,
-                          words.serve_outside, words.most, grants_of(words.riders))
+                          words.serve_outside, words.most, grants)
         progress = carry.Progress("places tried", 1, after=2)
         found = town.gathered(known, read, lambda done, total: shown(progress, done, total))
         progress.end()
     except sheets.Unreadable as error:
         raise Wrong(str(error)) from None
     refuse(sheet, found)
-    print("\n".join([f"note: {it}" for it in sheet.notes] + town.told(known, found)))
-    for line in addresses.listed(sheet.refused):
+    unread = [f"the column {it} is not read" for it in sheet.header if it not in addresses.COLUMNS]
+    print("\n".join([f"note: {it}" for it in [*unread, *sheet.notes]] + town.told(known, found)))
+    for line in [*faults, *addresses.listed(sheet.refused)]:
         print(f"  refused: {line}")
     put(words, {MAP: drawing.drawn(found, known.lines)} if words.plan else {
         MAP: drawing.drawn(found, known.lines), PLACES: town.places_text(found),
         ADDRESSES: addresses.text_of(found.addresses)}, addresses.refused_text(sheet) if sheet.refused else None)
-    return SOME_REFUSED if sheet.refused else DONE
+    return SOME_REFUSED if sheet.refused or faults else DONE
 
 
 def grants_of(path):
-    """By rider the conditions of the grant, out of a table of riders; none where no table is given."""
+    """By rider the conditions of the grant, out of a table of riders, and a sentence for each row that is wrong."""
     if not path:
-        return {}
+        return {}, []
     sheet = sheets.read(pathlib.Path(path), cutting.COLUMNS)
     if "number" not in sheet.header:
         raise Wrong(f"{path} has no column number in row 1, which names the columns")
-    if sheet.refused:
-        raise Wrong(f"{path}, row {sheet.refused[0].number}: {sheet.refused[0].reason}")
-    found = {}
+    found, faults = {}, [(it.number, it.reason) for it in sheet.refused]
     for row in sheet.rows:
         try:
-            number = cells.number(row.fields["number"])
-            text = row.fields.get("conditions", "")
-            found[number] = tables.conditions(text) if text else [conditional.ALWAYS]
+            number = tables.value_of("number", tables.NUMBER, row.fields)
+            found[number] = tables.value_of("conditions", tables.COLUMNS["riders"]["conditions"], row.fields)
         except ValueError as error:
-            raise Wrong(f"{path}, row {row.number}: {error}") from None
-    return found
+            faults.append((row.number, str(error)))
+    return found, [f"{path}, row {number}: {said}" for number, said in sorted(faults)]
 
 
 def denial_of(places, lines):
@@ -170,7 +170,7 @@ def people(words):
         if sheet and sheet.refused:
             raise Wrong(f"{path}, row {sheet.refused[0].number}: {sheet.refused[0].reason}. Mend it first: the file is written whole")
         made = cutting.cut(pathlib.Path(words.csv), plane, known, lambda it, conditions: joining.joined(it, stand, lines, conditions).address,
-                           denial_of(stand, lines))
+                           denial_of(stand, lines), datetime.date.today())
     except sheets.Unreadable as error:
         raise Wrong(str(error)) from None
     print("\n".join(cutting.told(made)))
