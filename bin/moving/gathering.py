@@ -1,5 +1,7 @@
 """The command that groups addresses into places: its folder's files, and what it prints. The rest is desk_tools.town."""
+import contextlib
 import datetime
+import itertools
 import os
 import pathlib
 import sys
@@ -152,12 +154,37 @@ def join(words):
         return SOME_REFUSED
     print(f"{new.number}: {new.street}: at place {found.place.number} {found.place.name}, {found.feet:,.0f} feet away")
     if not words.plan:
-        try:
-            whole_file.written(words.csv, addresses.text_of(joining.with_row(known, found.address)))
-        except OSError as error:
-            raise Wrong(f"{words.csv}: {error.strerror}") from None
-        print(f"{words.csv} is written")
+        others = addresses.others_in(known, sheet) if sheet else None
+        rewrite(words.csv, addresses.text_of(joining.with_row(known, found.address), others), sheet)
     return DONE
+
+
+def rewrite(path, text, sheet):
+    """Writes the table anew. Where that changes more than the row, a copy of the table as it was stays beside it."""
+    said = [*sheet.notes, *([] if is_ours(sheet) else ["its columns have another order or other names now"])] if sheet else []
+    try:
+        kept = copied(path) if said else None
+        whole_file.written(path, text)
+    except OSError as error:
+        raise Wrong(f"{error.filename or path}: {error.strerror}") from None
+    print(f"{path} is written" + (f" anew, as UTF-8 with commas ({'; '.join(said)}). The table as it was is {kept}" if said else ""))
+
+
+def copied(path):
+    """The name of a copy beside a file, in place of no other file."""
+    for at in itertools.count(1):
+        kept = f"{path}.before{at if at > 1 else ''}"
+        with contextlib.suppress(FileExistsError), open(path, "rb") as file, \
+                open(os.open(kept, os.O_WRONLY | os.O_CREAT | os.O_EXCL, 0o600), "wb") as copy:
+            copy.write(file.read())
+            copy.flush()
+            os.fsync(copy.fileno())
+            return kept
+
+
+def is_ours(sheet):
+    """Whether a table begins with the columns that the tools write, in their order."""
+    return sheet.header[:len(addresses.WRITTEN)] == [*addresses.WRITTEN]
 
 
 def people(words):
