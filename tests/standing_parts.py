@@ -11,7 +11,8 @@ from moving.desk import HARMLESS, Reply
 from moving.rules import RULES
 from orders import state as states, table
 from orders.clerk import Clerk
-from orders.night import BOOKED, REFUSED, THERE, Night
+from orders.night import BOOKED, OFFERED, REFUSED, THERE, Night
+from orders.plan import Planner
 from orders.share import Share
 from serving import difference
 
@@ -43,6 +44,8 @@ class Rules:
 
     def __init__(self, today):
         self.today, self.last, self.kept, self.trips, self.denied, self.steps = today, 0, None, {}, {}, Steps()
+        # Wishes that are denied, each by a rule; and by how many minutes a window begins after an hour before the wish.
+        self.full, self.later = {}, 0
 
     def ask(self, method, path, _, number=None, body=None):
         self.steps()
@@ -62,12 +65,12 @@ class Rules:
         if path == HARMLESS[0]:
             return Reply(403, {"denied": "desk.caller"})
         day = datetime.date.fromisoformat(body["day"])
-        rule = "37.131(b)" if not 1 <= (day - self.today).days <= 14 else self.denied.get((body["rider"], body["day"]))
+        rule = "37.131(b)" if not 1 <= (day - self.today).days <= 14 else self.denied.get((body["rider"], body["day"]), self.full.get(body["wish"]))
         if rule:
             return Reply(422, {"denied": rule})
         trip = max(self.trips, default=0) + 1
-        told = {"due": 350, "fare": 350, "trip": trip, "vehicle": 1, "window_from": body["wish"] - 60,
-                "window_to": body["wish"] - 45}
+        begins = body["wish"] - 60 + self.later
+        told = {"due": 350, "fare": 350, "trip": trip, "vehicle": 1, "window_from": begins, "window_to": begins + 15}
         self.trips[trip] = {"by": None, **body, **told, "status": "booked"}
         self.last, self.kept = number, (number, path, body, Reply(200, told))
         return self.kept[3]
@@ -107,11 +110,11 @@ def steps_counted(steps):
         states.State.add, whole_file.written, os.fsync = add, written, fsync
 
 
-def run_night(folder, rules, orders, today, kill_at=None):
+def run_night(folder, rules, orders, today, kill_at=None, header=HEADER):
     """A night's outcomes, or None where it was killed; and how many steps it had."""
     rules.steps = steps = Steps(kill_at)
     with open(f"{folder}/orders.csv", "w", encoding="utf-8") as file:
-        file.write(HEADER + orders)
+        file.write(header + orders)
     with open(f"{folder}/key", "w", encoding="ascii") as file:
         file.write("standing")
     with steps_counted(steps), contextlib.suppress(Killed), states.held(folder, URL) as kept:
@@ -128,7 +131,8 @@ def trips_wanted(orders, today):
         file.write(HEADER + orders)
         file.flush()
         read = table.orders_in(file.name)[0]
-    return sorted((it.rider, day.isoformat(), it.wish, it.origin, it.goal)
+    first = Planner().requests
+    return sorted((it.rider, day.isoformat(), first(it)[0].wish, it.origin, it.goal)
                   for day in table.days_of(today, 14) for it in read if it.is_on(day))
 
 
@@ -177,6 +181,28 @@ def faults_of_denials():
             rules.denied = {}
             told = run_night(folder, rules, OUT, MONDAY)[0]
             yield difference("the night after it", {BOOKED: 1, THERE: 9}, counted(told))
+
+
+def faults_of_plans():
+    """A wish that is denied is followed by the next of the plan; a window that was not agreed on is told and counted."""
+    row, others = "A,7,2,9:00,,1,2,0,no,,2026-12-01,,{}\n", ("37.131(e)", "no vehicle")
+    cases = [("around", {585: rule}, 0, [(BOOKED, 540)]) for rule in others]
+    cases += [("around", {585: "37.125"}, 0, [(REFUSED, "37.125")]), ("around", {585: others[1], 540: others[0]}, 0, [(REFUSED, others[0])]),
+              ("not before", {600: others[1]}, 0, [(REFUSED, others[1])]), ("not before", {600: others[0]}, 15, [(BOOKED, 585)]),
+              ("not before", {600: others[0]}, 0, [(OFFERED, 585)]), ("not before", {}, 61, [(OFFERED, 600)]), ("around", {}, 75, [(BOOKED, 585)]),
+              ("around", {}, 76, [(OFFERED, 585)])]
+    for mode, full, later, wanted in cases:
+        with tempfile.TemporaryDirectory() as folder:
+            rules = Rules(MONDAY)
+            rules.full, rules.later = full, later
+            for night in (1, 2):
+                told = run_night(folder, rules, row.format(mode), MONDAY, header=HEADER.strip() + ",mode\n")[0]
+                got = [(it.result, it.trip["wish"] if it.trip else it.reason.partition(": ")[0]) for it in told]
+                same = [(THERE if it == BOOKED and night == 2 else it, value) for it, value in wanted]
+                yield difference(f"{mode}, with {full} denied and windows {later} later, night {night}", same, got)
+            with states.held(folder, URL) as kept:
+                count = sum(result in (OFFERED, REFUSED) for result, _ in wanted)
+                yield difference(f"denials of {mode} with {full}, {later}", count, len(kept.untold()))
 
 
 def faults_of_nights():
@@ -284,5 +310,5 @@ def fault_of_end(turn, done, rules, lost, orders, told):
 
 
 def all_faults():
-    for each in (faults_of_each_kill, faults_of_denials, faults_of_nights, faults_of_chances):
+    for each in (faults_of_each_kill, faults_of_denials, faults_of_plans, faults_of_nights, faults_of_chances):
         yield from each()

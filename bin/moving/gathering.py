@@ -1,4 +1,7 @@
 """The command that groups addresses into places: its folder's files, and what it prints. The rest is desk_tools.town."""
+import contextlib
+import datetime
+import itertools
 import os
 import pathlib
 import sys
@@ -21,41 +24,40 @@ def gather(words):
     try:
         agency, plane = carry.kept_agency(words.folder), geometry.kept_plane(words.folder)
         read, sheet = addresses.read(pathlib.Path(words.csv), plane)
+        grants, faults = grants_of(words.riders)
         known = town.Town(places_of(agency), corridor.lines_of(agency["routes"]), plane, words.speed, words.detour,
-                          words.serve_outside, words.most, grants_of(words.riders))
+                          words.serve_outside, words.most, grants)
         progress = carry.Progress("places tried", 1, after=2)
         found = town.gathered(known, read, lambda done, total: shown(progress, done, total))
         progress.end()
     except sheets.Unreadable as error:
         raise Wrong(str(error)) from None
     refuse(sheet, found)
-    print("\n".join([f"note: {it}" for it in sheet.notes] + town.told(known, found)))
-    for line in addresses.listed(sheet.refused):
+    unread = [f"the column {it} is not read" for it in sheet.header if it not in addresses.COLUMNS]
+    print("\n".join([f"note: {it}" for it in [*unread, *sheet.notes]] + town.told(known, found)))
+    for line in [*faults, *addresses.listed(sheet.refused)]:
         print(f"  refused: {line}")
     put(words, {MAP: drawing.drawn(found, known.lines)} if words.plan else {
         MAP: drawing.drawn(found, known.lines), PLACES: town.places_text(found),
         ADDRESSES: addresses.text_of(found.addresses)}, addresses.refused_text(sheet) if sheet.refused else None)
-    return SOME_REFUSED if sheet.refused else DONE
+    return SOME_REFUSED if sheet.refused or faults else DONE
 
 
 def grants_of(path):
-    """By rider the conditions of the grant, out of a table of riders; none where no table is given."""
+    """By rider the conditions of the grant, out of a table of riders, and a sentence for each row that is wrong."""
     if not path:
-        return {}
+        return {}, []
     sheet = sheets.read(pathlib.Path(path), cutting.COLUMNS)
     if "number" not in sheet.header:
         raise Wrong(f"{path} has no column number in row 1, which names the columns")
-    if sheet.refused:
-        raise Wrong(f"{path}, row {sheet.refused[0].number}: {sheet.refused[0].reason}")
-    found = {}
+    found, faults = {}, [(it.number, it.reason) for it in sheet.refused]
     for row in sheet.rows:
         try:
-            number = cells.number(row.fields["number"])
-            text = row.fields.get("conditions", "")
-            found[number] = tables.conditions(text) if text else [conditional.ALWAYS]
+            number = tables.value_of("number", tables.NUMBER, row.fields)
+            found[number] = tables.value_of("conditions", tables.COLUMNS["riders"]["conditions"], row.fields)
         except ValueError as error:
-            raise Wrong(f"{path}, row {row.number}: {error}") from None
-    return found
+            faults.append((row.number, str(error)))
+    return found, [f"{path}, row {number}: {said}" for number, said in sorted(faults)]
 
 
 def denial_of(places, lines):
@@ -152,12 +154,37 @@ def join(words):
         return SOME_REFUSED
     print(f"{new.number}: {new.street}: at place {found.place.number} {found.place.name}, {found.feet:,.0f} feet away")
     if not words.plan:
-        try:
-            whole_file.written(words.csv, addresses.text_of(joining.with_row(known, found.address)))
-        except OSError as error:
-            raise Wrong(f"{words.csv}: {error.strerror}") from None
-        print(f"{words.csv} is written")
+        others = addresses.others_in(known, sheet) if sheet else None
+        rewrite(words.csv, addresses.text_of(joining.with_row(known, found.address), others), sheet)
     return DONE
+
+
+def rewrite(path, text, sheet):
+    """Writes the table anew. Where that changes more than the row, a copy of the table as it was stays beside it."""
+    said = [*sheet.notes, *([] if is_ours(sheet) else ["its columns have another order or other names now"])] if sheet else []
+    try:
+        kept = copied(path) if said else None
+        whole_file.written(path, text)
+    except OSError as error:
+        raise Wrong(f"{error.filename or path}: {error.strerror}") from None
+    print(f"{path} is written" + (f" anew, as UTF-8 with commas ({'; '.join(said)}). The table as it was is {kept}" if said else ""))
+
+
+def copied(path):
+    """The name of a copy beside a file, in place of no other file."""
+    for at in itertools.count(1):
+        kept = f"{path}.before{at if at > 1 else ''}"
+        with contextlib.suppress(FileExistsError), open(path, "rb") as file, \
+                open(os.open(kept, os.O_WRONLY | os.O_CREAT | os.O_EXCL, 0o600), "wb") as copy:
+            copy.write(file.read())
+            copy.flush()
+            os.fsync(copy.fileno())
+            return kept
+
+
+def is_ours(sheet):
+    """Whether a table begins with the columns that the tools write, in their order."""
+    return sheet.header[:len(addresses.WRITTEN)] == [*addresses.WRITTEN]
 
 
 def people(words):
@@ -170,7 +197,7 @@ def people(words):
         if sheet and sheet.refused:
             raise Wrong(f"{path}, row {sheet.refused[0].number}: {sheet.refused[0].reason}. Mend it first: the file is written whole")
         made = cutting.cut(pathlib.Path(words.csv), plane, known, lambda it, conditions: joining.joined(it, stand, lines, conditions).address,
-                           denial_of(stand, lines))
+                           denial_of(stand, lines), datetime.date.today())
     except sheets.Unreadable as error:
         raise Wrong(str(error)) from None
     print("\n".join(cutting.told(made)))

@@ -19,7 +19,7 @@ WEEKDAY, SATURDAY, SUNDAY = "weekday", "Saturday", "Sunday"
 MODE = "DR"
 FEW = ["mode", "day", "service", "vehicles_operated"]
 SUMS = ["riders", "companions", "attendants", "unlinked_passenger_trips", "ada_unlinked_passenger_trips",
-        "no_shows_by_rider", "missed_by_operator", "cancelled", "without_outcome", "fares_cents"]
+        "no_shows_by_rider", "missed_by_operator", "cancelled", "without_outcome", "to_come", "fares_cents"]
 LABELS = [
     ("unlinked_passenger_trips", "Unlinked passenger trips, all of them under the ADA"),
     ("riders", "  riders"),
@@ -29,7 +29,8 @@ LABELS = [
     ("no_shows_by_rider", "No-shows of riders"),
     ("missed_by_operator", "Trips that the operator missed"),
     ("cancelled", "Cancelled trips"),
-    ("without_outcome", "Trips without an outcome"),
+    ("without_outcome", "Trips that are over, without an outcome"),
+    ("to_come", "Trips to come"),
     ("fares_cents", "Fares due of the trips that were ridden, in cents"),
 ]
 # What stands of each day on the page: a column's name there, its width, and the figure.
@@ -52,7 +53,8 @@ def report(words):
     by_day = collections.defaultdict(list)
     for trip in trips:
         by_day[trip["day"]].append(trip)
-    days = [figures_of(day, those, parties) for day, those in sorted(by_day.items())]
+    today = datetime.date.today().isoformat()
+    days = [figures_of(day, those, parties, today) for day, those in sorted(by_day.items())]
     total = total_of(days)
     path = words.output or f"{words.folder}/report.csv"
     with open(path, "w", encoding="utf-8", newline="") as file:
@@ -102,8 +104,8 @@ def service_of(day):
     return {6: SATURDAY, 7: SUNDAY}.get(datetime.date.fromisoformat(day).isoweekday(), WEEKDAY)
 
 
-def figures_of(day, trips, parties):
-    """The figures of a day, by their names."""
+def figures_of(day, trips, parties, today):
+    """The figures of a day, by their names. What is booked today or later is to come, and lacks no outcome yet."""
     counts = collections.Counter(it["status"] for it in trips)
     ridden = [it for it in trips if it["status"] == "ridden"]
     along = [parties[it["trip"]] for it in ridden] if parties is not None else None
@@ -116,7 +118,8 @@ def figures_of(day, trips, parties):
         "riders": len(ridden), "companions": companions, "attendants": attendants,
         "unlinked_passenger_trips": persons, "ada_unlinked_passenger_trips": persons,
         "no_shows_by_rider": counts["missed-rider"], "missed_by_operator": counts["missed-operator"],
-        "cancelled": counts["cancelled"], "without_outcome": counts["booked"],
+        "cancelled": counts["cancelled"], "without_outcome": 0 if day >= today else counts["booked"],
+        "to_come": counts["booked"] if day >= today else 0,
         "fares_cents": sum(int(it["due"]) for it in ridden),
     }
 

@@ -10,9 +10,8 @@ from moving.limits import GREATEST_COORDINATE, HIGHEST_NUMBER, LAST_MINUTE, MOST
 
 sys.path.append(os.path.join(os.path.dirname(os.path.realpath(__file__)), "..", "..", "python"))
 from desk_tools.tables import ROLES
-from desk_tools.town import cells, sheets
+from desk_tools.town import cells, conditional, sheets
 
-CONDITION = re.compile(r"always|nolift|farther:[1-9]\d*|months:[1-9]\d?(,[1-9]\d?)*")
 WEEKDAY_PART = re.compile(r"([1-7])(?:-([1-7]))?")
 WEEKDAY_NAMES = ["mon", "tue", "wed", "thu", "fri", "sat", "sun"]
 WEEKDAY_NAME = re.compile(rf"(?i)\b({'|'.join(WEEKDAY_NAMES)})[a-z]*\b,?")
@@ -24,6 +23,7 @@ Refused = collections.namedtuple("Refused", "what reason")
 Rows = collections.namedtuple("Rows", "header cells")
 LABELS = {"places": "place {number}", "vehicles": "vehicle {number} from {from_day}", "callers": "caller {number}", "riders": "rider {number}"}
 REQUIRED = object()
+MODES = ("around", "not-before", "by")
 
 
 def whole(low, high):
@@ -114,26 +114,6 @@ def weekdays(text):
     return sorted(days)
 
 
-def is_condition(text):
-    if not CONDITION.fullmatch(text):
-        return False
-    kind, _, rest = text.partition(":")
-    numbers = [int(it) for it in rest.split(",") if it]
-    if kind == "months":
-        return numbers == sorted({*numbers}) and numbers[-1] <= 12
-    return kind != "farther" or numbers[0] <= 100_000
-
-
-def conditions(text):
-    """One to four conditions of a grant, with a semicolon between two."""
-    found = [it.strip() for it in text.lower().split(";")]
-    if not all(map(is_condition, found)):
-        raise ValueError("are none such as always, nolift, months:1,2,12 (rising) or farther:5280")
-    if len(found) > 4:
-        raise ValueError("are more than four conditions")
-    return found
-
-
 def whose(text):
     """Whose place it is: nobody's, for staff alone, or that of some riders with blanks or semicolons between them."""
     numbers = [it for it in re.split(r"[\s;]+", text) if it]
@@ -152,6 +132,14 @@ def one_of(*words):
             raise ValueError(f"is none of {', '.join(words)}")
         return text.lower()
     return read
+
+
+def mode(text):
+    """What matters of an order's time, as the pages call it."""
+    found = re.sub(r"[\s_-]+", "-", text.lower())
+    if found not in MODES:
+        raise ValueError("is none of around, not before, by")
+    return found
 
 
 def text_of(text):
@@ -183,12 +171,12 @@ COLUMNS = {
         "order": NAME, "rider": NUMBER, "weekdays": Column(weekdays, REQUIRED), "wish": Column(time_of_day, REQUIRED),
         "by": Column(time_of_day, None), "from": NUMBER, "to": NUMBER, "companions": Column(whole(0, 255), 0),
         "attendant": Column(yes_or_no, False), "first_day": Column(any_day, FIRST_DAY), "last_day": Column(any_day, LAST_DAY),
-        "skip_days": Column(days, frozenset()),
+        "skip_days": Column(days, frozenset()), "mode": Column(mode, MODES[0]),
     },
     "riders": {
         "number": NUMBER, "kind": Column(one_of("resident", "visitor"), REQUIRED),
         "attendant": Column(yes_or_no, False), "wheelchair": Column(yes_or_no, False), "until": Column(any_day, None),
-        "conditions": Column(conditions, ["always"]), "home": Column(whole(1, HIGHEST_NUMBER), None),
+        "conditions": Column(conditional.grant_in, [conditional.ALWAYS]), "home": Column(whole(1, HIGHEST_NUMBER), None),
     },
 }
 

@@ -6,23 +6,25 @@ from moving.carry import reason_of
 from moving.limits import DAYS_AHEAD
 from moving.rules import RULES
 from moving.typed import events
-from orders import table
+from orders import plan, table
 from orders.clerk import STANDING
+from orders.share import hour_of
 
-# How a trip of an order came out: its result (booked, there, refused), the rule or the reason, and the desk's trip.
+# How a trip of an order came out: its result, the rule or the reason, and the desk's trip. One that is offered stands at
+# another time than was agreed: a clerk asks the rider.
 Outcome = collections.namedtuple("Outcome", "order day result reason trip")
-BOOKED, THERE, REFUSED = "booked", "there", "refused"
+BOOKED, THERE, OFFERED, REFUSED = "booked", "there", "offered", "refused"
 SHARE_RULE = "37.133(b)"
 MOST_TRIES = 5
-# What the site is told of a denial: an order's minute is that of a pickup round it.
-CHANNEL, MODE = "standing-order", "around"
+# How the site is told that a denial came from a standing order.
+CHANNEL = "standing-order"
 
 
 class Night:
     """What one run needs."""
 
-    def __init__(self, orders, today, state, clerk, share, closed=(), at=None):
-        self.at = at
+    def __init__(self, orders, today, state, clerk, share, closed=(), at=None, planner=None):
+        self.at, self.planner = at, planner or plan.Planner()
         self.orders, self.state, self.clerk, self.share, self.today = orders, state, clerk, share, today
         self.days = [it for it in table.days_of(today, DAYS_AHEAD) if it.isoformat() not in closed]
         self.keys = {it.key for it in orders}
@@ -43,13 +45,17 @@ class Night:
     def orders_on(self, day):
         return [it for it in self.orders if it.is_on(day)]
 
+    def bodies(self, order, day):
+        """All that may be asked of the desk for an order on a day."""
+        return [order.body(day, it) for it in self.planner.requests(order)]
+
     def end_open_write(self):
         """Sees to the write whose reply a killed run did not see."""
         sent = self.state.open.get(self.clerk.name)
         if sent is None:
             return
         order, day = next(((it, day) for day in self.days for it in self.orders_on(day)
-                           if it.key == sent.key and it.body(day) == sent.body), (None, None))
+                           if it.key == sent.key and sent.body in self.bodies(it, day)), (None, None))
         # (one that was not done may have been booked by hand since)
         if order and not self.clerk.is_used(sent.number) and self.there(order, day):
             self.clerk.left(sent)
@@ -71,7 +77,7 @@ class Night:
 
     def count(self, day, trip):
         if trip and trip["day"] == day.isoformat() and trip["status"] in STANDING:
-            self.standing[day, trip["wish"] // 60] += 1
+            self.standing[day, hour_of(trip["window_to"])] += 1
 
     def is_free(self, number, trip):
         """Whether the trip is of no other order of the table. One that was cancelled counts where it was an order's."""
@@ -84,45 +90,71 @@ class Night:
         if done and done.rider == order.rider and done.trip in trips:
             return done.trip
         way = {"day": day.isoformat(), "from": order.origin, "to": order.goal}
-        others = {it.wish for it in self.orders_on(day) if it.rider == order.rider and it is not order}
+        others = {request for it in self.orders_on(day) if it.rider == order.rider and it is not order
+                  for request in self.planner.requests(it)}
 
         def is_near(number, trip):
-            return self.is_free(number, trip) and trip["status"] in STANDING and trip["wish"] not in others
+            return self.is_free(number, trip) and trip["status"] in STANDING and (trip["wish"], trip["by"]) not in others
 
-        trip = (self.clerk.trip_like(order.rider, {**way, "wish": order.wish}, self.is_free)
-                or self.clerk.trip_like(order.rider, way, is_near))
+        exact = (self.clerk.trip_like(order.rider, {**way, **it._asdict()}, self.is_free) for it in self.planner.requests(order))
+        trip = next(filter(None, exact), None) or self.clerk.trip_like(order.rider, way, is_near)
         if trip:
             is_counted = trip in self.state.claims
             self.state.has(order.key, day.isoformat(), order.rider, trip)
             self.count(day, None if is_counted else trips[trip])
         return trip
 
-    def count_denial(self, order, day, reply):
+    def count_denial(self, order, day, rule):
         """Keeps what the site is told of a trip that the desk denies."""
-        rule = denied_by(reply)
         if rule in RULES:
-            fields = {"id": keys.made(), "day": day, "minute": order.wish, "rule": rule, "channel": CHANNEL,
-                      "mode": MODE, "at": self.at}
+            minute = order.by if order.mode == plan.BY else order.wish
+            fields = {"id": keys.made(), "day": day, "minute": minute, "rule": rule, "channel": CHANNEL,
+                      "mode": order.mode, "at": self.at}
             self.state.was_denied(order.key, day.isoformat(), events.path_of("denials", fields))
 
     def outcome(self, order, day):
         for _ in range(MOST_TRIES):
             trip = self.there(order, day)
             if trip:
-                return Outcome(order, day, THERE, "", self.clerk.trips_of(order.rider)[trip])
-            fault = self.share.fault(day, order.wish, self.standing[day, order.wish // 60])
+                return self.told(order, day, THERE, trip)
+            fault = self.share.fault(day, order.wish, self.standing[day, hour_of(order.wish)])
             if fault:
                 return Outcome(order, day, REFUSED, f"{SHARE_RULE}: {fault}", None)
-            reply = self.clerk.book(order.key, order.body(day))
+            reply = self.asked(order, day)
             if reply is None:
                 continue
             if reply.status != 200:
-                self.count_denial(order, day, reply)
+                self.count_denial(order, day, denied_by(reply))
                 return Outcome(order, day, REFUSED, refusal(reply), None)
-            self.standing[day, order.wish // 60] += 1
-            self.share.took(day, order.wish)
-            return Outcome(order, day, BOOKED, "", self.clerk.trips_of(order.rider)[reply.body["trip"]])
+            hour = hour_of(reply.body["window_to"])
+            self.standing[day, hour] += 1
+            self.share.took(day, hour)
+            return self.told(order, day, BOOKED, reply.body["trip"])
         return Outcome(order, day, REFUSED, "another program writes with the clerk's key all the time", None)
+
+    def asked(self, order, day):
+        """The reply to the first request of the plan that is accepted; else the denial of the one that is nearest to what
+        was agreed, the later of two. None where a number was overtaken."""
+        named, denials = self.planner.named(order), []
+        for request in self.planner.requests(order):
+            reply = self.clerk.book(order.key, order.body(day, request))
+            if reply is None or reply.status == 200:
+                return reply
+            denials.append((abs(request.wish - named), -len(denials), reply))
+            if not plan.may_go_on(order, denied_by(reply)):
+                break
+        last = denials[-1][2]
+        return min(denials, key=lambda it: it[:2])[2] if denied_by(last) in plan.OF_MINUTE else last
+
+    def told(self, order, day, result, number):
+        """The outcome of a trip that stands. Where its time is another than was agreed, that is a denial for lack of a
+        vehicle (49 CFR 37.131(b)(2)), and a clerk has to ask the rider."""
+        trip = self.clerk.trips_of(order.rider)[number]
+        is_ours = (trip["wish"], trip["by"]) in self.planner.requests(order) and trip["status"] == "booked"
+        if not is_ours or plan.is_as_agreed(order, trip["window_from"]):
+            return Outcome(order, day, result, "", trip)
+        self.count_denial(order, day, plan.FULL)
+        return Outcome(order, day, OFFERED, f"{plan.FULL}: {RULES[plan.FULL]}", trip)
 
 
 def denied_by(reply):

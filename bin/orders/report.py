@@ -3,7 +3,7 @@ import collections
 import csv
 import io
 
-from orders.night import BOOKED, REFUSED, THERE
+from orders.night import BOOKED, OFFERED, REFUSED, THERE
 
 HEADER = ("day", "order", "rider", "wish", "from", "to", "result", "rule", "reason", "trip", "vehicle", "window_from",
           "window_to")
@@ -35,16 +35,22 @@ def text_of(today, outcomes, faults, notes, hours):
     for it in outcomes:
         groups[it.result].append(it)
     lines = [f"Standing orders, {today}: {len(groups[BOOKED])} booked, {len(groups[THERE])} there already, "
-             f"{len(groups[REFUSED])} refused, {len(faults)} lines that are wrong"]
+             f"{len(groups[REFUSED])} refused, {len(faults)} lines that are wrong"
+             + (f", {len(groups[OFFERED])} at another time" if groups[OFFERED] else "")]
     lines += [f"  note: {it}" for it in notes]
     lines += [f"  wrong: {what}: {said}" for what, said in faults]
+    lines += [f"  ask the rider: {said_of(it, hours)}: {window_of(it, hours)}. It counts as a denial until the rider agrees: "
+              "leave it, or cancel it" for it in groups[OFFERED]]
     lines += [f"  refused: {said_of(it, hours)}: {it.reason}" for it in groups[REFUSED]]
     lines += [f"  cancelled: {said_of(it, hours)}: trip {it.trip['trip']} was cancelled, and is not booked again"
               for it in groups[THERE] if it.trip["status"] == "cancelled"]
-    for it in groups[BOOKED]:
-        window = f"{clock(it.trip['window_from'], hours)} to {clock(it.trip['window_to'], hours)}"
-        lines.append(f"  booked: {said_of(it, hours)}: trip {it.trip['trip']}, pickup from {window}")
+    lines += [f"  booked: {said_of(it, hours)}: {window_of(it, hours)}" for it in groups[BOOKED]]
     return "\n".join(lines) + "\n"
+
+
+def window_of(it, hours):
+    window = f"{clock(it.trip['window_from'], hours)} to {clock(it.trip['window_to'], hours)}"
+    return f"trip {it.trip['trip']}, pickup from {window}"
 
 
 def said_of(it, hours):

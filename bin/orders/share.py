@@ -1,6 +1,6 @@
 """How many trips of a time of day standing orders may take (49 CFR 37.133(b)), as docs/STANDING-ORDERS.md explains.
 
-A time of day is an hour of the clock, by the wish. What is available in it is at least what was carried there: the most
+A time of day is an hour of the clock: of an order by its wish, of a trip by the end of its pickup window. What is available in it is at least what was carried there: the most
 trips that stood in that hour on the day itself, or on the same weekday of one of the last four weeks. The agency may
 say more, in a table of its own.
 """
@@ -46,7 +46,7 @@ class Share:
         self.exports, self.booked = {}, collections.Counter()
 
     def trips_on(self, day):
-        """How many trips stand on a day, by the hour of the wish, as the desk's export tells it."""
+        """How many trips stand on a day, by the hour in which the window ends, as the desk's export tells it."""
         if self.reader is None:
             return collections.Counter()
         if day not in self.exports:
@@ -55,7 +55,7 @@ class Share:
                 raise Wrong(f"the desk does not tell the trips of {day}: status {reply.status}")
             rows = csv.DictReader(io.StringIO(reply.body))
             standing = [it for it in rows if it["status"] != "cancelled"]
-            self.exports[day] = collections.Counter(hour_of(int(it["wish"])) for it in standing)
+            self.exports[day] = collections.Counter(hour_of(int(it["window_to"])) for it in standing)
         return self.exports[day]
 
     def available(self, day, hour):
@@ -77,6 +77,6 @@ class Share:
         return (f"{standing} standing orders are in the hour from {hour_of(minute):02}:00 already, of {available} "
                 f"trips that are available, and {self.percent} % is the most")
 
-    def took(self, day, minute):
+    def took(self, day, hour):
         """A standing order was booked."""
-        self.booked[day, hour_of(minute)] += 1
+        self.booked[day, hour] += 1

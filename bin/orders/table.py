@@ -3,6 +3,7 @@ import collections
 import datetime
 
 from moving import tables
+from orders.plan import BY
 
 COLUMNS = tables.COLUMNS["orders"]
 
@@ -14,8 +15,8 @@ class Order:
         self.line, self.weekdays, self.skipped = line, frozenset(fields["weekdays"]), fields["skip_days"]
         self.first, self.last = fields["first_day"], fields["last_day"]
         self.rider, self.wish, self.origin, self.goal = (fields[it] for it in ("rider", "wish", "from", "to"))
-        self.asked = {it: fields[it] for it in ("rider", "wish", "from", "to", "attendant", "companions")}
-        self.asked |= {} if fields["by"] is None else {"by": fields["by"]}
+        self.by, self.mode = fields["by"], fields["mode"]
+        self.asked = {it: fields[it] for it in ("rider", "from", "to", "attendant", "companions")}
         self.name = f"order {fields['order']}" if fields["order"] else f"line {line}"
         self.key = fields["order"] or f"rider {self.rider} at {self.wish} from {self.origin} to {self.goal}"
 
@@ -24,9 +25,10 @@ class Order:
         text = day.isoformat()
         return day.isoweekday() in self.weekdays and self.first <= text <= self.last and text not in self.skipped
 
-    def body(self, day):
-        """What is asked of the desk."""
-        return {**self.asked, "day": day.isoformat()}
+    def body(self, day, request):
+        """What a request of the plan asks of the desk."""
+        by = {} if request.by is None else {"by": request.by}
+        return {**self.asked, "wish": request.wish, **by, "day": day.isoformat()}
 
     def meets(self, other):
         """Whether two orders have a weekday and a span of days in common."""
@@ -61,6 +63,8 @@ def order_of(line, fields):
         raise ValueError("its last day is before its first")
     if not order.weekdays:
         raise ValueError("weekdays is missing")
+    if order.mode == BY and order.by is None:
+        raise ValueError("by is missing, and mode is by")
     return order
 
 

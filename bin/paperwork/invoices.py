@@ -27,14 +27,14 @@ def table_of(copy, path):
 
 
 def trips_of(copy, log, period):
-    """The ridden trips of the period, with the straight line between their places and the minutes aboard."""
+    """The ridden trips of the period, with the straight line between their places and the seconds aboard."""
     heard, points = Heard(log), {place: (x, y) for place, x, y in copy.rows("SELECT id, x, y FROM places")}
     for trip, rider, day, origin, goal in copy.rows("SELECT id, rider, day, origin, goal FROM trips WHERE status = ? AND day BETWEEN ? AND ? ORDER BY day, id",
                                                     copies.RIDDEN, *map(number_of, period)):
         seconds = heard.aboard(Trip(trip, day, 0, 0, 0, 0, 0, copies.RIDDEN))
         ends = points.get(origin), points.get(goal)
         feet = round(math.dist(*ends)) if all(ends) else None
-        yield sponsors.Trip(trip, rider, day_of(day), origin, goal, feet, None if seconds is None else sponsors.rounded(seconds, 60))
+        yield sponsors.Trip(trip, rider, day_of(day), origin, goal, feet, seconds)
 
 
 def row_of(it, names):
@@ -55,7 +55,7 @@ def page_of(title, sponsor, charges, names):
     listed = Listed("trips", f"{len(charges)} trips", "", "", ("Day", "Trip", "Rider", "Name", "From", "To", "By", Number("Quantity"), Number("Rate ($)"), Number("Amount ($)"), "Note"), rows)
     sentences = [f"Amount due: ${sponsors.dollars(total)}."]
     sentences += [f"{waiting} trips have no amount yet: their note says why."] if waiting else []
-    return drawing.page(f"{title}: {sponsor}", sentences, [listed], [], ["A mile is one of the straight line between the two places. An hour runs from Aboard to Dropped off. Each amount is rounded to the cent."])
+    return drawing.page(f"{title}: {sponsor}", sentences, [listed], [], ["A mile is one of the straight line between the two places. An hour runs from Aboard to Dropped off and is billed by the second. Each amount is rounded once, to the cent."])
 
 
 def write(folder, title, charges, without, names):

@@ -21,7 +21,8 @@ def days_of(copy, period):
         trips[day].append({"trip": trip, "vehicle": vehicle, "due": fare * (1 + companions),
                            "status": EXPORTED[copy.status_of(trip, status)]})
         parties[trip] = report.Party(companions, attendant)
-    return [report.figures_of(day_of(day).isoformat(), those, parties) for day, those in trips.items()]
+    made = copy.made_on().isoformat()
+    return [report.figures_of(day_of(day).isoformat(), those, parties, made) for day, those in trips.items()]
 
 
 def table_of(days):
@@ -46,6 +47,6 @@ def lists_of(days):
 
 SENTENCES = [
     "These are the figures that the National Transit Database asks of demand response, as far as the desk knows them.",
-    "Trips without an outcome count in no other figure.",
+    "Trips without an outcome and trips to come count in no other figure.",
 ]
 WITHOUT_MILES = "Vehicle miles and vehicle hours are not here: drivers report them to the site, and its log (--tally) was not given."

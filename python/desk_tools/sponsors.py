@@ -3,21 +3,23 @@
 docs/WORKLIST.md, "Invoices", defines the table. Each thing that is wrong is named by its row.
 """
 
-import csv
+import contextlib
 import datetime
 import re
+from collections import Counter
 from collections.abc import Collection, Iterable, Sequence
 from dataclasses import dataclass, field
 from decimal import Decimal
 from pathlib import Path
 
+from desk_tools.town import cells, sheets
+
 COLUMNS = ("rider", "sponsor", "from", "to", "rate", "by")
 TRIP, MILE, HOUR = "trip", "mile", "hour"
 BY = (TRIP, MILE, HOUR)
-HIGHEST_NUMBER, MOST_DOLLARS, LONGEST_NAME = 4_294_967_295, 10_000, 80
+MOST_DOLLARS, LONGEST_NAME = 10_000, 80
 RATE = re.compile(r"\$?([0-9]{1,6})(?:\.([0-9]{1,2}))?", re.ASCII)
-DAY = re.compile(r"20[0-9]{2}-[0-9]{2}-[0-9]{2}", re.ASCII)
-FEET_OF_A_MILE = 5_280
+FEET_OF_A_MILE, SECONDS_OF_AN_HOUR = 5_280, 3_600
 FIRST, LAST = datetime.date(2000, 1, 1), datetime.date(2099, 12, 31)
 # What a spreadsheet would take for a formula.
 FORMULA = ("=", "+", "-", "@", "\t", "\r")
@@ -46,15 +48,16 @@ class Row:
 
 @dataclass
 class Table:
-    """The rows that are right, and a sentence for each that is not."""
+    """The rows that are right, a sentence for each that is not, and how the file was read."""
 
     rows: list[Row] = field(default_factory=list)
     faults: list[str] = field(default_factory=list)
+    notes: list[str] = field(default_factory=list)
 
 
 @dataclass(frozen=True)
 class Trip:
-    """A trip that was ridden. `minutes` is None where nobody reported it, and `feet` is the straight line."""
+    """A trip that was ridden. `seconds` aboard is None where nobody reported it, and `feet` is the straight line."""
 
     number: int
     rider: int
@@ -62,7 +65,7 @@ class Trip:
     origin: int
     goal: int
     feet: int | None
-    minutes: int | None
+    seconds: int | None
 
 
 @dataclass(frozen=True)
@@ -77,27 +80,30 @@ class Charge:
 
 
 def read(path: Path, riders: Collection[int]) -> Table:
-    """The table of a file. A rider who is none at the desk, and rows of a rider that overlap, are faults."""
-    table = Table()
+    """The table of a file, as a spreadsheet saved it. A rider who is none at the desk, and rows of a rider that overlap, are faults."""
     try:
-        with open(path, encoding="utf-8-sig", newline="") as file:
-            rows = csv.DictReader(file)
-            heads = {(it or "").strip().lower(): it for it in rows.fieldnames or []}
-            missing = [it for it in COLUMNS if it not in heads]
-            if missing:
-                raise Unreadable(f"{path} has no column {missing[0]} in its first row")
-            for at, fields in enumerate(rows, 2):
-                texts = {it: (fields.get(heads[it]) or "").strip() for it in COLUMNS}
-                if any(texts.values()):
-                    _take(table, at, texts, riders)
-    except OSError as error:
-        raise Unreadable(f"{path} can't be read: {error.strerror}") from None
-    except UnicodeDecodeError:
-        raise Unreadable(f"{path} is not UTF-8: save it as CSV UTF-8") from None
-    except csv.Error as error:
-        raise Unreadable(f"{path} is no CSV: {error}") from None
+        sheet = sheets.read(path, {it: () for it in COLUMNS})
+    except sheets.Unreadable as error:
+        raise Unreadable(str(error)) from None
+    missing = [it for it in COLUMNS if it not in sheet.header]
+    if missing:
+        raise Unreadable(f"{path} has no column {missing[0]} in its first row")
+    table = Table([], [f"row {it.number}: {it.reason}" for it in sheet.refused], _notes(sheet))
+    for row in sheet.rows:
+        _take(table, row.number, {it: row.fields.get(it, "") for it in COLUMNS}, riders)
     _name_overlaps(table)
     return table
+
+
+def _notes(sheet: sheets.Sheet) -> list[str]:
+    """How the bytes and the days of a file were read, where they are no plain CSV."""
+    forms: Counter[tuple[str, str]] = Counter()
+    for row in sheet.rows:
+        for name in ("from", "to"):
+            with contextlib.suppress(cells.WrongCell):
+                forms[name, cells.day(row.fields.get(name, ""))[1]] += 1
+    read_as = [(name, form, it) for (name, form), it in sorted(forms.items()) if form != cells.ISO]
+    return [*sheet.notes, *(f"{name}: {it} days were read as {form}" for name, form, it in read_as)]
 
 
 def _take(table: Table, at: int, texts: dict[str, str], riders: Collection[int]) -> None:
@@ -112,9 +118,11 @@ def _take(table: Table, at: int, texts: dict[str, str], riders: Collection[int])
 
 
 def _row(at: int, texts: dict[str, str]) -> Row:
-    number = texts["rider"]
-    if not re.fullmatch("[0-9]{1,12}", number, re.ASCII) or not 1 <= int(number) <= HIGHEST_NUMBER:
-        raise ValueError(f"rider {number[:40]!r} is no number from 1 to {HIGHEST_NUMBER}")
+    try:
+        rider = cells.number(texts["rider"])
+    except cells.WrongCell:
+        said = f"rider {texts['rider'][:40]!r} is no number from 1 to {cells.HIGHEST_NUMBER}"
+        raise ValueError(said) from None
     sponsor = " ".join(texts["sponsor"].split())
     if not sponsor or len(sponsor) > LONGEST_NAME or not sponsor.isprintable():
         raise ValueError(f"sponsor is no name of 1 to {LONGEST_NAME} characters")
@@ -124,20 +132,17 @@ def _row(at: int, texts: dict[str, str]) -> Row:
     by = texts["by"].lower()
     if by not in BY:
         raise ValueError(f"by {by[:40]!r} is none of {', '.join(BY)}")
-    return Row(at, int(number), sponsor, first, last, cents_in(texts["rate"]), by)
+    return Row(at, rider, sponsor, first, last, cents_in(texts["rate"]), by)
 
 
 def _day(name: str, text: str, empty: datetime.date) -> datetime.date:
-    """A day; an empty field is the first day of all, or the last."""
+    """A day as a spreadsheet may have it; an empty field is the first day of all, or the last."""
     if not text:
         return empty
     try:
-        found = datetime.date.fromisoformat(text) if DAY.fullmatch(text) else None
-    except ValueError:
-        found = None
-    if found is None:
-        raise ValueError(f"{name} {text[:40]!r} is no day YYYY-MM-DD")
-    return found
+        return datetime.date.fromisoformat(cells.day(text[:40])[0])
+    except cells.WrongCell as error:
+        raise ValueError(f"{name} {error}") from None
 
 
 def cents_in(text: str) -> int:
@@ -187,19 +192,20 @@ def charges_of(trips: Iterable[Trip], rows: Sequence[Row]) -> tuple[list[Charge]
 
 
 def charge_of(trip: Trip, row: Row) -> Charge:
-    """The amount of one trip: it is rounded to the cent here, and nowhere else."""
+    """The amount of one trip: it is rounded to the cent here, and nowhere else.
+
+    Miles are billed in hundredths. Hours are billed by the second: their quantity is rounded for the eye alone.
+    """
     if row.by == TRIP:
         return Charge(trip, row, 100, row.cents)
-    measure, unit = (trip.feet, FEET_OF_A_MILE) if row.by == MILE else (trip.minutes, 60)
+    is_mile = row.by == MILE
+    measure, unit = (trip.feet, FEET_OF_A_MILE) if is_mile else (trip.seconds, SECONDS_OF_AN_HOUR)
     if measure is None:
-        said = (
-            "the places have no points"
-            if row.by == MILE
-            else "Aboard or Dropped off was not tapped"
-        )
+        said = "the places have no points" if is_mile else "Aboard or Dropped off was not tapped"
         return Charge(trip, row, None, 0, said)
     quantity = rounded(measure * 100, unit)
-    return Charge(trip, row, quantity, rounded(quantity * row.cents, 100))
+    cents = rounded(quantity * row.cents, 100) if is_mile else rounded(measure * row.cents, unit)
+    return Charge(trip, row, quantity, cents)
 
 
 def rounded(number: int, by: int) -> int:

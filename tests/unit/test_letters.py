@@ -248,3 +248,31 @@ def test_a_name_from_elsewhere_leaves_braille_readable(language: str) -> None:
     made = forms.braille(["Çelïk Žižkå, José Núñez"], language)
     assert made.isascii()
     assert language == "en" or "CELIK" in made.upper()
+
+
+@pytest.mark.parametrize(
+    "encoding, mark", [("utf-8-sig", ","), ("utf-8", ";"), ("cp1252", ";"), ("utf-16", "\t")]
+)
+def test_a_roster_is_read_as_a_spreadsheet_saved_it(
+    tmp_path: Path, encoding: str, mark: str
+) -> None:
+    path = tmp_path / "roster.csv"
+    lines = ["Rider,Name,Language,Home", "00101,Ana Núñez,ES,62", "102,Bo,,"]
+    path.write_bytes("\r\n".join(it.replace(",", mark) for it in lines).encode(encoding))
+    assert asking.rider_in(path, 101) == asking.Rider("Ana Núñez", "es", "62")
+    assert asking.rider_in(path, 103) == asking.Rider()
+
+
+@pytest.mark.parametrize(
+    "text, said",
+    [
+        ("Rider,Language\n101,es\n", "has no column name in its first row"),
+        ("rider,name\n101,Ana,one too many\n", "row 2: it has 3 cells"),
+        ("PK", "is a workbook and no CSV"),
+    ],
+)
+def test_a_roster_without_the_riders_name_is_named(tmp_path: Path, text: str, said: str) -> None:
+    path = tmp_path / "roster.csv"
+    path.write_text(text, encoding="utf-8")
+    with pytest.raises(forms.NoForm, match=said):
+        asking.rider_in(path, 101)

@@ -54,6 +54,31 @@ def test_rows_that_overlap_are_named(tmp_path: Path) -> None:
     assert not table(tmp_path, first, "7,County,2026-04-01,,2,mile").faults
 
 
+@pytest.mark.parametrize(
+    "encoding, mark, day, note",
+    [
+        ("utf-8-sig", ",", "2026-03-02", ""),
+        ("cp1252", ";", "3/2/2026", "from: 1 days were read as M/D/YYYY"),
+        ("utf-16", "\t", "46083", "from: 1 days were read as Excel's count of days"),
+    ],
+)
+def test_a_table_is_read_as_a_spreadsheet_saved_it(
+    tmp_path: Path, encoding: str, mark: str, day: str, note: str
+) -> None:
+    path = tmp_path / "sponsors.csv"
+    lines = [HEAD.strip().title(), f"007,Señor Center,{day},,14.50,Trip", ",,,,,"]
+    path.write_bytes("\r\n".join(it.replace(",", mark) for it in lines).encode(encoding))
+    found = sponsors.read(path, {7})
+    assert found.faults == [] and (not note or note in found.notes)
+    assert found.rows == [Row(2, 7, "Señor Center", DAY, sponsors.LAST, 1450, "trip")]
+
+
+def test_an_hour_is_billed_by_the_second() -> None:
+    row = Row(2, 7, "Aging", sponsors.FIRST, sponsors.LAST, 4_000, "hour")
+    it = sponsors.charge_of(Trip(1, 7, DAY, 1, 2, 0, 17 * 60 + 35), row)
+    assert (it.quantity, it.cents) == (29, 1_172)
+
+
 @given(some.binary(max_size=200))
 def test_any_bytes_are_a_table_or_named(content: bytes) -> None:
     path = Path(ROOM, "bytes.csv")
@@ -81,12 +106,18 @@ def test_an_amount_is_rounded_once(measure: int, cents: int, by: str) -> None:
         ),
         row,
     )
-    assert it.quantity is not None and abs(
-        Fraction(it.quantity * cents, 100) - it.cents
-    ) <= Fraction(1, 2)
-    unit = {"trip": Fraction(1), "mile": Fraction(measure, 5_280), "hour": Fraction(measure, 60)}[
-        by
-    ]
+    assert it.quantity is not None
+    exact = {
+        "trip": Fraction(cents),
+        "mile": Fraction(it.quantity * cents, 100),
+        "hour": Fraction(measure * cents, 3_600),
+    }[by]
+    assert abs(exact - it.cents) <= Fraction(1, 2)
+    unit = {
+        "trip": Fraction(1),
+        "mile": Fraction(measure, 5_280),
+        "hour": Fraction(measure, 3_600),
+    }[by]
     assert abs(Fraction(it.quantity, 100) - unit) <= Fraction(1, 200)
 
 

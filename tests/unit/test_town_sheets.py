@@ -16,7 +16,7 @@ sys.path.append(str(Path(__file__).parents[2] / "bin"))
 from desk_tools.town import cells, people, sheets  # noqa: E402
 from desk_tools.town.addresses import Address  # noqa: E402
 from desk_tools.town.joining import NoPlace  # noqa: E402
-from moving import carry, feed, limits, tables  # noqa: E402
+from moving import carry, feed, gathering, limits, tables  # noqa: E402
 
 COLUMNS = {"number": ("id",), "name": (), "until": ()}
 PATH = Path("t.csv")
@@ -145,7 +145,7 @@ def test_one_table_of_riders_is_cut(tmp_path: Path) -> None:
         "101,resident,yes,no,2027-06-30,always,17\n"
         "105,visitor,no,no,,,\n"
     )
-    assert texts["cut-roster.csv"].splitlines()[1] == "101,Ana Peña,555-0101,,17,,"
+    assert texts["cut-roster.csv"].splitlines()[1] == "101,Ana Peña,555-0101,,17,,,,,"
     assert made.addresses == [Address(1, "12 Oak St", (0, 0), place=17, riders=(101,))]
     assert [(it.number, it.cells[1], it.reason) for it in made.sheet.refused] == [
         (3, "Bo Lind", "home_address '99 New Rd' is in no table of addresses, and has no position"),
@@ -157,6 +157,50 @@ def test_one_table_of_riders_is_cut(tmp_path: Path) -> None:
     assert "note: semicolons between the columns" in notes
     assert "note: 1 lines are no UTF-8 and were read as Windows-1252" in notes
     assert any("read as M/D/YYYY" in it for it in notes)
+
+
+TABLE = "number,name,kind,until,conditions,usual,reminder,mail\n101,Ana,{}\n102,Bo,,,,4;5,SMS,bo@example.org\n"
+
+
+@pytest.mark.parametrize(
+    "row, said",
+    [
+        (
+            ',,"months:12,1,2",,,',
+            "conditions 'months:12,1,2' are none such as always, nolift, months:1,2,12 (rising) or farther:5280",
+        ),
+        (",2026-11-29,,,,", "the certification ended on 2026-11-29, and nothing could be granted"),
+        ("visitor,2027-11-29,,,,", "a visitor has no certification here, so until has to be empty"),
+        (",,,x,,", "usual 'x' is no whole number from 1 to 4,294,967,295"),
+        (",,,,fax,", "reminder 'fax' is none of sms, mail, voice, none"),
+        (",,,,mail,ana", "mail 'ana' is no mail address"),
+    ],
+)
+def test_one_table_refuses_what_the_next_command_refuses(
+    tmp_path: Path, row: str, said: str
+) -> None:
+    """Its row is refused with the reason; the next one keeps all that the roster has of it."""
+    path = tmp_path / "people.csv"
+    path.write_text(TABLE.format(row), encoding="utf-8")
+    made = people.cut(path, None, [], lambda it, _: it, lambda *_: "", datetime.date(2026, 11, 30))
+    assert [(it.number, it.reason) for it in made.sheet.refused] == [(2, said)]
+    assert people.texts_of(made)["cut-roster.csv"].splitlines() == [
+        "rider,name,telephone,language,home,usual,aid,note,reminder,mail",
+        "102,Bo,,,,4;5,,,sms,bo@example.org",
+    ]
+    assert not any("is not read" in it for it in people.told(made))
+
+
+def test_a_wrong_grant_is_named_and_the_others_go_on(tmp_path: Path) -> None:
+    """What `gather --riders` reads, with the subject of what is wrong."""
+    path = tmp_path / "riders.csv"
+    rows = ['101,"months:12,1,2"', "102,nolift", "x,", "103,", "104,nolift,more"]
+    path.write_text("\n".join(["number,conditions", *rows]), encoding="utf-8")
+    grants, faults = gathering.grants_of(str(path))
+    assert grants == {102: ["nolift"], 103: ["always"]}
+    said = "conditions 'months:12,1,2' are none such as always, nolift"
+    assert faults[0].startswith(f"{path}, row 2: {said}")
+    assert [it.partition(": ")[0] for it in faults] == [f"{path}, row {at}" for at in (2, 4, 6)]
 
 
 NAME = st.text(st.characters(), max_size=20)

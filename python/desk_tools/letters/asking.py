@@ -1,6 +1,5 @@
 """A letter of the desk: it is read by the desk's API as the pages read it, and told in sentences."""
 
-import csv
 import http.client
 import json
 import time
@@ -14,6 +13,9 @@ from typing import Any
 from desk_tools.letters import composing
 from desk_tools.letters.composing import About, Letter, Sender
 from desk_tools.letters.forms import LANGUAGES, NoForm
+from desk_tools.town import cells, sheets
+
+ROSTER_COLUMNS = ("rider", "name", "language", "home")
 
 MOST_ENTRIES = 200
 # Of entries that stand side by side at most four have no letter; so behind five in a row there is none.
@@ -124,18 +126,34 @@ def sender_in(path: Path) -> tuple[Sender, Mapping[str, str]]:
 
 
 def rider_in(path: Path, rider: int) -> Rider:
-    """A rider of the roster; nothing is known of one who is not in it."""
+    """A rider of the roster, as a spreadsheet saved it; nothing is known of one who is not in it.
+
+    A row of the rider that can't be read raises NoForm, so that no letter goes out without a name.
+    """
     try:
-        with open(path, encoding="utf-8-sig", newline="") as file:
-            for row in csv.DictReader(file):
-                if (row.get("rider") or "").strip() == str(rider):
-                    texts = [(row.get(it) or "").strip() for it in ("name", "language", "home")]
-                    return Rider(*texts)
-    except OSError as error:
-        raise NoForm(f"{path}: {error.strerror}") from None
-    except (ValueError, csv.Error) as error:
-        raise NoForm(f"{path} is no roster: {error}") from None
+        sheet = sheets.read(path, {it: () for it in ROSTER_COLUMNS})
+    except sheets.Unreadable as error:
+        raise NoForm(str(error)) from None
+    missing = [it for it in ("rider", "name") if it not in sheet.header]
+    if missing:
+        raise NoForm(f"{path} has no column {missing[0]} in its first row")
+    for row in sheet.rows:
+        if _is_number(row.fields.get("rider", ""), rider):
+            texts = [row.fields.get(it, "") for it in ("name", "language", "home")]
+            return Rider(texts[0], texts[1].lower(), texts[2])
+    at = sheet.header.index("rider")
+    for refused in sheet.refused:
+        if len(refused.cells) > at and _is_number(refused.cells[at], rider):
+            raise NoForm(f"{path}, row {refused.number}: {refused.reason}")
     return Rider()
+
+
+def _is_number(text: str, number: int) -> bool:
+    """Whether a cell is this number, leading zeros or not."""
+    try:
+        return cells.number(text) == number
+    except cells.WrongCell:
+        return False
 
 
 @dataclass(frozen=True)

@@ -6,8 +6,8 @@ Columns: id, street, place, latitude and longitude or x and y in feet, note, rid
 
 import csv
 import io
-from collections.abc import Callable, Iterable, Sequence
-from dataclasses import dataclass, replace
+from collections.abc import Callable, Iterable, Mapping, Sequence
+from dataclasses import dataclass, field, replace
 from pathlib import Path
 from typing import Protocol, TypeVar
 
@@ -47,6 +47,14 @@ class Address:
     riders: tuple[int, ...] = ()
     core: bool = False
     row: int = 0
+
+
+@dataclass(frozen=True)
+class Others:
+    """Columns that no tool knows: their names, and each address's cells by them."""
+
+    names: Sequence[str] = ()
+    cells: Mapping[int, Mapping[str, str]] = field(default_factory=dict)
 
 
 class Plane(Protocol):
@@ -139,18 +147,27 @@ def with_point(address: Address, fields: dict[str, str], plane: Plane | None) ->
     return replace(address, point=(x, y), position=position)
 
 
-def text_of(addresses: Iterable[Address]) -> str:
-    """The addresses as the CSV that the tools write."""
-    text = io.StringIO()
+def text_of(addresses: Iterable[Address], others: Others | None = None) -> str:
+    """The addresses as the CSV that the tools write, with columns of the agency's own behind."""
+    text, kept = io.StringIO(), others or Others()
     writer = csv.writer(text, lineterminator="\n")
     is_core = ("", "yes")
-    writer.writerow(WRITTEN)
+    writer.writerow([*WRITTEN, *kept.names])
     for it in addresses:
         position = tuple(f"{part:.7f}" for part in it.position) if it.position else ("", "")
         riders = ";".join(map(str, it.riders))
         row = (it.number, it.street, it.place or "", *position, it.note, riders, is_core[it.core])
-        writer.writerow(row)
+        cells_of = kept.cells.get(it.number, {})
+        writer.writerow([*row, *(cells_of.get(name, "") for name in kept.names)])
     return text.getvalue()
+
+
+def others_in(addresses: Iterable[Address], sheet: Sheet) -> Others:
+    """The columns of a table that no tool knows, with their cells by the numbers of the addresses."""
+    names = [it for it in sheet.header if it and it not in COLUMNS]
+    number_of = {it.row: it.number for it in addresses}
+    rows = {number_of[it.number]: it.fields for it in sheet.rows if it.number in number_of}
+    return Others(names, rows)
 
 
 def refused_text(sheet: Sheet) -> str:

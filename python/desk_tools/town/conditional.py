@@ -12,7 +12,30 @@ from desk_tools.town.corridor import Line, Point, feet_from_line, feet_missing
 
 ALWAYS, NO_LIFT = "always", "nolift"
 FARTHER = re.compile(r"farther:([1-9]\d*)")
+CONDITION = re.compile(r"always|nolift|farther:[1-9]\d*|months:[1-9]\d?(,[1-9]\d?)*", re.ASCII)
+MOST_CONDITIONS, FARTHEST = 4, 100_000
 Grants = Mapping[int, Sequence[str]]
+
+
+def grant_in(text: str) -> list[str]:
+    """One to four conditions of a grant, with a semicolon between two; a ValueError says what is wrong."""
+    found = [it.strip() for it in text.lower().split(";")]
+    if not all(map(is_condition, found)):
+        raise ValueError("are none such as always, nolift, months:1,2,12 (rising) or farther:5280")
+    if len(found) > MOST_CONDITIONS:
+        raise ValueError("are more than four conditions")
+    return found
+
+
+def is_condition(text: str) -> bool:
+    """Whether the desk takes it as a condition of a grant."""
+    if not CONDITION.fullmatch(text):
+        return False
+    kind, _, rest = text.partition(":")
+    numbers = [int(it) for it in rest.split(",") if it]
+    if kind == "months":
+        return numbers == sorted({*numbers}) and numbers[-1] <= 12
+    return kind != "farther" or numbers[0] <= FARTHEST
 
 
 def matters(conditions: Sequence[str]) -> bool:

@@ -1,11 +1,12 @@
 """One table of riders, cut into what goes where: riders.csv, the roster, and the addresses of homes.
 
 Columns: number, name, telephone, language, home_address, latitude, longitude, home, kind, attendant,
-wheelchair, until, conditions, aid, note. `home` is the number of the home's place. Without it the
+wheelchair, until, conditions, usual, aid, note, reminder, mail. `home` is the number of the home's place. Without it the
 home's address is looked up in the table of addresses, or joins a place by its position.
 """
 
 import csv
+import datetime
 import io
 import re
 from collections import Counter
@@ -13,6 +14,8 @@ from collections.abc import Callable, Sequence
 from dataclasses import dataclass, field, replace
 from pathlib import Path
 
+from desk_tools.reminders.riders import ADDRESS
+from desk_tools.reminders.settings import CHANNELS, NONE
 from desk_tools.town import cells, conditional, sheets
 from desk_tools.town.addresses import Address, Plane, named, refuse_wrong, with_point
 from desk_tools.town.cells import WrongCell
@@ -35,11 +38,27 @@ COLUMNS = {
     "wheelchair": (),
     "until": ("certified_until", "expires", "expiration", "expiration_date"),
     "conditions": ("condition",),
+    "usual": ("usual_places",),
     "aid": ("mobility_aid", "aids"),
     "note": ("notes", "comment", "comments"),
+    "reminder": ("reminders", "remind"),
+    "mail": ("email", "e_mail", "mail_address", "email_address"),
 }
 RIDERS = ("number", "kind", "attendant", "wheelchair", "until", "conditions", "home")
-ROSTER = ("rider", "name", "telephone", "language", "home", "aid", "note")
+ROSTER = (
+    "rider",
+    "name",
+    "telephone",
+    "language",
+    "home",
+    "usual",
+    "aid",
+    "note",
+    "reminder",
+    "mail",
+)
+# What the roster takes as it stands, once it was looked at.
+KEPT = ("usual", "aid", "note", "reminder", "mail")
 LANGUAGES = {"english": "en", "inglés": "en", "spanish": "es", "español": "es"}
 KINDS = ("resident", "visitor")
 
@@ -75,10 +94,12 @@ def cut(
     known: Sequence[Address],
     join: Join,
     deny: Deny = lambda address, conditions: "",
+    today: datetime.date | None = None,
 ) -> Cut:
     """The table's riders, and the addresses with their homes among them.
 
-    `join` gives an address its place, or raises NoPlace; `deny` says why a place is not right for a grant.
+    `join` gives an address its place, or raises NoPlace; `deny` says why a place is not right for a grant. A
+    certification that ended before `today` is refused, as `move-in riders` refuses it.
     """
     sheet = sheets.read(path, COLUMNS, cells.HIGHEST_NUMBER)
     for name in ("number", "name"):
@@ -96,7 +117,7 @@ def cut(
             raise WrongCell(f"{'name' if number else 'number'} is missing")
         if number in seen:
             raise WrongCell(f"row {seen[number]} has the number {number} already")
-        rider = rider_of(number, row.fields, made.forms)
+        rider = rider_of(number, row.fields, made.forms, today)
         home = home_of(number, row.fields, plane, made, streets, join, deny)
         seen[number] = row.number
         made.without_home += home == ""
@@ -114,20 +135,31 @@ def plain(street: str) -> str:
 
 
 def rider_of(
-    number: int, fields: dict[str, str], forms: Counter[tuple[str, str]]
+    number: int,
+    fields: dict[str, str],
+    forms: Counter[tuple[str, str]],
+    today: datetime.date | None = None,
 ) -> dict[str, str]:
     """What the desk needs of a rider."""
     kind = fields.get("kind", "").lower() or "resident"
     if kind not in KINDS:
         raise WrongCell(f"kind {fields['kind']!r} is none of {', '.join(KINDS)}")
     until = named("until", fields, cells.day)
-    if until:
-        forms["until", until[1]] += 1
+    if until and kind == "visitor":
+        raise WrongCell("a visitor has no certification here, so until has to be empty")
+    if until and today and until[0] < today.isoformat():
+        raise WrongCell(f"the certification ended on {until[0]}, and nothing could be granted")
     flags = {
         name: "yes" if named(name, fields, cells.yes_or_no) else "no"
         for name in ("attendant", "wheelchair")
     }
     conditions = fields.get("conditions", "").lower()
+    try:
+        conditional.grant_in(conditions or conditional.ALWAYS)
+    except ValueError as error:
+        raise WrongCell(f"conditions {fields['conditions']!r} {error}") from None
+    if until:
+        forms["until", until[1]] += 1
     return {
         "number": str(number),
         "kind": kind,
@@ -143,13 +175,19 @@ def roster_of(number: int, fields: dict[str, str]) -> dict[str, str]:
     telephone = fields.get("telephone", "")
     if telephone and not any(it.isdigit() for it in telephone):
         raise WrongCell(f"telephone {telephone!r} has no digits")
+    named("usual", fields, cells.numbers)
+    reminder, mail = fields.get("reminder", "").lower(), fields.get("mail", "")
+    if reminder and reminder not in (*CHANNELS, NONE):
+        raise WrongCell(f"reminder {reminder!r} is none of {', '.join(CHANNELS)}, {NONE}")
+    if mail and not ADDRESS.fullmatch(mail):
+        raise WrongCell(f"mail {mail!r} is no mail address")
     return {
         "rider": str(number),
         "name": fields["name"],
         "telephone": telephone,
         "language": LANGUAGES.get(language, language),
-        "aid": fields.get("aid", ""),
-        "note": fields.get("note", ""),
+        **{name: fields.get(name, "") for name in KEPT},
+        "reminder": reminder,
     }
 
 
