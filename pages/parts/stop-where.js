@@ -1,6 +1,6 @@
-// Where a stop of a manifest is, as its booking named it.
+// Where a stop of a manifest is, and where a trip goes, as the booking named it.
 
-import { whereName, whereNote } from "./addresses.js";
+import { whereForRider, whereName, whereNote } from "./addresses.js";
 import { addressSaid } from "./said.js";
 
 /** The end of the trip that a stop is.
@@ -15,3 +15,8 @@ export const stopWhere = ({ what, place, rider, trip }) => whereName(place, ride
 
 /** @param {Stop} stop */
 export const stopNote = ({ what, place, rider, trip }) => whereNote(place, rider, addressSaid(trip, endOf(what)));
+
+/** Both ends of a rider's trip, as the rider reads them.
+ * @param {{ trip?: number, from: number, to: number }} trip @param {number | undefined} rider
+ */
+export const wayOf = ({ trip, from, to }, rider) => ({ from: whereForRider(from, rider, addressSaid(trip, "from")), to: whereForRider(to, rider, addressSaid(trip, "to")) });

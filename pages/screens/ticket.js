@@ -1,6 +1,6 @@
 // The ticket of a trip: what the rider gets, on the screen and on paper, in the reader's language and in the rider's own.
 
-import { whereName } from "../parts/addresses.js";
+import { whereForRider } from "../parts/addresses.js";
 import { agency, vehicleName } from "../parts/agency.js";
 import { between, clock, dayInWords } from "../parts/clock.js";
 import { button, part } from "../parts/element.js";
@@ -60,7 +60,7 @@ const toPay = ({ due, fare }) => (due === fare ? dollars(due) : t("booking.fare-
  */
 function ticketLines({ rider, ticket, wish, said = saidOf(ticket) }) {
     const telephone = agency().telephone, by = said ? said.by ?? null : namedBy({ ...wish, ...ticket });
-    const where = (/** @type {"from" | "to"} */ end) => whereName(wish[end], rider, said?.[`${end}_address`] ?? addressSaid(ticket.trip, end));
+    const where = (/** @type {"from" | "to"} */ end) => whereForRider(wish[end], rider, said?.[`${end}_address`] ?? addressSaid(ticket.trip, end));
     return [[t("booking.from"), where("from")], [t("booking.to"), where("to")],
         ...(by === null ? [] : [/** @type {[string, string]} */ ([t("booking.by"), clock(by)])]),
         [t("booking.for"), riderLabel(rider)], [t("booking.who"), party(wish)], [t("booking.vehicle"), vehicleName(ticket.vehicle)],
