@@ -16,7 +16,8 @@ export const stopWhere = ({ what, place, rider, trip }) => whereName(place, ride
 /** @param {Stop} stop */
 export const stopNote = ({ what, place, rider, trip }) => whereNote(place, rider, addressSaid(trip, endOf(what)));
 
-/** Both ends of a rider's trip, as the rider reads them.
- * @param {{ trip?: number, from: number, to: number }} trip @param {number | undefined} rider
+/** Both ends of a rider's trip, as the rider reads them. What the rider said of addresses holds before what is known of the booking.
+ * @param {{ trip?: number, from: number, to: number }} trip @param {number | undefined} rider @param {{ from_address?: number | null, to_address?: number | null } | null} [said]
  */
-export const wayOf = ({ trip, from, to }, rider) => ({ from: whereForRider(from, rider, addressSaid(trip, "from")), to: whereForRider(to, rider, addressSaid(trip, "to")) });
+export const wayOf = ({ trip, from, to }, rider, said = null) => ({ from: whereForRider(from, rider, said?.from_address ?? addressSaid(trip, "from")),
+    to: whereForRider(to, rider, said?.to_address ?? addressSaid(trip, "to")) });

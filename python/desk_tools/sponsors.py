@@ -54,7 +54,10 @@ class Table:
 
 @dataclass(frozen=True)
 class Trip:
-    """A trip that was ridden. `minutes` is None where nobody reported it, and `feet` is the straight line."""
+    """A trip that was ridden. `minutes` is None where nobody reported it, and `feet` is the straight line.
+
+    `named` has the numbers of the addresses that the booking named for its two ends, None where it named none.
+    """
 
     number: int
     rider: int
@@ -63,6 +66,7 @@ class Trip:
     goal: int
     feet: int | None
     minutes: int | None
+    named: tuple[int | None, int | None] = (None, None)
 
 
 @dataclass(frozen=True)

@@ -14,6 +14,8 @@ from typing import Any
 from desk_tools.letters import composing
 from desk_tools.letters.composing import About, Letter, Sender
 from desk_tools.letters.forms import LANGUAGES, NoForm
+from desk_tools.town import sheets
+from desk_tools.town.site_addresses import Known, known_in
 
 MOST_ENTRIES = 200
 # Of entries that stand side by side at most four have no letter; so behind five in a row there is none.
@@ -138,6 +140,16 @@ def rider_in(path: Path, rider: int) -> Rider:
     return Rider()
 
 
+def mailing_of(asked: "Asked", rider: Rider, places: Mapping[str, str]) -> str:
+    """The address to which the rider's letters go, or an empty text: then the letter has a line for it."""
+    try:
+        addresses = known_in(asked.addresses)[0] if asked.addresses else Known([])
+    except sheets.Unreadable as error:
+        raise NoForm(str(error)) from None
+    home = int(rider.home) if rider.home.isdecimal() else None
+    return addresses.mailing(asked.rider, home, places.get(rider.home, ""))
+
+
 @dataclass(frozen=True)
 class Asked:
     """Which letter is asked for, and where the agency's files are."""
@@ -149,6 +161,7 @@ class Asked:
     agency: Path
     roster: Path | None = None
     language: str | None = None
+    addresses: Path | None = None
 
 
 def text_of(asked: Asked) -> tuple[str, str]:
@@ -165,5 +178,6 @@ def text_of(asked: Asked) -> tuple[str, str]:
         there = ", ".join(str(it.entry) for it in letters)
         raise NoForm(f"the desk has no letter {wanted} to rider {asked.rider}, but {there}")
     language = asked.language or (known.language if known.language in LANGUAGES else "en")
-    about = About(language, asked.rider, sender, letters, known.name, places.get(known.home, ""))
+    place = mailing_of(asked, known, places)
+    about = About(language, asked.rider, sender, letters, known.name, place)
     return composing.plain_text(composing.blocks_of(letter, about)), language

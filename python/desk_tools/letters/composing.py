@@ -319,7 +319,11 @@ def blocks_of(letter: Letter, about: About) -> list[Block]:
         text_of(own, "telephone", {"call": call}) if call else "",
     ]
     number = text_of(own, "rider-number", {"rider": about.rider})
-    to = [about.name or text_of(own, "name-line"), about.place or text_of(own, "address-line"), number]
+    to = [
+        about.name or text_of(own, "name-line"),
+        about.place or text_of(own, "address-line"),
+        number,
+    ]
     records = dict.fromkeys(it.text for it in (kind.refusal, kind.main) if it.text)
     blocks = [
         Block("letterhead", "", (agency.name,)),

@@ -5,9 +5,11 @@ import datetime
 import io
 import json
 import zoneinfo
+from dataclasses import replace
 from pathlib import Path
 from typing import Any
 
+from desk_tools import driver_files
 from desk_tools.asking import Desk, Refused
 from desk_tools.reminders.settings import Wrong
 from desk_tools.reminders.texts import Agency, Trip
@@ -15,14 +17,18 @@ from desk_tools.reminders.texts import Agency, Trip
 BOOKED = "booked"
 
 
-def agency_in(path: Path) -> tuple[Agency, datetime.tzinfo | None]:
-    """What the texts say of the agency, and its zone."""
+def agency_in(path: Path, site: Path | None = None) -> tuple[Agency, datetime.tzinfo | None]:
+    """What the texts say of the agency, with the addresses of the site's folder, and its zone."""
     try:
         held: dict[str, Any] = json.loads(path.read_text("utf-8-sig"))
         named = {int(it["id"]): str(it["name"]) for it in held.get("places", []) if it.get("name")}
         clock = 24 if held.get("clock") == 24 else 12
+        town = driver_files.town_in(site) if site else None
         agency = Agency(str(held["name"]), str(held.get("telephone", "")), clock, named)
+        agency = replace(agency, town=town) if town else agency
         zone = zoneinfo.ZoneInfo(str(held["zone"])) if "zone" in held else None
+    except driver_files.Wrong as error:
+        raise Wrong(str(error)) from None
     except OSError as error:
         raise Wrong(f"{path}: {error.strerror}") from None
     except (ValueError, KeyError, TypeError, AttributeError, zoneinfo.ZoneInfoNotFoundError):
