@@ -4,6 +4,7 @@ import csv
 import datetime
 import io
 import json
+import logging
 import zoneinfo
 from dataclasses import replace
 from pathlib import Path
@@ -14,6 +15,7 @@ from desk_tools.asking import Desk, Refused
 from desk_tools.reminders.settings import Wrong
 from desk_tools.reminders.texts import Agency, Trip
 
+LOG = logging.getLogger("bin/reminders")
 BOOKED = "booked"
 
 
@@ -23,17 +25,23 @@ def agency_in(path: Path, site: Path | None = None) -> tuple[Agency, datetime.tz
         held: dict[str, Any] = json.loads(path.read_text("utf-8-sig"))
         named = {int(it["id"]): str(it["name"]) for it in held.get("places", []) if it.get("name")}
         clock = 24 if held.get("clock") == 24 else 12
-        town = driver_files.town_in(site) if site else None
         agency = Agency(str(held["name"]), str(held.get("telephone", "")), clock, named)
-        agency = replace(agency, town=town) if town else agency
         zone = zoneinfo.ZoneInfo(str(held["zone"])) if "zone" in held else None
-    except driver_files.Wrong as error:
-        raise Wrong(str(error)) from None
     except OSError as error:
         raise Wrong(f"{path}: {error.strerror}") from None
     except (ValueError, KeyError, TypeError, AttributeError, zoneinfo.ZoneInfoNotFoundError):
         raise Wrong(f"{path} is no agency.json with a name, places and a zone") from None
-    return agency, zone
+    town = town_in(site) if site else None
+    return (replace(agency, town=town) if town else agency), zone
+
+
+def town_in(site: Path) -> driver_files.Town | None:
+    """The town's addresses. Of a folder that can't be read none are known: no reminder waits for a street."""
+    try:
+        return driver_files.town_in(site)
+    except driver_files.Wrong as error:
+        LOG.warning("%s: places go by their names", error)
+        return None
 
 
 def trips_on(desk: Desk, day: datetime.date) -> list[Trip]:
