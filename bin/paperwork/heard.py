@@ -51,6 +51,11 @@ class Heard:
         """The event of what was asked for a trip, or None where no log has it."""
         return self.booked.get((number, day_of(day)))
 
+    def addresses(self, number, day):
+        """The numbers of the addresses that a trip's booking named for its two ends, None where it named none."""
+        asked = self.requested(number, day)
+        return (None, None) if asked is None else (asked.from_address, asked.to_address)
+
     def cancellation(self, trip, late_minutes):
         """How a trip was cancelled: for the agency, early, late, or untold."""
         said = self.cancelled.get(trip.number)

@@ -34,18 +34,24 @@ def trips_of(copy, log, period):
         seconds = heard.aboard(Trip(trip, day, 0, 0, 0, 0, 0, copies.RIDDEN))
         ends = points.get(origin), points.get(goal)
         feet = round(math.dist(*ends)) if all(ends) else None
-        yield sponsors.Trip(trip, rider, day_of(day), origin, goal, feet, seconds)
+        yield sponsors.Trip(trip, rider, day_of(day), origin, goal, feet, seconds, heard.addresses(trip, day))
+
+
+def ends_of(trip, names):
+    """Where a trip went from and to, as its sponsor may read it."""
+    start, end = trip.named
+    return names.for_sponsor(trip.rider, trip.origin, start), names.for_sponsor(trip.rider, trip.goal, end)
 
 
 def row_of(it, names):
     trip = it.trip
-    return [trip.number, trip.day.isoformat(), trip.rider, sponsors.cell(names.rider(trip.rider)[0]), sponsors.cell(names.place(trip.origin)),
-            sponsors.cell(names.place(trip.goal)), it.row.by, sponsors.units(it.quantity), sponsors.dollars(it.row.cents), sponsors.dollars(it.cents), it.why]
+    return [trip.number, trip.day.isoformat(), trip.rider, sponsors.cell(names.rider(trip.rider)[0]),
+            *map(sponsors.cell, ends_of(trip, names)), it.row.by, sponsors.units(it.quantity), sponsors.dollars(it.row.cents), sponsors.dollars(it.cents), it.why]
 
 
 def page_row(it, names):
     trip = it.trip
-    return (trip.day, trip.number, trip.rider, names.rider(trip.rider)[0], names.place(trip.origin), names.place(trip.goal), it.row.by,
+    return (trip.day, trip.number, trip.rider, names.rider(trip.rider)[0], *ends_of(trip, names), it.row.by,
             Number(sponsors.units(it.quantity)), Number(sponsors.dollars(it.row.cents)), Number(sponsors.dollars(it.cents)), it.why)
 
 

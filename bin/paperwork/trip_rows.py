@@ -1,6 +1,7 @@
 """The trips of a period for a spreadsheet: clock times, dollars, and names where the agency gives them."""
 import re
 
+from moving.typed import site_addresses
 from paperwork import copies
 from paperwork.copies import day_of, number_of
 from paperwork.heard import Heard, trips_of
@@ -26,9 +27,10 @@ def rows_of(copy, log, period, names):
     for trip, rider, day, wish, origin, goal, latest, attendant, companions, fare, vehicle, begins, ends, status in \
             copy.rows("SELECT id, rider, day, wish, origin, goal, latest, attendant, companions, fare, vehicle, "
                       "window_from, window_to, status FROM trips WHERE day BETWEEN ? AND ? ORDER BY day, id", *days):
+        start, end = heard.addresses(trip, day)
         yield [trip, rider, *map(text, names.rider(rider)), day_of(day), *requested_words(heard.requested(trip, day)),
                clock(wish), clock(begins), clock(ends),
-               text(names.place(origin)), text(names.place(goal)), "" if latest == copies.NO_NUMBER else clock(latest),
+               text(names.where(rider, origin, start)), text(names.where(rider, goal, end)), "" if latest == copies.NO_NUMBER else clock(latest),
                text(names.vehicle(vehicle)), yes(attendant), companions, yes(trip in chairs), dollars(fare),
                dollars(fare * (1 + companions)), copy.status_of(trip, status), planned.get((trip, PICKUP), ""),
                planned.get((trip, DROP), ""), *told[trip]]
@@ -46,7 +48,9 @@ def requested_words(asked):
 class Names:
     """The names of riders, places and vehicles, where the agency gives them. Without them all goes by numbers."""
 
-    def __init__(self, agency, riders):
+    def __init__(self, agency, riders, addresses=None):
+        self.addresses = addresses or site_addresses.Known([])
+        self.private = {it["id"]: it.get("private", False) for it in agency.get("places", [])}
         self.riders = {int(it["rider"]): it for it in riders}
         self.places, self.vehicles = ({it["id"]: it["name"] for it in agency.get(kind, []) if it.get("name")}
                                       for kind in ("places", "vehicles"))
@@ -58,6 +62,18 @@ class Names:
 
     def place(self, number):
         return self.places.get(number, str(number))
+
+    def where(self, rider, place, named):
+        """Where an end of a trip is, as its rider reads it; a place without a name of its own goes by its number."""
+        end = site_addresses.End(rider, place)
+        return self.addresses.read_by_rider(end, self.places.get(place, ""), named) or str(place)
+
+    def for_sponsor(self, rider, place, named):
+        """The same for who is neither staff nor the rider: what is private to others goes by the place's number."""
+        meant, whose = self.addresses.meant(site_addresses.End(rider, place), named), self.private.get(place, False)
+        homes = meant.get("riders") if meant else None
+        is_own = whose is False or (whose is not True and rider in (whose if isinstance(whose, list) else [whose]))
+        return self.where(rider, place, named) if is_own and (not homes or rider in homes) else str(place)
 
     def vehicle(self, number):
         return self.vehicles.get(number, str(number))

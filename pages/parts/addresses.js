@@ -1,8 +1,8 @@
 // The addresses of the town, each at a place of the desk, as the site serves them: staff read all of them, others those that are no homes, and a
 // rider the own ones. Which address a trip means is in parts/address-meant.js.
 
-import { meantOf } from "./address-meant.js";
-import { placeName } from "./agency.js";
+import { mailingOf, meantOf, readBy } from "./address-meant.js";
+import { placeName, placeOf, placeWord } from "./agency.js";
 import * as desk from "./desk.js";
 import { whenSignedOut } from "./leaving.js";
 import { searchable } from "./roster.js";
@@ -73,13 +73,26 @@ export const addressesFor = (rider) => {
  */
 export const addressChoice = ({ id, street }) => t("fields.address-choice", { id, street });
 
-/** Where an end of a trip is: the street of the address that is meant, with its place, or the place alone.
+/** Where an end of a trip is, for staff: the street of the address that is meant, with its place, or the place alone.
  * @param {number} place @param {number | undefined} rider @param {number | null | undefined} named the address that the booking names
  */
 export function whereName(place, rider, named) {
     const address = meantOf(all(), place, rider, named), name = placeName(place);
     return address && address.street !== name ? t("common.address-at", { street: address.street, place: name }) : name;
 }
+
+/** Where an end of a trip is, as its rider reads it: the street of a home, and never the name of the group of homes at whose place the desk has it.
+ * @param {number} place @param {number | undefined} rider @param {number | null | undefined} named
+ */
+export function whereForRider(place, rider, named) {
+    const [first, own] = readBy(all(), { place, name: placeName(place) }, rider, named);
+    return own ? t("common.address-at", { street: first, place: own }) : first ?? `${placeWord()} ${place}`;
+}
+
+/** The address to which a rider's letters go, or "" where it is not known.
+ * @param {number} rider @param {number | null} home the place that the roster names
+ */
+export const mailingAddress = (rider, home) => mailingOf(all(), { place: home, name: home === null ? "" : placeOf(home)?.name ?? "" }, rider);
 
 /** The note of the address that is meant, for staff.
  * @param {number} place @param {number | undefined} rider @param {number | null | undefined} named

@@ -1,6 +1,7 @@
 // A rider's trips as a calendar file (RFC 5545), which phones and mail programs read. Nothing here reads the page.
 
-/** @typedef {{ trip: number, day: string, window_from: number, window_to: number }} Trip minutes are from the day's midnight */
+/** @typedef {{ trip: number, day: string, window_from: number, window_to: number, status: string }} Trip minutes are from the day's midnight, and a canceled one has the
+ *   desk's status "cancelled" */
 /** @typedef {{ summary: string, place: string, description: string }} Words */
 
 const LONGEST = 75, MINUTE = 60_000, TRIES = 3;
@@ -47,10 +48,11 @@ export function momentOf(day, minute, zone) {
 /** @param {number} moment */
 const stampOf = (moment) => new Date(moment).toISOString().slice(0, 19).replace(/[-:]/g, "");
 
-/** @param {Trip} trip @param {Words} words @param {{ zone?: string, host: string, now: number }} about */
-const eventOf = ({ trip, day, window_from: begins, window_to: ends }, { summary, place, description }, { zone, host, now }) => ["BEGIN:VEVENT", `UID:trip-${trip}@${host}`,
-    `DTSTAMP:${stampOf(now)}Z`, `DTSTART:${momentOf(day, begins, zone)}`, `DTEND:${momentOf(day, ends, zone)}`, `SUMMARY:${escaped(summary)}`, `LOCATION:${escaped(place)}`,
-    `DESCRIPTION:${escaped(description)}`, "STATUS:CONFIRMED", "END:VEVENT"];
+/** An event goes by its trip in each file, and the later file has the higher number: so a calendar that has the first takes what the second says.
+ * @param {Trip} trip @param {Words} words @param {{ zone?: string, host: string, now: number }} about */
+const eventOf = ({ trip, day, window_from: begins, window_to: ends, status }, { summary, place, description }, { zone, host, now }) => ["BEGIN:VEVENT", `UID:trip-${trip}@${host}`,
+    `SEQUENCE:${Math.floor(now / MINUTE)}`, `DTSTAMP:${stampOf(now)}Z`, `DTSTART:${momentOf(day, begins, zone)}`, `DTEND:${momentOf(day, ends, zone)}`, `SUMMARY:${escaped(summary)}`, `LOCATION:${escaped(place)}`,
+    `DESCRIPTION:${escaped(description)}`, `STATUS:${status === "cancelled" ? "CANCELLED" : "CONFIRMED"}`, "END:VEVENT"];
 
 /** The file.
  * @template {Trip} T

@@ -171,7 +171,7 @@ export function blocksOf(letter, about) {
     const { own, rider, name, place = "", agency, letters } = about, { main, refusal } = kindOf(letter, letters), call = agency.telephone || agency.name;
     const records = [...new Set([refusal, main])].map(({ text }) => text).filter(Boolean);
     return [{ as: "letterhead", key: "", lines: [agency.name] }, { as: "sender", key: "", lines: [...agency.address.split("\n"), agency.telephone && textOf(own, "telephone", { call: agency.telephone })].filter(Boolean) },
-        { as: "date", key: "", lines: [dayIn(own, main.date)] }, { as: "to", key: "", lines: [name || textOf(own, "name-line"), place, textOf(own, "rider-number", { rider })].filter(Boolean) },
+        { as: "date", key: "", lines: [dayIn(own, main.date)] }, { as: "to", key: "", lines: [name || textOf(own, "name-line"), place || textOf(own, "address-line"), textOf(own, "rider-number", { rider })] },
         ...bodyOf(letter, about), { as: "formats", key: "", lines: [textOf(own, "formats", { call })] },
         ...(records.length ? [{ as: "record", key: "", lines: [textOf(own, "record"), ...records] }] : [])].filter(({ lines }) => lines.length > 0);
 }

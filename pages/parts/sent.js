@@ -1,7 +1,6 @@
 // The list of what was sent for riders' trips while nobody could see the answer: the line was broken, the page was loaded anew, or whoever asked
 // was with another rider by then. It is kept by this window, and stands where the booking was until it is read.
 
-import { placeName } from "./agency.js";
 import { between, clock, dayShort, minuteNow, today } from "./clock.js";
 import * as desk from "./desk.js";
 import { denialOf } from "./denials.js";
@@ -13,6 +12,7 @@ import { riderLabel } from "./roster.js";
 import { openOffer } from "./said.js";
 import { makeScreen } from "./screen.js";
 import { afterAnswer, afterEnding, afterLeaving, afterLoading, afterPlanning, afterReading, afterSending, afterTakingUp, afterUnasked, denialOfGone, riderOfChange, sinceOf, toBeRead } from "./sent-list.js";
+import { wayOf } from "./stop-where.js";
 import { count } from "./tally.js";
 import { isOfMinute } from "./wishes.js";
 import { t } from "./words.js";
@@ -132,7 +132,7 @@ function sinceWords(leg, trips) {
 /** @param {Leg} leg */
 function words(leg) {
     const { rider, wish, said, state, reply, trip } = leg, when = whenWords(leg);
-    const way = { day: dayShort(wish.day), from: placeName(wish.from), to: placeName(wish.to), rider: riderLabel(rider), when,
+    const way = { day: dayShort(wish.day), ...wayOf({ ...wish, trip: trip ?? undefined }, rider), rider: riderLabel(rider), when,
         said: said ? t(`sent.said-${said.mode}`, { time: clock(said.minute) }) : "" };
     if (state === "cancelled" || state === "stands") return t(`sent.${state}`, { ...way, trip, window: between(reply.window_from, reply.window_to) });
     if (state === "offered") return t("sent.offered", { ...way, trip: reply.trip, window: between(reply.window_from, reply.window_to) });

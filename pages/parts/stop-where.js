@@ -1,6 +1,6 @@
-// Where a stop of a manifest is, as its booking named it.
+// Where a stop of a manifest is, and where a trip goes, as the booking named it.
 
-import { whereName, whereNote } from "./addresses.js";
+import { whereForRider, whereName, whereNote } from "./addresses.js";
 import { addressSaid } from "./said.js";
 
 /** The end of the trip that a stop is.
@@ -15,3 +15,9 @@ export const stopWhere = ({ what, place, rider, trip }) => whereName(place, ride
 
 /** @param {Stop} stop */
 export const stopNote = ({ what, place, rider, trip }) => whereNote(place, rider, addressSaid(trip, endOf(what)));
+
+/** Both ends of a rider's trip, as the rider reads them. What the rider said of addresses holds before what is known of the booking.
+ * @param {{ trip?: number, from: number, to: number }} trip @param {number | undefined} rider @param {{ from_address?: number | null, to_address?: number | null } | null} [said]
+ */
+export const wayOf = ({ trip, from, to }, rider, said = null) => ({ from: whereForRider(from, rider, said?.from_address ?? addressSaid(trip, "from")),
+    to: whereForRider(to, rider, said?.to_address ?? addressSaid(trip, "to")) });

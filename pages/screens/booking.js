@@ -2,7 +2,6 @@
 
 import { choiceOfAddress } from "../parts/address-meant.js";
 import { addressOf } from "../parts/addresses.js";
-import { placeName } from "../parts/agency.js";
 import { between, clock, dayInWords, dayShort } from "../parts/clock.js";
 import * as desk from "../parts/desk.js";
 import { denialOf } from "../parts/denials.js";
@@ -14,6 +13,7 @@ import { riderLabel } from "../parts/roster.js";
 import { driveOf, namedBy, offerOf, saidOf } from "../parts/said.js";
 import { makeScreen } from "../parts/screen.js";
 import { ended, left, planned } from "../parts/sent.js";
+import { wayOf } from "../parts/stop-where.js";
 import { otherRequests, pickupsOf, searched, underWay, underWayOf } from "../parts/wishes.js";
 import { t } from "../parts/words.js";
 import { faultOf, wishFields } from "./booking-fields.js";
@@ -70,21 +70,22 @@ async function questionOf({ rider, trip }, legs) {
     const overlaps = (/** @type {Trip} */ it) => !isSame(it) && legs.some(({ wish, said }) => wish.day === it.day && meets(underWay(said), underWayOf(it, driveOf(it))));
     const nowhere = legs.some(({ wish }) => wish.from === wish.to), same = booked.filter(isSame), meeting = booked.filter(overlaps);
     if (!nowhere && !same.length && !meeting.length) return null;
+    const start = wayOf(legs[0].wish, rider, legs[0].said).from;
     const list = (/** @type {Trip[]} */ trips) => part("ul", {}, trips.map((it) => part("li", {}, t("booking.same-trip", { trip: it.trip, day: dayInWords(it.day),
-        window: windowOf(it), from: placeName(it.from), to: placeName(it.to) }))));
+        window: windowOf(it), ...wayOf(it, rider) }))));
     const question = same.length ? t("booking.same-question", { count: same.length, rider: riderLabel(rider) })
-        : t(meeting.length ? "booking.meets-question" : "booking.nowhere-question", { rider: riderLabel(rider), place: placeName(legs[0].wish.from) });
+        : t(meeting.length ? "booking.meets-question" : "booking.nowhere-question", { rider: riderLabel(rider), place: start });
     // (a rider without a name begins with a word in small letters)
     return { question: question.charAt(0).toUpperCase() + question.slice(1),
-    detail: [nowhere && (same.length > 0 || meeting.length > 0) && part("p", {}, t("booking.nowhere", { place: placeName(legs[0].wish.from) })), same.length > 0 && list(same),
+    detail: [nowhere && (same.length > 0 || meeting.length > 0) && part("p", {}, t("booking.nowhere", { place: start })), same.length > 0 && list(same),
         same.length > 0 && meeting.length > 0 && part("p", {}, t("booking.meets")), meeting.length > 0 && list(meeting)],
     yes: t(trip ? "booking.change-yes" : same.length ? "booking.same-yes" : "booking.all-the-same") };
 }
 
 // What is shown of it.
 
-/** @param {Leg} leg */
-const legWords = ({ wish, said }) => t("booking.leg", { day: dayShort(wish.day), from: placeName(wish.from), to: placeName(wish.to), said: saidWords(said) });
+/** @param {Leg} leg @param {number} rider */
+const legWords = ({ wish, said }, rider) => t("booking.leg", { day: dayShort(wish.day), ...wayOf(wish, rider, said), said: saidWords(said) });
 
 /** How a trip that was not changed still stands.
  * @param {Trip} trip
@@ -107,25 +108,25 @@ function otherTimes(leg, { tryOthers }, busy) {
 }
 
 /** A copy of the desk's file, which staff may have kept: a log of it says later why no vehicle could take the trip. Of a change no log can be made.
- * @param {Leg} leg @param {Acts} acts
+ * @param {Leg} leg @param {number} rider @param {Acts} acts
  */
-const copyOf = (leg, { mark }) => !isOwn() && part("div", { class: "kept-copy" }, part("div", { role: "status", id: `marked-${leg.key}`, tabindex: -1 },
-    leg.marked && part("p", { class: "good" }, markedWords(leg.marked))), !leg.marked && [part("p", { class: "hint" }, t("booking.mark-hint")), markButton(legWords(leg), () => mark(leg))]);
+const copyOf = (leg, rider, { mark }) => !isOwn() && part("div", { class: "kept-copy" }, part("div", { role: "status", id: `marked-${leg.key}`, tabindex: -1 },
+    leg.marked && part("p", { class: "good" }, markedWords(leg.marked))), !leg.marked && [part("p", { class: "hint" }, t("booking.mark-hint")), markButton(legWords(leg, rider), () => mark(leg))]);
 
 /** @param {Leg} leg @param {About} about @param {Acts} acts @param {boolean} busy */
-function deniedShown(leg, { trip }, acts, busy) {
-    const heading = trip ? standsWords(trip) : t("booking.denied-for", { leg: legWords(leg) });
+function deniedShown(leg, { rider, trip }, acts, busy) {
+    const heading = trip ? standsWords(trip) : t("booking.denied-for", { leg: legWords(leg, rider) });
     return part("section", { class: "refused", tabindex: -1, id: `leg-${leg.key}`, "aria-label": heading }, part("h3", {}, heading),
-        trip && part("p", {}, t("booking.asked-for", { leg: legWords(leg) })), leg.denied && denialOf(leg.denied, "trip"),
-        leg.denied?.denied === "no vehicle" && [otherTimes(leg, acts, busy), !trip && copyOf(leg, acts)]);
+        trip && part("p", {}, t("booking.asked-for", { leg: legWords(leg, rider) })), leg.denied && denialOf(leg.denied, "trip"),
+        leg.denied?.denied === "no vehicle" && [otherTimes(leg, acts, busy), !trip && copyOf(leg, rider, acts)]);
 }
 
 /** A way back that would begin before the way there arrives: it is asked for once the rider has said when to leave.
- * @param {Leg} leg @param {Acts} acts @param {boolean} busy
+ * @param {Leg} leg @param {number} rider @param {Acts} acts @param {boolean} busy
  */
-function earlyShown(leg, { leaveAt }, busy) {
+function earlyShown(leg, rider, { leaveAt }, busy) {
     const time = clock(Number(leg.early)), heading = t("booking.early-back", { time }), disabled = busy ? "true" : null;
-    return part("section", { class: "refused", tabindex: -1, id: `leg-${leg.key}`, "aria-label": heading }, part("h3", {}, heading), part("p", {}, t("booking.asked-for", { leg: legWords(leg) })),
+    return part("section", { class: "refused", tabindex: -1, id: `leg-${leg.key}`, "aria-label": heading }, part("h3", {}, heading), part("p", {}, t("booking.asked-for", { leg: legWords(leg, rider) })),
         part("div", { class: "row" }, button(t("booking.early-later", { time }), () => leaveAt(leg, Number(leg.early)), { class: "main", "aria-disabled": disabled }),
             button(t("booking.early-as-said", { said: saidWords(leg.said) }), () => leaveAt(leg, null), { "aria-disabled": disabled })));
 }
@@ -135,27 +136,27 @@ function legShown(leg, about, acts, busy) {
     const { rider, trip } = about, { ticket, offer, refused, said, wish, key } = leg, id = `leg-${key}`;
     if (ticket) return part("li", { key }, ticketOf({ rider, ticket, wish, said }, { id,
         heading: t(trip ? "booking.changed-for" : "booking.booked-for", { trip: ticket.trip, rider: riderLabel(rider) }) }));
-    if (offer) return part("li", { key }, offerShown({ trip: { ...wish, ...offer }, said, old: trip, before: leg.before, denied: leg.denied, id, busy, no: leg.no, answer: (yes) => acts.answer(leg, yes) }));
+    if (offer) return part("li", { key }, offerShown({ trip: { ...wish, ...offer }, rider, said, old: trip, before: leg.before, denied: leg.denied, id, busy, no: leg.no, answer: (yes) => acts.answer(leg, yes) }));
     if (refused) return part("li", { key }, part("section", { class: "refused", tabindex: -1, id, "aria-label": refusedWords(trip, leg.moved) },
         part("h3", {}, refusedWords(trip, leg.moved)), !leg.before && part("p", {}, t("booking.offer-counted"))));
     if (leg.denied) return part("li", { key }, deniedShown(leg, about, acts, busy));
-    if (leg.early) return part("li", { key }, earlyShown(leg, acts, busy));
-    return part("li", { key, class: "waiting" }, part("p", {}, `${legWords(leg)}: `, t(busy ? "booking.asking" : "booking.not-asked")));
+    if (leg.early) return part("li", { key }, earlyShown(leg, rider, acts, busy));
+    return part("li", { key, class: "waiting" }, part("p", {}, `${legWords(leg, rider)}: `, t(busy ? "booking.asking" : "booking.not-asked")));
 }
 
 /** What stands though not all of a day was booked: the way there without the way back.
- * @param {Leg[]} legs
+ * @param {Leg[]} legs @param {number} rider
  */
-const standing = (legs) => legs.filter(({ waitsFor, denied, early }) => waitsFor && (denied || early)).map(({ waitsFor }) => legs.find(({ key }) => key === waitsFor))
+const standing = (legs, rider) => legs.filter(({ waitsFor, denied, early }) => waitsFor && (denied || early)).map(({ waitsFor }) => legs.find(({ key }) => key === waitsFor))
     .flatMap((out) => (out?.ticket ? [part("p", { class: "note", key: `stands-${out.key}` }, t("booking.stands", { trip: out.ticket.trip, day: dayShort(out.wish.day), window: windowOf(out.ticket),
-        from: placeName(out.wish.from), to: placeName(out.wish.to) }))] : []));
+        ...wayOf(out.wish, rider, out.said) }))] : []));
 
 /** @param {State} state @param {About} about @param {Acts} acts */
 function resultsShown({ legs, busy }, about, acts) {
     const { rider, trip, ids } = about, booked = legs.filter(({ ticket }) => ticket), done = !busy && legs.length > 0, open = legs.some(({ offer }) => offer);
     const heading = t(trip ? "booking.result-of-change" : "booking.result", { booked: booked.length, count: legs.length, rider: riderLabel(rider), trip: trip?.trip, open });
     return part("div", { class: "results" }, part("p", { role: "status", class: "unseen" }, done && heading),
-        legs.length > 1 && part("h3", { id: `results-${ids}`, tabindex: -1 }, heading), done && standing(legs),
+        legs.length > 1 && part("h3", { id: `results-${ids}`, tabindex: -1 }, heading), done && standing(legs, rider),
         booked.length > 1 && part("div", { class: "row" }, button(t("booking.print-all"), () => printTickets(booked.map((leg) => ({ rider,
             ticket: /** @type {Ticket} */ (leg.ticket), wish: leg.wish, said: leg.said })), heading))),
         part("ol", { class: "legs" }, legs.map((leg) => legShown(leg, about, acts, busy))));

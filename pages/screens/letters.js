@@ -1,6 +1,7 @@
 // Letters: the desk's own text under the agency's letterhead, what it means, and the right of appeal, in English and in Spanish: on paper, in large print, as text.
 
-import { agency, placeOf } from "../parts/agency.js";
+import { mailingAddress } from "../parts/addresses.js";
+import { agency } from "../parts/agency.js";
 import { asked } from "../parts/ask.js";
 import { appealedHere } from "../parts/case-facts.js";
 import { plus, today } from "../parts/clock.js";
@@ -93,7 +94,7 @@ export const lastDay = ({ date }) => plus(date, APPEAL_DAYS);
  * @param {string} own @param {number} rider @param {Letter[]} letters @param {Partial<import("../parts/letter-text.js").About>} [otherwise]
  */
 function aboutOf(own, rider, letters, otherwise = {}) {
-    const home = riderOf(rider)?.home ?? null, place = home === null ? "" : placeOf(home)?.name ?? "", { name, telephone, address, appeal } = agency();
+    const place = mailingAddress(rider, riderOf(rider)?.home ?? null), { name, telephone, address, appeal } = agency();
     return { own, rider, letters, name: riderName(rider) || ownName(rider), place, agency: { name, telephone, address, appeal }, appealDays: APPEAL_DAYS, hearingDays: HEARING_DAYS, ...otherwise };
 }
 

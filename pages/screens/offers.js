@@ -3,10 +3,10 @@
 import { clock, dayInWords } from "../parts/clock.js";
 import { denialOf } from "../parts/denials.js";
 import { button, part } from "../parts/element.js";
-import { placeName } from "../parts/agency.js";
 import { riderLabel } from "../parts/roster.js";
 import { keepOffer, openOffer } from "../parts/said.js";
 import { makeScreen } from "../parts/screen.js";
+import { wayOf } from "../parts/stop-where.js";
 import { count } from "../parts/tally.js";
 import { t } from "../parts/words.js";
 import { givenUp, hasBegun, offerBeforeNo, offerFields, offerNow, refusedWords, tellBooked } from "./booking-plan.js";
@@ -18,6 +18,7 @@ import { saidWords, windowOf } from "./ticket.js";
 /**
  * @typedef {object} Shown
  * @property {import("../types").Wish & import("../types").Ticket} trip
+ * @property {number} rider
  * @property {Said} said
  * @property {Trip | null} old the trip as it was before a change
  * @property {"booking" | "change" | undefined} [elsewhere] what the trip was where another browser was offered it
@@ -32,12 +33,11 @@ import { saidWords, windowOf } from "./ticket.js";
 /** An offer in one sentence, the whole of it, and its two answers.
  * @param {Shown} shown
  */
-export function offerShown({ trip, said, old, elsewhere, before, denied, id, busy, no, answer }) {
+export function offerShown({ trip, rider, said, old, elsewhere, before, denied, id, busy, no, answer }) {
     const far = trip.window_from - said.minute, time = clock(said.minute), disabled = busy ? "true" : null, isLate = hasBegun(trip);
     const heading = before ? t("booking.offer-back-early", { offer: clock(trip.window_from), time: clock(before) }) : t(far > 0 ? "booking.offer-after" : "booking.offer-before", { offer: clock(trip.window_from), minutes: Math.abs(far), time });
     return part("section", { class: "offer", tabindex: -1, id, "data-offer": trip.trip, "aria-label": heading }, part("h3", {}, heading),
-        part("p", {}, t("booking.offer-trip", { trip: trip.trip, day: dayInWords(trip.day), window: windowOf(trip), from: placeName(trip.from), to: placeName(trip.to),
-            said: saidWords(said) })), part("p", {}, t(isLate ? "booking.offer-begun" : elsewhere === "change" ? "booking.offer-changed-elsewhere" : old ? "booking.offer-of-change" : "booking.offer-asks")), denied && denialOf(denied, "cancel"),
+        part("p", {}, t("booking.offer-trip", { trip: trip.trip, day: dayInWords(trip.day), window: windowOf(trip), ...wayOf(trip, rider, said), said: saidWords(said) })), part("p", {}, t(isLate ? "booking.offer-begun" : elsewhere === "change" ? "booking.offer-changed-elsewhere" : old ? "booking.offer-of-change" : "booking.offer-asks")), denied && denialOf(denied, "cancel"),
         part("p", { role: "status" }, no && t(`booking.offer-${no}`, { trip: trip.trip })),
         !isLate && part("div", { class: "row" }, button(t("booking.offer-yes", { trip: trip.trip }), () => answer(true), { class: "main", "aria-disabled": disabled }),
             elsewhere !== "change" && button(t(old ? "booking.offer-back" : "booking.offer-no", { trip: trip.trip, window: old ? windowOf(old) : "" }), () => answer(false), { "aria-disabled": disabled })));
@@ -62,7 +62,7 @@ export function offersOf(rider, changed) {
     /** @param {Trip} trip @param {boolean} busy @param {Denied | null} denied @param {"looking" | "unsure"} [no] */
     const one = (trip, busy, denied, no) => {
         const offer = openOffer(trip);
-        return offer && offerShown({ trip, said: offer.said, old: offer.old, elsewhere: offer.elsewhere, before: offer.before, denied, id: `offer-${trip.trip}`, busy, no, answer: (yes) => answer(trip, yes) });
+        return offer && offerShown({ trip, rider, said: offer.said, old: offer.old, elsewhere: offer.elsewhere, before: offer.before, denied, id: `offer-${trip.trip}`, busy, no, answer: (yes) => answer(trip, yes) });
     };
     const left = (/** @type {number} */ trip) => screen.state.trips.filter((it) => it.trip !== trip);
     const answer = async (/** @type {Trip} */ trip, /** @type {boolean} */ yes) => {

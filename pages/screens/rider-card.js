@@ -1,6 +1,7 @@
 // What a clerk has to know of the rider who calls: standing, conditions, what waits, and what the agency's roster says.
 
-import { placeName, placeNote } from "../parts/agency.js";
+import { whereForRider, whereNote } from "../parts/addresses.js";
+import { placeNote } from "../parts/agency.js";
 import { suspensionOn } from "../parts/case-facts.js";
 import { dayInWords, today } from "../parts/clock.js";
 import * as desk from "../parts/desk.js";
@@ -57,7 +58,7 @@ function knownOf(rider, letters) {
     /** @type {[string, import("../types").Given][]} */
     const all = [["telephone", known.telephone && part("a", { href: `tel:${known.telephone.replace(/[^\d+]/g, "")}` }, known.telephone)],
         ["aid", known.aid], ["companion", attendant],
-        ["home", known.home === null ? null : [placeName(known.home), placeNote(known.home)].filter(Boolean).join(", ")], ["usual", listed(known.usual.map(placeName))], ["note", known.note],
+        ["home", known.home === null ? null : [whereForRider(known.home, rider, null), whereNote(known.home, rider, null) || placeNote(known.home)].filter(Boolean).join(", ")], ["usual", listed(known.usual.map((place) => whereForRider(place, rider, null)))], ["note", known.note],
         ["language", known.language && known.language !== "en" ? LANGUAGE_NAMES[/** @type {"es"} */ (known.language)] ?? known.language : null]];
     return all.filter(([, value]) => value);
 }

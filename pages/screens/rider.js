@@ -47,7 +47,7 @@ let again = null;
 
 /** @param {number} rider */
 function trips(rider) {
-    const list = tripsOfRider(rider, { heading: t("rider.trips"), cards: true, purpose: "rider", above: calendarButton, again: (trip, back) => {
+    const list = tripsOfRider(rider, { heading: t("rider.trips"), cards: true, purpose: "rider", above: (all) => calendarButton(all, rider), again: (trip, back) => {
         again = { trip, back };
         keepSubject("rider", rider);
         location.hash = "rider/book";

@@ -1,12 +1,12 @@
 // The ticket of a trip: what the rider gets, on the screen and on paper, in the reader's language and in the rider's own.
 
-import { whereName } from "../parts/addresses.js";
 import { agency, vehicleName } from "../parts/agency.js";
 import { between, clock, dayInWords } from "../parts/clock.js";
 import { button, part } from "../parts/element.js";
 import { printParts } from "../parts/paper.js";
 import { riderLabel, riderOf } from "../parts/roster.js";
-import { addressSaid, namedBy, saidOf } from "../parts/said.js";
+import { namedBy, saidOf } from "../parts/said.js";
+import { wayOf } from "../parts/stop-where.js";
 import { apart } from "../parts/wishes.js";
 import { language, LANGUAGE_NAMES, listed, loadBoth, speaking, t } from "../parts/words.js";
 
@@ -60,8 +60,8 @@ const toPay = ({ due, fare }) => (due === fare ? dollars(due) : t("booking.fare-
  */
 function ticketLines({ rider, ticket, wish, said = saidOf(ticket) }) {
     const telephone = agency().telephone, by = said ? said.by ?? null : namedBy({ ...wish, ...ticket });
-    const where = (/** @type {"from" | "to"} */ end) => whereName(wish[end], rider, said?.[`${end}_address`] ?? addressSaid(ticket.trip, end));
-    return [[t("booking.from"), where("from")], [t("booking.to"), where("to")],
+    const { from, to } = wayOf({ trip: ticket.trip, from: wish.from, to: wish.to }, rider, said);
+    return [[t("booking.from"), from], [t("booking.to"), to],
         ...(by === null ? [] : [/** @type {[string, string]} */ ([t("booking.by"), clock(by)])]),
         [t("booking.for"), riderLabel(rider)], [t("booking.who"), party(wish)], [t("booking.vehicle"), vehicleName(ticket.vehicle)],
         [t("booking.to-pay"), toPay(ticket)], [t("booking.agency"), [agency().name, telephone].filter(Boolean).join(", ")]];

@@ -1,23 +1,29 @@
-// The button that saves a rider's booked trips as a calendar file.
+// The button that saves a rider's trips to come as a calendar file. Canceled ones are in it too: a calendar that has one from an earlier file strikes it out.
 
-import { agency, placeName } from "../parts/agency.js";
+import { agency } from "../parts/agency.js";
 import { calendarOf } from "../parts/calendar-file.js";
-import { serverNow, today } from "../parts/clock.js";
+import { clock, serverNow, today } from "../parts/clock.js";
 import { button, save } from "../parts/element.js";
+import { namedBy } from "../parts/said.js";
+import { wayOf } from "../parts/stop-where.js";
 import { t } from "../parts/words.js";
 import { windowOf } from "./ticket.js";
 
 /** @typedef {import("../types").Trip} Trip */
 
-const TYPE = "text/calendar;charset=utf-8";
+const TYPE = "text/calendar;charset=utf-8", SAVED = ["booked", "cancelled"];
 
-/** @param {Trip} trip */
-const wordsOf = (trip) => ({ summary: t("trips.calendar-summary", { agency: agency().name }), place: placeName(trip.from),
-    description: t("trips.calendar-text", { trip: trip.trip, window: windowOf(trip), from: placeName(trip.from), to: placeName(trip.to), telephone: agency().telephone }) });
+/** @param {Trip} trip @param {number} rider */
+function wordsOf(trip, rider) {
+    const { name, telephone } = agency(), { from, to } = wayOf(trip, rider), by = namedBy(trip), isOff = trip.status === "cancelled";
+    return { summary: t(isOff ? "trips.calendar-canceled" : "trips.calendar-summary", { agency: name }), place: from,
+        description: t("trips.calendar-text", { trip: trip.trip, window: windowOf(trip), from, to, by: by === null ? "" : t("booking.card-by", { by: clock(by) }), canceled: isOff, telephone }) };
+}
 
-/** Nothing where no booked trip is to come.
- * @param {Trip[]} trips */
-export function calendarButton(trips) {
-    const booked = trips.filter(({ status, day }) => status === "booked" && day >= today()), about = { zone: agency().zone, host: location.hostname || "desk", now: serverNow() };
-    return booked.length > 0 && button(t("trips.calendar"), () => save("trips.ics", TYPE, calendarOf(booked, wordsOf, about)), { key: "calendar", class: "small" });
+/** Nothing where no trip is to come.
+ * @param {Trip[]} trips @param {number} rider */
+export function calendarButton(trips, rider) {
+    const saved = trips.filter(({ status, day }) => SAVED.includes(status) && day >= today()), about = { zone: agency().zone, host: location.hostname || "desk" };
+    return saved.length > 0 && button(t("trips.calendar"), () => save("trips.ics", TYPE, calendarOf(saved, (trip) => wordsOf(trip, rider), { ...about, now: serverNow() })),
+        { key: "calendar", class: "small" });
 }

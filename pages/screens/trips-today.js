@@ -1,11 +1,12 @@
 // "Where is my van?": each trip of today that has no outcome yet, with its window, its van, what is known of the van, and whom to call.
 
-import { agency, placeName, vehicleName } from "../parts/agency.js";
+import { agency, vehicleName } from "../parts/agency.js";
 import { closedFor } from "../parts/closed-days.js";
 import { clock, minuteNow, serverNow, today } from "../parts/clock.js";
 import { part } from "../parts/element.js";
 import { namedBy } from "../parts/said.js";
 import { STAFF } from "../parts/screens.js";
+import { wayOf } from "../parts/stop-where.js";
 import { toldRead } from "../parts/told.js";
 import { t } from "../parts/words.js";
 import { tapsOf, whereIs } from "../parts/where.js";
@@ -69,19 +70,19 @@ export function closedWords(trip) {
     return name !== null && part("p", { class: "note closed-day" }, t(screenNow() === "rider" ? "trips.closed-rider" : "trips.closed", { name }));
 }
 
-/** @param {Trip} trip @param {any} told @param {(trip: Trip) => Given} tools */
-function todayTrip(trip, told, tools) {
+/** @param {Trip} trip @param {{ rider: number, told: any }} known @param {(trip: Trip) => Given} tools */
+function todayTrip(trip, { rider, told }, tools) {
     const where = whereIs(trip, minuteNow(), tapsOf(told, trip.vehicle, { day: today(), at: serverNow() }));
     return part("li", { key: trip.trip, class: `today ${where.place}`, "data-trip": trip.trip },
         closedWords(trip), part("p", { class: "window" }, t("trips.today-window"), " ", part("strong", {}, windowOf(trip))),
         part("p", { class: "state" }, stateWords(trip, where)), lastWords(trip, where),
-        part("p", { class: "way" }, t("booking.card-way", { from: placeName(trip.from), to: placeName(trip.to) }),
+        part("p", { class: "way" }, t("booking.card-way", wayOf(trip, rider)),
             namedBy(trip) !== null && ` ${t("booking.card-by", { by: clock(Number(namedBy(trip))) })}`, ` ${t("trips.today-trip", { trip: trip.trip })}`),
         callWords(trip, where), tools(trip));
 }
 
 /** The trips of today that wait for their outcome.
- * @param {Trip[]} trips @param {string | null | undefined} told the text of the drivers' file @param {(trip: Trip) => Given} tools
+ * @param {Trip[]} trips @param {{ rider: number, told: string | null | undefined }} known told is the text of the drivers' file @param {(trip: Trip) => Given} tools
  */
-export const todayShown = (trips, told, tools) => part("section", { class: "todays", "aria-label": t("trips.list-today") }, part("h3", {}, t("trips.list-today")),
-    part("ul", {}, trips.map((trip) => todayTrip(trip, objectIn(told), tools))));
+export const todayShown = (trips, { rider, told }, tools) => part("section", { class: "todays", "aria-label": t("trips.list-today") }, part("h3", {}, t("trips.list-today")),
+    part("ul", {}, trips.map((trip) => todayTrip(trip, { rider, told: objectIn(told) }, tools))));

@@ -1,6 +1,6 @@
 // A rider's trips: those of today, what comes, what is over and what was cancelled, with Change, Cancel and Book again.
 
-import { placeName, vehicleName } from "../parts/agency.js";
+import { vehicleName } from "../parts/agency.js";
 import { asked } from "../parts/ask.js";
 import { clock, dayInWords, dayShort, minuteNow, today } from "../parts/clock.js";
 import * as desk from "../parts/desk.js";
@@ -10,6 +10,7 @@ import { reading } from "../parts/reads.js";
 import { riderLabel } from "../parts/roster.js";
 import { beginCanceling, endAsking, leaveAsking, namedBy } from "../parts/said.js";
 import { makeScreen } from "../parts/screen.js";
+import { wayOf } from "../parts/stop-where.js";
 import { cancelTrip } from "../parts/tally.js";
 import { t } from "../parts/words.js";
 import { changeFor, statusOf } from "./booking.js";
@@ -55,10 +56,10 @@ const answerOf = ({ trip }, { answers }) => answers[trip] && part("div", { id: `
 // As a table.
 
 /** @param {Trip} trip @param {Shown} shown */
-function tripRow(trip, { tools, below, state }) {
-    const { trip: number, day, from, to, due, vehicle, status } = trip, more = below(trip);
+function tripRow(trip, { rider, tools, below, state }) {
+    const { trip: number, day, due, vehicle, status } = trip, { from, to } = wayOf(trip, rider), more = below(trip);
     const cells = [part("span", { class: "whole" }, dayShort(day)), [part("span", { class: "whole" }, windowOf(trip)), saidLines(trip), closedWords(trip)],
-        [placeName(from), part("small", { class: "to" }, t("trips.to-place", { place: placeName(to) }))], [party(trip), part("small", {}, dollars(due))],
+        [from, part("small", { class: "to" }, t("trips.to-place", { place: to }))], [party(trip), part("small", {}, dollars(due))],
         [vehicleName(vehicle), status !== "booked" && part("small", {}, statusOf(status))]];
     return [part("tr", { key: number }, part("th", { scope: "row" }, String(number)), cells.map((cell) => part("td", {}, cell)),
         part("td", { class: "tools" }, answerOf(trip, state), tools(trip))),
@@ -75,11 +76,11 @@ function tripsTable(trips, caption, shown) {
 // As cards, one below the other, for a narrow screen and for who reads one after another.
 
 /** @param {Trip} trip @param {Shown} shown */
-function tripCard(trip, { tools, below, state }) {
+function tripCard(trip, { rider, tools, below, state }) {
     const status = trip.status === "booked" ? "" : ` (${statusOf(trip.status)})`;
     return part("li", { key: trip.trip }, part("h3", {}, dayInWords(trip.day)), closedWords(trip),
         part("p", {}, part("strong", {}, t("booking.card-pickup", { window: windowOf(trip) })), status),
-        part("p", {}, t("booking.card-way", { from: placeName(trip.from), to: placeName(trip.to) }), namedBy(trip) !== null && ` ${t("booking.card-by", { by: clock(Number(namedBy(trip))) })}`),
+        part("p", {}, t("booking.card-way", wayOf(trip, rider)), namedBy(trip) !== null && ` ${t("booking.card-by", { by: clock(Number(namedBy(trip))) })}`),
         part("p", { class: "hint" }, t("booking.card-more", { trip: trip.trip, said: requestedWords(trip), due: dollars(trip.due), who: party(trip), vehicle: vehicleName(trip.vehicle) })),
         answerOf(trip, state), tools(trip), below(trip));
 }
@@ -96,7 +97,7 @@ function tripsShown(shown) {
     const coming = rest.filter(isComing), past = rest.filter((trip) => !isComing(trip) && !todays.includes(trip)).reverse(), off = all.filter(isOff).reverse();
     const folded = (/** @type {Trip[]} */ trips, /** @type {string} */ name) => trips.length > 0 && part("details", { key: name }, part("summary", {},
         t(`booking.count-${name}`, { count: trips.length })), listOf(trips, t(`booking.list-${name}`), shown));
-    return [todays.length > 0 && todayShown(todays, told, (trip) => [answerOf(trip, state), shown.tools(trip)]),
+    return [todays.length > 0 && todayShown(todays, { rider: shown.rider, told }, (trip) => [answerOf(trip, state), shown.tools(trip)]),
         coming.length ? listOf(coming, t("trips.list-coming"), shown) : part("p", {}, t(todays.length ? "trips.none-later" : "trips.none-coming")),
         folded(past, "past"), folded(off, "off")];
 }
@@ -116,7 +117,7 @@ function toolsOf(trip, { rider, cancel, change, again }) {
 
 /** @param {number} rider @param {Trip} trip */
 const sureToCancel = (rider, trip) => asked({ question: t("booking.cancel-question", { trip: trip.trip, rider: riderLabel(rider) }), danger: true,
-    detail: t("booking.cancel-detail", { day: dayInWords(trip.day), window: windowOf(trip), from: placeName(trip.from), to: placeName(trip.to) }),
+    detail: t("booking.cancel-detail", { day: dayInWords(trip.day), window: windowOf(trip), ...wayOf(trip, rider) }),
     yes: t("booking.cancel-yes", { trip: trip.trip }) });
 
 /** All trips of a rider. again(trip, back) books a trip on another day; above is drawn over the trips.

@@ -116,13 +116,16 @@ class Town:
     known: Known
     bookings: dict[str, Any]
 
+    def named(self, trip: int, end: str) -> object:
+        """The number of the address that a trip's booking named for an end, "from" or "to"; None where it named none."""
+        booking = self.bookings.get(str(trip))
+        return booking.get(f"{end}_address") if isinstance(booking, dict) else None
+
     def ends_of(self, need: Need) -> dict[str, dict[str, dict[str, Any]]]:
         """By trip and end the address that is meant, where one is known."""
         found: dict[str, dict[str, dict[str, Any]]] = {}
         for (trip, end), it in sorted(need.ends.items()):
-            booking = self.bookings.get(str(trip))
-            number = booking.get(f"{end}_address") if isinstance(booking, dict) else None
-            meant = self.known.meant(it, number)
+            meant = self.known.meant(it, self.named(trip, end))
             if meant is not None:
                 fields = {name: meant[name] for name in ADDRESS_FIELDS if name in meant}
                 found.setdefault(str(trip), {})[end] = fields

@@ -57,7 +57,10 @@ class Table:
 
 @dataclass(frozen=True)
 class Trip:
-    """A trip that was ridden. `seconds` aboard is None where nobody reported it, and `feet` is the straight line."""
+    """A trip that was ridden. `seconds` aboard is None where nobody reported it, and `feet` is the straight line.
+
+    `named` has the numbers of the addresses that the booking named for its two ends, None where it named none.
+    """
 
     number: int
     rider: int
@@ -66,6 +69,7 @@ class Trip:
     goal: int
     feet: int | None
     seconds: int | None
+    named: tuple[int | None, int | None] = (None, None)
 
 
 @dataclass(frozen=True)

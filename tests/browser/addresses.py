@@ -1,6 +1,7 @@
 """Addresses: one is found by any part of it, the booking names it, and the ticket and the manifest show it."""
 import json
 
+import people
 from booking import BOOK, FRIDAY, begin, counted_in, last_trip, results, wish
 from checks import check, holds, same
 
@@ -14,6 +15,15 @@ ADDRESSES = [
 
 def with_addresses(at):
     at.town.write_file("staff/addresses.json", json.dumps({"addresses": ADDRESSES}).encode())
+
+
+def with_grouped_homes(at):
+    """The home of rider 1001 at a place that bin/move-in gather made for homes alone, as bin/site-files serves it."""
+    places = people.agency_file(VANS)["places"]
+    at.town.write_files(places=[{**it, "name": "Area 11"} if it["id"] == 11 else it for it in places])
+    home = json.dumps({"addresses": [{"id": 704, "street": "10 Elm St", "place": 11, "riders": [1001]}]}).encode()
+    for name in ("staff/addresses.json", "own/1001/addresses.json"):
+        at.town.write_file(name, home)
 
 
 @check
@@ -41,3 +51,20 @@ def another_riders_home_is_not_offered(at):
     wish(at, start="somebody", goal="library")
     same("the own home", "99 Somebody's Home (address 703)",
          at.browser.script("return document.querySelector('input[name=from]').value"))
+
+
+@check
+def the_card_the_trips_and_the_letter_have_the_street_of_a_home_in_a_group(at):
+    with_grouped_homes(at)
+    at.town.book(1001, FRIDAY, 600, 11, 2)
+    begin(at, "1001")
+    at.browser.sees("10 Elm St, gate code 4411#")
+    shown = at.browser.text()
+    holds(f"the trips have the street and not the group: {shown}", "10 Elm St" in shown.split("Trips")[-1] and "Area 11" not in shown)
+    at.browser.sign_in(at.keys["clerk"], "clerk", "file")
+    at.browser.fill("Rider number", "1001")
+    at.browser.press("Show")
+    at.browser.find("button", "Print letter 1 of rider 1001")
+    at.browser.fill("Print in", "English")
+    plain = " ".join(at.browser.print_by("Print letter 1 of rider 1001").text.split())
+    holds(f"the street stands under the name: {plain}", "Rosa Álvarez 10 Elm St Rider number 1001" in plain)

@@ -3,11 +3,13 @@ import hashlib
 import json
 import re
 
+from addresses import with_grouped_homes
 from booking import BOOK, begin, last_trip, wish
 from checks import check, holds, same
 from clerk import clock_of, late
+from database import until
 from people import TOMORROW
-from scripts import LOW
+from scripts import LOW, SAVED
 
 VANS = 1
 
@@ -80,6 +82,27 @@ def trips_are_cards_and_cancelled_ones_apart(at):
     at.browser.sees("Pickup between", "1 canceled")
     coming = at.browser.script("""return document.querySelector('ul[aria-label="Upcoming"]').innerText""")
     holds("the cancelled trip is not among those to come", f"Trip {trip}." not in coming)
+
+
+@check
+def the_calendar_file_has_the_street_when_to_be_there_and_what_was_canceled(at):
+    with_grouped_homes(at)
+    kept, off = (at.town.book(1001, "2025-03-14", wish, 11, 7, by=wish + 90) for wish in (600, 840))
+    at.town.post("clerk", f"/trips/{off}/cancel", {})
+    sign_in(at, 1001, "trips")
+    show(at, 1001)
+    at.browser.sees("From 10 Elm St to")
+    holds("no group of homes", "Area 11" not in at.browser.text())
+    at.browser.script(SAVED)
+    at.browser.press("Save my trips for my calendar")
+    saved = until("no file is saved", lambda: at.browser.script("return window.saved[0]"))
+    events = [it.split("END:VEVENT")[0] for it in bytes(saved).decode().replace("\r\n ", "").split("BEGIN:VEVENT")[1:]]
+    of = {number: next(it for it in events if f"UID:trip-{number}@" in it) for number in (kept, off)}
+    for number, status in ((kept, "CONFIRMED"), (off, "CANCELLED")):
+        holds(f"the event of trip {number}: {of[number]}", "LOCATION:10 Elm St\r\n" in of[number] and f"STATUS:{status}" in of[number]
+              and re.search(r"\r\nSEQUENCE:\d{8}\r\n", of[number]) is not None)
+    holds(f"by when: {of[kept]}", "Be there by 11:30 AM." in of[kept])
+    holds(f"that it is off: {of[off]}", "SUMMARY:Canceled: ride with" in of[off] and "save your trips again" not in of[off])
 
 
 @check

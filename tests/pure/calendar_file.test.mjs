@@ -4,7 +4,7 @@ import assert from "node:assert/strict";
 import test from "node:test";
 import { calendarOf, folded, momentOf } from "../../pages/parts/calendar-file.js";
 
-const ZONE = "America/Chicago", trip = { trip: 7, day: "2026-12-08", window_from: 600, window_to: 615 };
+const ZONE = "America/Chicago", trip = { trip: 7, day: "2026-12-08", window_from: 600, window_to: 615, status: "booked" };
 const words = (more = {}) => () => ({ summary: "Ride", place: "Mill", description: "To Court", ...more });
 const about = { zone: ZONE, host: "town.example", now: Date.UTC(2026, 11, 1, 12) };
 /** Takes the folds out of a file, as a reader does. */
@@ -32,7 +32,7 @@ test("the file has each trip once, with what RFC 5545 asks of a calendar and an 
     const lines = calendarOf([trip, { ...trip, trip: 8 }], words(), about).split("\r\n");
     assert.equal(lines.at(-1), "");
     assert.deepEqual(lines.slice(0, 5), ["BEGIN:VCALENDAR", "VERSION:2.0", "PRODID:-//desk//trips//EN", "CALSCALE:GREGORIAN", "METHOD:PUBLISH"]);
-    assert.deepEqual(lines.slice(5, 15), ["BEGIN:VEVENT", "UID:trip-7@town.example", "DTSTAMP:20261201T120000Z", "DTSTART:20261208T160000Z", "DTEND:20261208T161500Z",
+    assert.deepEqual(lines.slice(5, 16), ["BEGIN:VEVENT", "UID:trip-7@town.example", "SEQUENCE:29935440", "DTSTAMP:20261201T120000Z", "DTSTART:20261208T160000Z", "DTEND:20261208T161500Z",
         "SUMMARY:Ride", "LOCATION:Mill", "DESCRIPTION:To Court", "STATUS:CONFIRMED", "END:VEVENT"]);
     assert.equal(lines.filter((it) => it.startsWith("UID:")).length, 2);
     assert.equal(lines.at(-2), "END:VCALENDAR");
@@ -42,4 +42,13 @@ test("no text ends a line or begins another property", () => {
     const text = calendarOf([trip], words({ summary: "a\r\nATTENDEE:x", place: "Mill, 2; \\ side", description: "b\nEND:VEVENT\u0007" }), about), lines = unfolded(text).split("\r\n");
     assert.ok(lines.includes("SUMMARY:a\\nATTENDEE:x") && lines.includes("LOCATION:Mill\\, 2\\; \\\\ side") && lines.includes("DESCRIPTION:b\\nEND:VEVENT"));
     assert.equal(lines.filter((it) => it === "END:VEVENT").length, 1);
+});
+
+test("a later file takes a canceled trip out of a calendar that has it: the same event, a higher number, and its status", () => {
+    const linesAt = (status, now) => calendarOf([{ ...trip, status }], words(), { ...about, now }).split("\r\n"), of = (lines, name) => lines.find((it) => it.startsWith(`${name}:`));
+    const [first, later] = [linesAt("booked", about.now), linesAt("cancelled", about.now + 61_000)];
+    assert.equal(of(later, "UID"), of(first, "UID"));
+    assert.equal(of(first, "STATUS"), "STATUS:CONFIRMED");
+    assert.equal(of(later, "STATUS"), "STATUS:CANCELLED");
+    assert.ok(Number(of(later, "SEQUENCE").slice(9)) > Number(of(first, "SEQUENCE").slice(9)));
 });

@@ -16,6 +16,7 @@ import pytest
 
 from desk_tools.letters import asking, composing, forms, sentences
 from desk_tools.letters.composing import About, Letter, Sender
+from desk_tools.letters.forms import NoForm
 
 TOP = Path(__file__).resolve().parents[2]
 TEXTS = TOP / "tests/letters"
@@ -45,6 +46,22 @@ def test_each_letter_says_what_the_pages_say(name: str, own: str) -> None:
 
 def test_the_pages_have_the_table_of_today() -> None:
     assert sentences.SCRIPT.read_text("utf-8") == sentences.script()
+
+
+def test_a_letter_read_from_the_desk_goes_to_the_street_of_the_home(tmp_path: Path) -> None:
+    table = tmp_path / "addresses.csv"
+    table.write_text("id,street,place,rider\n1,10 Elm St,62,101\n2,12 Elm St,62,102\n")
+    rider, places = asking.Rider("Ana", "es", "62"), {"62": "Area 62"}
+
+    def place_of(number: int, addresses: Path | None) -> str:
+        asked = asking.Asked("", "", number, None, Path("agency.json"), addresses=addresses)
+        return asking.mailing_of(asked, rider, places)
+
+    assert place_of(101, table) == "10 Elm St"
+    assert (place_of(103, table), place_of(101, None)) == ("", "")
+    table.write_text("street\n10 Elm St\n")
+    with pytest.raises(NoForm, match="has no column id"):
+        place_of(101, table)
 
 
 # The forms.

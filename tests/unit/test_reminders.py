@@ -50,6 +50,32 @@ def test_a_spanish_window_has_its_articles_at_each_minute(clock: int) -> None:
         )
 
 
+def test_a_text_has_the_street_of_the_home_and_not_the_name_of_a_group_of_homes(
+    tmp_path: Path,
+) -> None:
+    """By the site's folder, whose file of the day says which address a booking named."""
+    held = {"name": "Town", "places": [{"id": 1, "name": "Area 1"}, {"id": 2, "name": "Court"}]}
+    (tmp_path / "agency.json").write_text(json.dumps(held))
+    (tmp_path / "staff").mkdir()
+    homes = [
+        {"id": 5, "street": "10 Elm St", "place": 1, "riders": [7]},
+        {"id": 6, "street": "12 Elm St", "place": 1, "riders": [8]},
+    ]
+    (tmp_path / "staff/addresses.json").write_text(json.dumps({"addresses": homes}))
+    told = settings.Settings(texts={"en": {"evening": "From {place} to {goal}."}})
+
+    def text(site: Path | None) -> str:
+        agency, _ = reading.agency_in(tmp_path / "agency.json", site)
+        return texts.text_of("evening", trip(), riders.Rider(7, "Ana"), agency, told)
+
+    assert text(tmp_path) == "From 10 Elm St to Court."
+    assert text(None) == "From 1 to Court."
+    (tmp_path / "staff/today.json").write_text(json.dumps({"bookings": {"1": {"from_address": 6}}}))
+    assert text(tmp_path) == "From 12 Elm St to Court."
+    (tmp_path / "staff/addresses.json").write_text("[")
+    assert text(tmp_path) == "From 1 to Court."
+
+
 def test_a_window_behind_midnight_is_soon_on_the_next_day() -> None:
     late = trip(1450, 1465)
     assert reading.is_soon(late, datetime.datetime(2026, 12, 8, 23, 30), 60)

@@ -11,7 +11,7 @@ from desk_tools.town.addresses import Address
 from desk_tools.town.corridor import Line
 from desk_tools.town.joining import NoPlace, joined, with_row
 from desk_tools.town.places import Place
-from desk_tools.town.site_addresses import End, Known, checked
+from desk_tools.town.site_addresses import End, Known, checked, name_near, name_of_homes
 from desk_tools.town.site_addresses import texts_of as site_texts
 
 PLACES = {5: False, 6: 101, 7: True}
@@ -151,3 +151,52 @@ def test_a_new_address_joins_the_nearest_place_that_has_its_lines() -> None:
     with pytest.raises(NoPlace, match=r"\(1 Main, 2 Oak\): it takes a new place"):
         joined(Address(9, "A", (0, 0)), STAND[1:], LINES)
     assert [it.number for it in with_row(ADDRESSES, Address(2, "B"))] == [1, 2, 3, 4]
+
+
+GROUPED = [
+    {"id": 1, "street": "12 Oak St", "place": 5},
+    {"id": 2, "street": "14 Oak St", "place": 5, "riders": [101]},
+    {"id": 3, "street": "9 Mill St", "place": 6, "riders": [101, 102]},
+    {"id": 4, "street": "11 Mill St", "place": 6, "riders": [102]},
+]
+
+
+@pytest.mark.parametrize(
+    "place, name, rider, number, wanted",
+    [
+        (6, name_of_homes(6), 101, None, "9 Mill St"),
+        (6, name_of_homes(6), 102, None, ""),
+        (6, name_of_homes(6), 102, 4, "11 Mill St"),
+        (5, name_near("12 Oak St"), 101, None, "14 Oak St"),
+        (5, name_near("12 Oak St"), 103, 1, "12 Oak St"),
+        (5, "Mercy Hospital", 103, 1, "12 Oak St, Mercy Hospital"),
+        (5, "Mercy Hospital", 103, None, "Mercy Hospital"),
+        (7, "Near North Clinic", 103, None, "Near North Clinic"),
+    ],
+)
+def test_a_rider_reads_the_street_and_never_the_name_of_a_group_of_homes(
+    place: int, name: str, rider: int, number: int | None, wanted: str
+) -> None:
+    assert Known(GROUPED).read_by_rider(End(rider, place), name, number) == wanted
+
+
+@pytest.mark.parametrize(
+    "rider, home, name, wanted",
+    [
+        (101, 5, name_near("12 Oak St"), "14 Oak St"),
+        (102, 6, name_of_homes(6), ""),
+        (102, 5, "Mercy Hospital", ""),
+        (102, 7, "10 Elm St", "10 Elm St"),
+        (102, 62, name_of_homes(62), ""),
+        (101, None, "", ""),
+        (103, None, "", ""),
+    ],
+)
+def test_a_letter_goes_to_the_own_home_or_to_no_address(
+    rider: int, home: int | None, name: str, wanted: str
+) -> None:
+    assert Known(GROUPED).mailing(rider, home, name) == wanted
+
+
+def test_a_rider_with_one_home_needs_no_place_in_the_roster() -> None:
+    assert Known(GROUPED[:2]).mailing(101, None, "") == "14 Oak St"

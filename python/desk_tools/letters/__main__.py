@@ -35,6 +35,7 @@ def words_of(arguments: list[str]) -> argparse.Namespace:
     parser.add_argument("--entry", type=int, metavar="NUMBER", help="which letter, by its entry")
     parser.add_argument("--agency", type=Path, metavar="FILE", help="agency.json, for letters read")
     parser.add_argument("--roster", type=Path, metavar="FILE", help="the roster, for names")
+    parser.add_argument("--addresses", type=Path, metavar="FILE", help="the addresses, for homes")
     words = parser.parse_args(arguments)
     of_desk = [words.url, words.key, words.rider, words.agency]
     if words.text is None and None in of_desk:
@@ -62,9 +63,8 @@ def content_of(words: argparse.Namespace) -> bytes:
         text, language = text_in(words.text), words.language or "en"
     else:
         key = words.key.read_text("ascii").strip()
-        asked = asking.Asked(
-            words.url, key, words.rider, words.entry, words.agency, words.roster, words.language
-        )
+        files = words.agency, words.roster, words.language, words.addresses
+        asked = asking.Asked(words.url, key, words.rider, words.entry, *files)
         text, language = asking.text_of(asked)
     if words.form == "text":
         return text.encode()

@@ -14,6 +14,7 @@ from desk_tools.letters import composing
 from desk_tools.letters.composing import About, Letter, Sender
 from desk_tools.letters.forms import LANGUAGES, NoForm
 from desk_tools.town import cells, sheets
+from desk_tools.town.site_addresses import Known, known_in
 
 ROSTER_COLUMNS = ("rider", "name", "language", "home")
 
@@ -156,6 +157,16 @@ def _is_number(text: str, number: int) -> bool:
         return False
 
 
+def mailing_of(asked: "Asked", rider: Rider, places: Mapping[str, str]) -> str:
+    """The address to which the rider's letters go, or an empty text: then the letter has a line for it."""
+    try:
+        addresses = known_in(asked.addresses)[0] if asked.addresses else Known([])
+    except sheets.Unreadable as error:
+        raise NoForm(str(error)) from None
+    home = int(rider.home) if rider.home.isdecimal() else None
+    return addresses.mailing(asked.rider, home, places.get(rider.home, ""))
+
+
 @dataclass(frozen=True)
 class Asked:
     """Which letter is asked for, and where the agency's files are."""
@@ -167,6 +178,7 @@ class Asked:
     agency: Path
     roster: Path | None = None
     language: str | None = None
+    addresses: Path | None = None
 
 
 def text_of(asked: Asked) -> tuple[str, str]:
@@ -183,5 +195,6 @@ def text_of(asked: Asked) -> tuple[str, str]:
         there = ", ".join(str(it.entry) for it in letters)
         raise NoForm(f"the desk has no letter {wanted} to rider {asked.rider}, but {there}")
     language = asked.language or (known.language if known.language in LANGUAGES else "en")
-    about = About(language, asked.rider, sender, letters, known.name, places.get(known.home, ""))
+    place = mailing_of(asked, known, places)
+    about = About(language, asked.rider, sender, letters, known.name, place)
     return composing.plain_text(composing.blocks_of(letter, about)), language

@@ -319,13 +319,17 @@ def blocks_of(letter: Letter, about: About) -> list[Block]:
         text_of(own, "telephone", {"call": call}) if call else "",
     ]
     number = text_of(own, "rider-number", {"rider": about.rider})
-    to = [about.name or text_of(own, "name-line"), about.place, number]
+    to = [
+        about.name or text_of(own, "name-line"),
+        about.place or text_of(own, "address-line"),
+        number,
+    ]
     records = dict.fromkeys(it.text for it in (kind.refusal, kind.main) if it.text)
     blocks = [
         Block("letterhead", "", (agency.name,)),
         Block("sender", "", tuple(filter(None, sender))),
         Block("date", "", (day_in(own, kind.main.date),)),
-        Block("to", "", tuple(filter(None, to))),
+        Block("to", "", tuple(to)),
         *body_of(letter, about),
         Block("formats", "", (text_of(own, "formats", {"call": call or agency.name}),)),
         Block("record", "", (text_of(own, "record"), *records) if records else ()),

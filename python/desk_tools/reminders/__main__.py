@@ -50,6 +50,7 @@ def words_of(arguments: list[str]) -> argparse.Namespace:
     add = parser.add_argument
     add("--settings", type=Path, metavar="FILE", help="reminders.json: commands and texts")
     add("--agency", type=Path, metavar="AGENCY.json", help="the agency's name, zone and places")
+    add("--site", type=Path, metavar="FOLDER", help="the site's folder, for the addresses of homes")
     add("--roster", type=Path, metavar="CSV", help="each rider's channel, address and language")
     add("--url", help="the desk's address, such as http://127.0.0.1:8437")
     add("--certificate", metavar="FILE", help="of an https address, where you made it yourself")
@@ -78,7 +79,7 @@ def words_of(arguments: list[str]) -> argparse.Namespace:
 def sender_of(words: argparse.Namespace) -> tuple[Sender, list[Trip], str]:
     """What a run needs, the trips that it looks at, and the day of them."""
     told = settings.read(words.settings)
-    agency, zone = reading.agency_in(words.agency)
+    agency, zone = reading.agency_in(words.agency, words.site)
     texts = [it for of in told.texts.values() for it in of.values()]
     if not agency.telephone and any("{telephone}" in it for it in texts):
         raise Wrong(f"{words.agency} has no telephone, and the texts of the reminders name it")

@@ -4,19 +4,23 @@ import csv
 import datetime
 import io
 import json
+import logging
 import zoneinfo
+from dataclasses import replace
 from pathlib import Path
 from typing import Any
 
+from desk_tools import driver_files
 from desk_tools.asking import Desk, Refused
 from desk_tools.reminders.settings import Wrong
 from desk_tools.reminders.texts import Agency, Trip
 
+LOG = logging.getLogger("bin/reminders")
 BOOKED = "booked"
 
 
-def agency_in(path: Path) -> tuple[Agency, datetime.tzinfo | None]:
-    """What the texts say of the agency, and its zone."""
+def agency_in(path: Path, site: Path | None = None) -> tuple[Agency, datetime.tzinfo | None]:
+    """What the texts say of the agency, with the addresses of the site's folder, and its zone."""
     try:
         held: dict[str, Any] = json.loads(path.read_text("utf-8-sig"))
         named = {int(it["id"]): str(it["name"]) for it in held.get("places", []) if it.get("name")}
@@ -27,7 +31,17 @@ def agency_in(path: Path) -> tuple[Agency, datetime.tzinfo | None]:
         raise Wrong(f"{path}: {error.strerror}") from None
     except (ValueError, KeyError, TypeError, AttributeError, zoneinfo.ZoneInfoNotFoundError):
         raise Wrong(f"{path} is no agency.json with a name, places and a zone") from None
-    return agency, zone
+    town = town_in(site) if site else None
+    return (replace(agency, town=town) if town else agency), zone
+
+
+def town_in(site: Path) -> driver_files.Town | None:
+    """The town's addresses. Of a folder that can't be read none are known: no reminder waits for a street."""
+    try:
+        return driver_files.town_in(site)
+    except driver_files.Wrong as error:
+        LOG.warning("%s: places go by their names", error)
+        return None
 
 
 def trips_on(desk: Desk, day: datetime.date) -> list[Trip]:

@@ -9,8 +9,10 @@ import re
 from collections.abc import Mapping
 from dataclasses import dataclass, field
 
+from desk_tools.driver_files import Town
 from desk_tools.reminders.riders import Rider
 from desk_tools.reminders.settings import SUBJECT, Settings
+from desk_tools.town.site_addresses import End, Known
 
 MINUTES_OF_A_DAY = 1_440
 WEEKDAYS = {
@@ -31,6 +33,7 @@ class Agency:
     telephone: str = ""
     clock: int = 12
     places: Mapping[int, str] = field(default_factory=dict)
+    town: Town = field(default_factory=lambda: Town(Known([]), {}))
 
 
 @dataclass(frozen=True)
@@ -81,10 +84,17 @@ def text_of(which: str, trip: Trip, rider: Rider, agency: Agency, settings: Sett
         day=day_in(rider.language, trip.pickup_day),
         begins=clock_in(trip.begins, agency.clock),
         ends=clock_in(trip.ends, agency.clock),
-        place=agency.places.get(trip.origin, str(trip.origin)),
-        goal=agency.places.get(trip.goal, str(trip.goal)),
+        place=where(trip, "from", trip.origin, agency),
+        goal=where(trip, "to", trip.goal, agency),
     )
     return spoken(rider.language, text)
+
+
+def where(trip: Trip, end: str, place: int, agency: Agency) -> str:
+    """Where an end of a trip, "from" or "to", is as its rider reads it; a place without a name of its own goes by its number."""
+    named = agency.town.named(trip.number, end)
+    name = agency.places.get(place, "")
+    return agency.town.known.read_by_rider(End(trip.rider, place), name, named) or str(place)
 
 
 def mail_of(key: str, subject: str, text: str, to: str, sender: str) -> bytes:

@@ -20,6 +20,7 @@ from desk_tools.town.joining import is_open_to
 from desk_tools.town.medoids import Points, Show, TooFewPlaces
 from desk_tools.town.places import Place, feet_between, riders_of
 from desk_tools.town.sheets import Refusal, Unreadable
+from desk_tools.town.site_addresses import name_near, name_of_homes
 
 # So many times it is grouped, where homes turn out to need places of their own.
 MOST_ROUNDS = 3
@@ -108,7 +109,7 @@ def gathered_once(
         grouped_open(town, [open_[at] for at in together], some, found, show, len(own))
     for it in own:
         number = max(found.places, default=0) + 1
-        place = Place(number, f"Area {number}", it.point or (0, 0), it.core, it.riders, True)
+        place = Place(number, name_of_homes(number), it.point or (0, 0), it.core, it.riders, True)
         found.places[number] = place
         found.addresses.append(replace(it, place=number))
     found.alone = len(own)
@@ -259,9 +260,9 @@ def named(point: Point, group: list[Address], number: int) -> tuple[str, tuple[i
     public = [it for it in group if not it.riders]
     if not public:
         riders = tuple(sorted({rider for it in group for rider in it.riders}))
-        return f"Area {number}", riders
+        return name_of_homes(number), riders
     nearest_one = min(public, key=lambda it: feet_between(it.point, point))
-    return f"Near {nearest_one.street}", ()
+    return name_near(nearest_one.street), ()
 
 
 def places_text(found: Gathered) -> str:

@@ -7,13 +7,25 @@ than the place. No file that riders may read has a note.
 import json
 from collections.abc import Mapping, Sequence
 from dataclasses import dataclass
+from pathlib import Path
 from typing import Any
 
+from desk_tools.town import addresses as tables
 from desk_tools.town.addresses import Address
 
 Private = bool | int | list[int]
 NAME = "addresses.json"
 ENDS = ("from", "to")
+
+
+def name_of_homes(place: int) -> str:
+    """The name of a place that `move-in gather` made for homes alone: it tells nobody where that is."""
+    return f"Area {place}"
+
+
+def name_near(street: str) -> str:
+    """The name of a place that `move-in gather` made for addresses of which some are no homes."""
+    return f"Near {street}"
 
 
 @dataclass(frozen=True)
@@ -100,7 +112,9 @@ class Known:
     def __init__(self, addresses: Sequence[Mapping[str, Any]]) -> None:
         self.by_number = {it["id"]: it for it in addresses if "id" in it and "place" in it}
         self.homes: dict[End, list[Mapping[str, Any]]] = {}
+        self.streets: dict[int, set[str]] = {}
         for it in self.by_number.values():
+            self.streets.setdefault(it["place"], set()).add(str(it.get("street", "")))
             for rider in it.get("riders", []):
                 self.homes.setdefault(End(rider, it["place"]), []).append(it)
 
@@ -113,3 +127,47 @@ class Known:
             return named
         homes = self.homes.get(end, [])
         return homes[0] if len(homes) == 1 else None
+
+    def read_by_rider(self, end: End, name: str, number: object = None) -> str:
+        """Where an end is, as its rider reads it: the street of the address that is meant, and the place's own name if it has one.
+
+        A home goes by its street alone. It is empty where nothing but the name of a group is known.
+        """
+        address = self.meant(end, number)
+        if address is None:
+            return "" if name == name_of_homes(end.place) else name
+        street = str(address.get("street", ""))
+        if address.get("riders") or not name or self._is_group(end.place, name):
+            return street
+        return f"{street}, {name}"
+
+    def mailing(self, rider: int, home: int | None, name: str) -> str:
+        """The address to which a rider's letters go: the home at the place that the roster names, or the only one.
+
+        A place at which no addresses are goes by its own name. It is empty where the home is not known.
+        """
+        homes = [
+            it
+            for end, those in self.homes.items()
+            if end.rider == rider and home in (None, end.place)
+            for it in those
+        ]
+        if len(homes) == 1:
+            return str(homes[0].get("street", ""))
+        is_own = home is not None and home not in self.streets and name != name_of_homes(home)
+        return name if is_own else ""
+
+    def _is_group(self, place: int, name: str) -> bool:
+        """Whether a place has no name of its own, but one that `move-in gather` gave it, or that of an address there."""
+        streets = self.streets.get(place, set())
+        near = {name_near(it) for it in streets}
+        return name == name_of_homes(place) or name in streets | near
+
+
+def known_in(path: Path) -> tuple[Known, list[str]]:
+    """The addresses of the agency's own table, and a sentence for each row that is wrong.
+
+    Raises sheets.Unreadable for a file that is no such table.
+    """
+    found, sheet = tables.read(path, None)
+    return Known([shown(it, False).fields for it in found]), tables.listed(sheet.refused)
