@@ -1,6 +1,10 @@
-"""Files that are written whole or not at all: another name first, on the disk, and then the name."""
+"""Files and folders that are written whole or not at all: another name first, on the disk, and then the name."""
 import contextlib
 import os
+import shutil
+import tempfile
+
+from moving.limits import Wrong
 
 
 def folder_synced(folder):
@@ -26,8 +30,39 @@ def written(path, text, mode=0o600, group=None):
             file.flush()
             os.fsync(file.fileno())
         os.replace(new, path)
-    except OSError:
+    except OSError as error:
         with contextlib.suppress(OSError):
             os.remove(new)
+        # (a full disk names no file)
+        error.filename = error.filename or path
         raise
     folder_synced(os.path.dirname(path))
+
+
+@contextlib.contextmanager
+def folder_written(path):
+    """A folder beside `path`, which gets this name once all is in it. Where that fails, `path` is as it was.
+
+    Raises Wrong where `path` is there and is no empty folder.
+    """
+    last = os.path.realpath(path)
+    if os.path.lexists(last) and (not os.path.isdir(last) or os.listdir(last)):
+        raise Wrong(f"{path} is there and is no empty folder: name another one")
+    if last == os.path.realpath("."):
+        raise Wrong(f"{path} is the folder that you are in: name another one")
+    above = os.path.dirname(last)
+    os.makedirs(above, exist_ok=True)
+    beside = tempfile.mkdtemp(prefix=f".{os.path.basename(last)[:100]}-", dir=above)
+    try:
+        yield beside
+        try:
+            os.rename(beside, last)
+        except OSError as error:
+            raise Wrong(f"{path}: {error.strerror}: name a folder that is not there") from None
+    except BaseException as error:
+        shutil.rmtree(beside, ignore_errors=True)
+        if isinstance(error, OSError):
+            # (the folder beside has a name that nobody gave)
+            error.filename = path
+        raise
+    folder_synced(above)
