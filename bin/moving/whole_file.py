@@ -1,5 +1,6 @@
 """Files and folders that are written whole or not at all: another name first, on the disk, and then the name."""
 import contextlib
+import fcntl
 import os
 import shutil
 import tempfile
@@ -66,3 +67,20 @@ def folder_written(path):
             error.filename = path
         raise
     folder_synced(above)
+
+
+@contextlib.contextmanager
+def alone(path):
+    """One run at a time has a file that is read and then written whole. Raises Wrong where another run has it."""
+    folder, name = os.path.split(os.path.realpath(path))
+    try:
+        number = os.open(f"{folder}/.{name}.lock", os.O_RDWR | os.O_CREAT | os.O_NOFOLLOW | os.O_CLOEXEC, 0o600)
+    except OSError as error:
+        raise Wrong(f"{path}: {error.strerror}") from None
+    try:
+        fcntl.flock(number, fcntl.LOCK_EX | fcntl.LOCK_NB)
+        yield
+    except BlockingIOError:
+        raise Wrong(f"another run is under way for {path}: run the same again") from None
+    finally:
+        os.close(number)

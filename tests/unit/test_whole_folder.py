@@ -1,4 +1,4 @@
-"""A folder that a report writes is whole or as it was, and a full disk is said of the name that was given."""
+"""A folder that a report writes is whole or as it was, a full disk is said of the name that was given, and one run at a time has a table."""
 
 import errno
 import os
@@ -60,3 +60,18 @@ def test_a_file_without_room_names_itself(tmp_path: Path, monkeypatch: pytest.Mo
     with pytest.raises(OSError) as caught:
         whole_file.written(str(tmp_path / "one.csv"), "1\n")
     assert caught.value.filename == str(tmp_path / "one.csv") and not [*tmp_path.iterdir()]
+
+
+def test_one_run_at_a_time_has_a_table(tmp_path: Path) -> None:
+    path = str(tmp_path / "addresses.csv")
+    with whole_file.alone(path):
+        with pytest.raises(Wrong, match="another run is under way"):
+            with whole_file.alone(path):
+                pass
+        with whole_file.alone(str(tmp_path / "other.csv")):
+            pass
+    with whole_file.alone(path):
+        pass
+    with pytest.raises(Wrong, match="No such file"):
+        with whole_file.alone(str(tmp_path / "none" / "addresses.csv")):
+            pass
