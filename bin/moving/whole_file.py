@@ -1,6 +1,11 @@
-"""Files that are written whole or not at all: another name first, on the disk, and then the name."""
+"""Files and folders that are written whole or not at all: another name first, on the disk, and then the name."""
 import contextlib
+import fcntl
 import os
+import shutil
+import tempfile
+
+from moving.limits import Wrong
 
 
 def folder_synced(folder):
@@ -26,8 +31,56 @@ def written(path, text, mode=0o600, group=None):
             file.flush()
             os.fsync(file.fileno())
         os.replace(new, path)
-    except OSError:
+    except OSError as error:
         with contextlib.suppress(OSError):
             os.remove(new)
+        # (a full disk names no file)
+        error.filename = error.filename or path
         raise
     folder_synced(os.path.dirname(path))
+
+
+@contextlib.contextmanager
+def folder_written(path):
+    """A folder beside `path`, which gets this name once all is in it. Where that fails, `path` is as it was.
+
+    Raises Wrong where `path` is there and is no empty folder.
+    """
+    last = os.path.realpath(path)
+    if os.path.lexists(last) and (not os.path.isdir(last) or os.listdir(last)):
+        raise Wrong(f"{path} is there and is no empty folder: name another one")
+    if last == os.path.realpath("."):
+        raise Wrong(f"{path} is the folder that you are in: name another one")
+    above = os.path.dirname(last)
+    os.makedirs(above, exist_ok=True)
+    beside = tempfile.mkdtemp(prefix=f".{os.path.basename(last)[:100]}-", dir=above)
+    try:
+        yield beside
+        try:
+            os.rename(beside, last)
+        except OSError as error:
+            raise Wrong(f"{path}: {error.strerror}: name a folder that is not there") from None
+    except BaseException as error:
+        shutil.rmtree(beside, ignore_errors=True)
+        if isinstance(error, OSError):
+            # (the folder beside has a name that nobody gave)
+            error.filename = path
+        raise
+    folder_synced(above)
+
+
+@contextlib.contextmanager
+def alone(path):
+    """One run at a time has a file that is read and then written whole. Raises Wrong where another run has it."""
+    folder, name = os.path.split(os.path.realpath(path))
+    try:
+        number = os.open(f"{folder}/.{name}.lock", os.O_RDWR | os.O_CREAT | os.O_NOFOLLOW | os.O_CLOEXEC, 0o600)
+    except OSError as error:
+        raise Wrong(f"{path}: {error.strerror}") from None
+    try:
+        fcntl.flock(number, fcntl.LOCK_EX | fcntl.LOCK_NB)
+        yield
+    except BlockingIOError:
+        raise Wrong(f"another run is under way for {path}: run the same again") from None
+    finally:
+        os.close(number)

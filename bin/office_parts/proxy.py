@@ -6,6 +6,7 @@ import datetime
 import http.client
 import os
 import re
+import sys
 import threading
 from functools import partial
 from http.server import BaseHTTPRequestHandler, ThreadingHTTPServer
@@ -210,13 +211,21 @@ class Handler(BaseHTTPRequestHandler):
             self.give(204, "text/plain", b"")
 
 
+class Server(ThreadingHTTPServer):
+    """The proxy's server, for which a client that goes away is no fault."""
+
+    def handle_error(self, request, client_address):
+        if not isinstance(sys.exception(), (ConnectionError, TimeoutError)):
+            super().handle_error(request, client_address)
+
+
 class Office:
     """What the proxy stands before, and the port that it has."""
 
     def __init__(self, port, desk_port, pages, site, tally, headers):
         self.desk_port, self.pages, self.site, self.tally, self.headers = desk_port, pages, site, tally, headers
         self.lock = threading.Lock()
-        self.server = ThreadingHTTPServer(("127.0.0.1", port), partial(Handler, self))
+        self.server = Server(("127.0.0.1", port), partial(Handler, self))
         self.server.daemon_threads = True
         threading.Thread(target=self.server.serve_forever, daemon=True).start()
 

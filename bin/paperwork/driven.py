@@ -2,7 +2,6 @@
 import os
 
 from moving import report, whole_file
-from moving.limits import Wrong
 from moving.tally_tables import csv_of
 from moving.typed import miles
 from paperwork.copies import day_of, number_of
@@ -55,13 +54,11 @@ def form_rows(form, days, measured):
 
 def write(folder, days, measured):
     """Writes the forms, the days, and what nobody reported, into a new or empty folder."""
-    if os.path.exists(folder) and (not os.path.isdir(folder) or os.listdir(folder)):
-        raise Wrong(f"{folder} is there and is no empty folder: name another one")
-    os.makedirs(folder, exist_ok=True)
-    for form, name in FILES.items():
-        whole_file.written(f"{folder}/{name}", csv_of([miles.COLUMNS, *form_rows(form, days, measured)]))
-    whole_file.written(f"{folder}/miles.csv", csv_of([DAYS, *day_rows(measured)]))
-    whole_file.written(f"{folder}/unreported.csv", csv_of([UNREPORTED, *([day.isoformat(), vehicle, said] for day, vehicle, said in measured.unreported)]))
+    with whole_file.folder_written(folder) as beside:
+        for form, name in FILES.items():
+            whole_file.written(f"{beside}/{name}", csv_of([miles.COLUMNS, *form_rows(form, days, measured)]))
+        whole_file.written(f"{beside}/miles.csv", csv_of([DAYS, *day_rows(measured)]))
+        whole_file.written(f"{beside}/unreported.csv", csv_of([UNREPORTED, *([day.isoformat(), vehicle, said] for day, vehicle, said in measured.unreported)]))
 
 
 def said_of(measured):

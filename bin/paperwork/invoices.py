@@ -1,6 +1,5 @@
 """The invoices of a month: a page and a CSV for each sponsor, and a summary whose sum is that of the trips."""
 import math
-import os
 import pathlib
 
 from moving import whole_file
@@ -65,10 +64,13 @@ def page_of(title, sponsor, charges, names):
 
 
 def write(folder, title, charges, without, names):
-    """Writes all files; the sum in cents."""
-    if os.path.exists(folder) and (not os.path.isdir(folder) or os.listdir(folder)):
-        raise Wrong(f"{folder} is there and is no empty folder: name another one")
-    os.makedirs(folder, exist_ok=True)
+    """Writes a new or empty folder, which is whole or as it was; the sum in cents."""
+    with whole_file.folder_written(folder) as beside:
+        return write_files(beside, title, charges, without, names)
+
+
+def write_files(folder, title, charges, without, names):
+    """Writes each file into the folder; the sum in cents."""
     summary = []
     for at, (sponsor, those) in enumerate(sponsors.by_sponsor(charges).items(), 1):
         name = sponsors.file_name(at, sponsor)

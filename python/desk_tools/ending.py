@@ -1,5 +1,6 @@
 """How a command ends: with a sentence and a status, never with a traceback."""
 
+import errno
 import os
 import sys
 from collections.abc import Callable
@@ -8,6 +9,8 @@ from typing import NoReturn
 FAILED = 1
 # What a shell reports of a command that Ctrl+C ended.
 INTERRUPTED = 130
+# What a write finds where there is no room.
+NO_ROOM = (errno.ENOSPC, errno.EDQUOT, errno.EFBIG)
 
 
 def run(name: str, task: Callable[[list[str]], int | None]) -> NoReturn:
@@ -26,6 +29,11 @@ def run(name: str, task: Callable[[list[str]], int | None]) -> NoReturn:
         status = INTERRUPTED
     except BrokenPipeError:
         status = 0
+    except OSError as error:
+        if error.errno not in NO_ROOM:
+            raise
+        print(f"{name}: {said_of(error)}", file=sys.stderr)
+        status = FAILED
     sys.exit(flushed(name, status))
 
 
@@ -36,10 +44,16 @@ def flushed(name: str, status: int) -> int:
     except BrokenPipeError:
         leave_out_rest()
     except OSError as error:
-        leave_out_rest()
-        print(f"{name}: the output: {error.strerror}", file=sys.stderr)
+        print(f"{name}: {said_of(error)}", file=sys.stderr)
         return status or FAILED
     return status
+
+
+def said_of(error: OSError) -> str:
+    """What an error says. One that names no file is the output's, of which the rest then goes nowhere."""
+    if error.filename is None:
+        leave_out_rest()
+    return f"{error.filename or 'the output'}: {error.strerror or error}"
 
 
 def leave_out_rest() -> None:

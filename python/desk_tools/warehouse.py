@@ -11,7 +11,7 @@ from dataclasses import dataclass
 from datetime import date, timedelta
 from pathlib import Path
 
-from desk_tools.tables import ENTRIES, LISTS, TABLES, Column, Form, Table
+from desk_tools.tables import ENTRIES, FIRST_TABLES, LISTS, TABLES, Column, Form, Table
 
 EPOCH, LAST_DAY, NONE = date(1970, 1, 1), date(2099, 12, 31), -1
 POINT = struct.Struct(">ii")
@@ -25,7 +25,7 @@ Value = int | str | bytes
 
 
 class Unsound(Exception):
-    """A value that no desk writes: one sentence."""
+    """A value that no desk writes, or a table that the copy lacks: one sentence."""
 
 
 class Unwritable(Exception):
@@ -111,12 +111,25 @@ def row_of(
 
 
 class Copy:
-    """An open copy, of which the tables are read row by row."""
+    """An open copy, of which the tables are read row by row. Raises Unsound where it lacks a table of its version."""
 
     def __init__(self, connection: sqlite3.Connection) -> None:
         self.connection = connection
         found = connection.execute("SELECT name FROM sqlite_master WHERE type = 'table'")
         self.names = {str(it) for it, in found}
+        missing = [it for it in self.wanted() if it not in self.names]
+        if missing:
+            raise Unsound(
+                f"the copy has no table {missing[0]}, which each desk's file has: take another copy"
+            )
+
+    def wanted(self) -> list[str]:
+        """The tables of the copy's version, by the table desk; those of the newest where it does not say one."""
+        names = [*TABLES]
+        if "desk" not in self.names:
+            return names
+        version = self.connection.execute("SELECT version FROM desk").fetchone()
+        return names[:FIRST_TABLES] if version == (1,) else names
 
     def count(self, name: str) -> int:
         """How many rows a table has; a table that the copy's version has not has none."""

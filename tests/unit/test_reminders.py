@@ -4,13 +4,15 @@ import datetime
 import json
 import string
 import tempfile
+from collections import Counter
 from pathlib import Path
 
 import pytest
 from hypothesis import given
 from hypothesis import strategies as some
 
-from desk_tools.reminders import kept, reading, riders, settings, texts
+from desk_tools.reminders import __main__ as command
+from desk_tools.reminders import kept, reading, riders, sending, settings, texts
 
 DAY = datetime.date(2026, 12, 8)
 ROOM = tempfile.TemporaryDirectory()
@@ -188,3 +190,60 @@ def test_a_mail_has_one_line_for_each_head() -> None:
     ).decode()
     head, body = mail.split("\n\n", 1)
     assert "Subject: Your Bcc: all@town.example" in head and "\nBcc:" not in head and body
+
+
+def _reminder(number: int) -> kept.Reminder:
+    of_trip = DAY.isoformat(), number, "evening"
+    return kept.Reminder(*of_trip, 7, "sms", "5550107", "2026-12-07T18:00:00")
+
+
+def _run_again(path: Path) -> "Counter[str]":
+    """What a second run over trips 1 to 3 counts, of which 1 was sent, 2 failed, and 3 has no end."""
+    state = kept.State(path)
+    for number in (1, 2, 3):
+        state.begin(_reminder(number))
+    state.end(_reminder(1).key, kept.SENT)
+    state.end(_reminder(2).key, kept.FAILED, "no modem")
+    who = {7: riders.Rider(7, "Ana", channel="sms", telephone="555-0107")}
+    now = datetime.datetime(2026, 12, 7, 19)
+    parts = AGENCY, who, settings.Settings(), "evening", None, lambda: now
+    sender = sending.Sender(*parts)  # type: ignore[arg-type]
+    trips = [texts.Trip(number, 7, DAY, 600, 615, 1, 2) for number in (1, 2, 3)]
+    assert not sender.run(trips, state)
+    return sender.result
+
+
+def test_a_later_run_tells_sent_from_failed_and_begun(tmp_path: Path) -> None:
+    result = _run_again(tmp_path / "reminders.jsonl")
+    said = command.told_of(result, 3)
+    assert said.startswith(
+        "3 trips: 1 had one already, 1 failed before, 1 were begun before and have no known end. "
+    )
+    assert "never sent again: call" in said
+    assert [it.trip for it in kept.read(tmp_path / "reminders.jsonl").to_call(DAY)] == [2, 3]
+
+
+@pytest.mark.parametrize(
+    "counted, wanted",
+    [
+        (sending.ALREADY, 0),
+        (sending.NO_CHANNEL, 0),
+        (sending.CANCELED, 0),
+        (sending.FAILED_BEFORE, 1),
+        (sending.NO_END, 1),
+        (kept.FAILED, 1),
+        (sending.LEFT, 1),
+    ],
+)
+def test_the_status_is_that_of_what_is_known_as_sent(counted: str, wanted: int) -> None:
+    assert command.status_of(Counter({counted: 1, kept.SENT: 5})) == wanted
+
+
+def test_a_run_that_is_cut_off_names_what_it_began() -> None:
+    before, after = kept.Kept(), kept.Kept()
+    before.reminders = {it.key: it for it in (_reminder(1),)}
+    after.reminders = {it.key: it for it in map(_reminder, (1, 2, 3))}
+    assert "trips 2, 3 were begun" in command.told_of_cut(before, after)
+    after.reminders.pop(_reminder(3).key)
+    assert "trip 2 was begun" in command.told_of_cut(before, after)
+    assert "no reminder under way" in command.told_of_cut(before, before)

@@ -36,6 +36,10 @@ def table(tmp_path: Path, *rows: str, riders: tuple[int, ...] = (7, 9)) -> spons
             "row 2: from 2026-03-02 is after to 2026-03-01",
         ),
         ("7,Aging,,,14.505,trip", "row 2: rate '14.505' is no number of dollars"),
+        (
+            "7,Aging,,,0.005,trip",
+            "row 2: rate '0.005' is no number of dollars from 0 to 10000 with at most two decimals",
+        ),
         ("7,Aging,,,-1,trip", "row 2: rate '-1' is no number of dollars"),
         ("7,Aging,,,NaN,trip", "row 2: rate 'NaN' is no number of dollars"),
         ("7,Aging,,,10000.01,trip", "row 2: rate '10000.01' is no number of dollars"),

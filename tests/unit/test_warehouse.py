@@ -147,10 +147,20 @@ def test_each_written_column_is_in_the_dictionary(tmp_path: Path) -> None:
 
 def test_a_first_version_has_no_wheelchairs(tmp_path: Path) -> None:
     file = made(tmp_path / "desk.db")
+    file.execute("UPDATE desk SET version = 1")
     for name in [*TABLES][FIRST_TABLES:]:
         file.execute(f"DROP TABLE {name}")
     found = written(file, tmp_path / "out")
     assert found["rider_chairs"] == found["vehicle_chairs"] == found["trip_chairs"] == []
+
+
+@pytest.mark.parametrize("name", TABLES)
+def test_a_table_that_the_copy_lacks_is_named(tmp_path: Path, name: str) -> None:
+    file = made(tmp_path / "desk.db")
+    file.execute(f"DROP TABLE {name}")
+    with pytest.raises(warehouse.Unsound, match=f"the copy has no table {name}, "):
+        warehouse.write(warehouse.Copy(file), tmp_path / "out", lambda said: None)
+    assert not (tmp_path / "out").exists()
 
 
 @pytest.mark.parametrize(

@@ -8,28 +8,44 @@
   bin/reminders --folder FOLDER --answer NUMBER <TEXT            keeps what somebody answered, for a clerk
 
 FOLDER/reminders.jsonl has each message before it is sent, so that none goes out twice. What failed is in the work list.
-The exit status is 0 where all was sent, 1 where something was not, 2 for wrong words or input, and 3 where the desk did
-not answer: then run the same again.
+The exit status is 0 where each message is known as sent, 1 where one is not, in this run or an earlier one, 2 for wrong
+words or input, and 3 where the desk did not answer: then run the same again. A run that is ended by SIGTERM has 143.
 """
 
 import argparse
 import datetime
 import hashlib
 import logging
+import signal
 import sys
 from collections import Counter
 from pathlib import Path
+from types import FrameType
 
 from desk_tools import ending
 from desk_tools.arguments import day_of
 from desk_tools.asking import Desk, NotAnswered, Refused, key_in
 from desk_tools.reminders import reading, riders, settings
-from desk_tools.reminders.kept import ANSWERS, FAILED, NAME, SENT, Answer, held, key_of, read
+from desk_tools.reminders.kept import (
+    ANSWERS,
+    FAILED,
+    NAME,
+    SENT,
+    UNKNOWN,
+    Answer,
+    Kept,
+    Reminder,
+    held,
+    key_of,
+    read,
+)
 from desk_tools.reminders.sending import (
     ALREADY,
     CANCELED,
+    FAILED_BEFORE,
     LEFT,
     NO_CHANNEL,
+    NO_END,
     Sender,
     check_new,
 )
@@ -38,8 +54,16 @@ from desk_tools.reminders.texts import Trip, clock_in
 
 LOG = logging.getLogger("bin/reminders")
 DONE, SOME_FAILED, WRONG, NOT_ANSWERED = range(4)
+# What a shell reports of a command that SIGTERM ended.
+TERMINATED = 128 + signal.SIGTERM
+# With one of these a trip has no reminder that is known as sent.
+NOT_SENT = (FAILED, LEFT, FAILED_BEFORE, NO_END)
 LONGEST_ANSWER = 500
 NEEDED = ("settings", "agency", "roster", "url", "dispatcher")
+
+
+class Terminated(KeyboardInterrupt):
+    """SIGTERM ends the run, as Ctrl+C does."""
 
 
 def words_of(arguments: list[str]) -> argparse.Namespace:
@@ -113,7 +137,7 @@ def plan(words: argparse.Namespace) -> int:
         window = f"{clock_in(trip.begins, 24)} to {clock_in(trip.ends, 24)}"
         head = f"  trip {trip.number}, rider {trip.rider}, {trip.pickup_day} {window}: "
         if key in had:
-            print(f"{head}had one already")
+            print(f"{head}{said_before(had[key])}")
         elif it is None:
             print(f"{head}the roster names no channel")
         elif it.why:
@@ -124,10 +148,34 @@ def plan(words: argparse.Namespace) -> int:
     return DONE
 
 
+def said_before(reminder: Reminder) -> str:
+    """What an earlier run came to for a trip."""
+    if reminder.result == SENT:
+        return "had one already"
+    return f"is not sent again, call the rider: {reminder.why or UNKNOWN}"
+
+
+def end_run(_number: int, _frame: FrameType | None) -> None:
+    """Ends the run in order: a command that is running ends with it. A second signal changes nothing."""
+    signal.signal(signal.SIGTERM, signal.SIG_IGN)
+    raise Terminated
+
+
 def send(words: argparse.Namespace) -> int:
-    """Sends what has not been sent."""
+    """Sends what has not been sent. A run that is cut off says what it had begun."""
     if words.csv:
         check_new(words.csv)
+    signal.signal(signal.SIGTERM, end_run)
+    before = read(words.folder / NAME)
+    try:
+        return send_all(words)
+    except KeyboardInterrupt:
+        LOG.error("%s", told_of_cut(before, read(words.folder / NAME)))
+        raise
+
+
+def send_all(words: argparse.Namespace) -> int:
+    """Sends what has not been sent, and says what came of it."""
     with held(words.folder) as state:
         sender, trips, day = sender_of(words)
         state.shorten(sender.now().date())
@@ -137,7 +185,24 @@ def send(words: argparse.Namespace) -> int:
         if not sender.result[LEFT] and (day, sender.which) not in state.runs:
             state.add(kind="run", day=day, which=sender.which)
     print(f"{day}: {told_of(sender.result, len(trips))}")
-    return SOME_FAILED if sender.result[FAILED] or sender.result[LEFT] else DONE
+    return status_of(sender.result)
+
+
+def status_of(result: Counter[str]) -> int:
+    """The exit status: whether each trip of the day has a reminder that is known as sent, or wants none."""
+    return SOME_FAILED if any(result[it] for it in NOT_SENT) else DONE
+
+
+def told_of_cut(before: Kept, after: Kept) -> str:
+    """What a run that was cut off had begun without an end."""
+    known = {it.key for it in before.without_end()}
+    trips = [str(it.trip) for it in after.without_end() if it.key not in known]
+    rest = "a later run sends the rest"
+    if not trips:
+        return f"the run was cut off with no reminder under way; {rest}"
+    was = "trip {} was" if len(trips) == 1 else "trips {} were"
+    begun = was.format(", ".join(trips))
+    return f"the run was cut off: {begun} begun and nobody knows the end, so call; {rest}"
 
 
 def told_of(result: Counter[str], count: int) -> str:
@@ -147,10 +212,14 @@ def told_of(result: Counter[str], count: int) -> str:
         f"{result[FAILED]} failed and are in the work list",
         f"{result[LEFT]} left for the next run",
         f"{result[ALREADY]} had one already",
+        f"{result[FAILED_BEFORE]} failed before",
+        f"{result[NO_END]} were begun before and have no known end",
         f"{result[CANCELED]} are no longer booked",
         f"{result[NO_CHANNEL]} riders want none",
     ]
-    return f"{count} trips: " + ", ".join(it for it in parts if not it.startswith("0 "))
+    said = f"{count} trips: " + ", ".join(it for it in parts if not it.startswith("0 "))
+    again = result[FAILED_BEFORE] + result[NO_END]
+    return f"{said}. What failed or has no end is never sent again: call" if again else said
 
 
 def keep_answer(words: argparse.Namespace) -> int:
@@ -196,6 +265,8 @@ def main(arguments: list[str]) -> int:
     except NotAnswered as error:
         LOG.error("%s; run the same again", error)
         return NOT_ANSWERED
+    except Terminated:
+        return TERMINATED
     except OSError as error:
         LOG.error("%s: %s", error.filename or words.folder, error.strerror or error)
         return WRONG

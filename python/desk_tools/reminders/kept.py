@@ -91,6 +91,11 @@ class Kept:
         else:
             raise ValueError(kind)
 
+    def without_end(self) -> list[Reminder]:
+        """The messages that were begun and have no end, by their trips: nobody knows whether they were sent."""
+        found = [it for it in self.reminders.values() if not it.result]
+        return sorted(found, key=lambda it: (it.day, it.trip, it.which))
+
     def to_call(self, first: datetime.date) -> list[Reminder]:
         """The messages of that day and later ones that nobody may count on."""
         begun = [it for it in self.reminders.values() if it.result != SENT]

@@ -24,6 +24,9 @@ MOST_IN_A_ROW = 3
 EVERY = 2.0
 COLUMNS = ("telephone", "language", "text", "trip", "rider", "day", "window_from", "window_to")
 ALREADY, NO_CHANNEL, CANCELED, LEFT = "had one", "no channel", "not booked", "left"
+# What earlier runs began: it said that it failed, or nobody knows how it ended. Neither is sent again.
+FAILED_BEFORE, NO_END = "failed before", "no end"
+BEFORE = {SENT: ALREADY, FAILED: FAILED_BEFORE}
 
 
 @dataclass(frozen=True)
@@ -84,7 +87,7 @@ class Sender:
         key = key_of(trip.day.isoformat(), trip.number, self.which)
         plan = self.planned(trip)
         if key in state.reminders:
-            self.result[ALREADY] += 1
+            self.result[BEFORE.get(state.reminders[key].result, NO_END)] += 1
         elif plan is None:
             self.result[NO_CHANNEL] += 1
         elif self.in_a_row[plan.rider.channel] >= MOST_IN_A_ROW:
