@@ -154,7 +154,9 @@ def cents_in(text: str) -> int:
     found = RATE.fullmatch(text)
     cents = int(found[1]) * 100 + int((found[2] or "0").ljust(2, "0")) if found else -1
     if not 0 <= cents <= MOST_DOLLARS * 100:
-        raise ValueError(f"rate {text[:40]!r} is no number of dollars from 0 to {MOST_DOLLARS} with at most two decimals")
+        raise ValueError(
+            f"rate {text[:40]!r} is no number of dollars from 0 to {MOST_DOLLARS} with at most two decimals"
+        )
     return cents
 
 
