@@ -343,7 +343,7 @@ def a_notice_says_what_was_seen_of_each_no_show_and_asks_where_nothing_speaks_fo
         for row, words, is_doubted in [
                 (None, "This site does not have what drivers reported", True), ({}, "The driver reported nothing of this trip.", True),
                 ({"arrived": None}, "The driver entered no arrival.", True), ({"arrived": 595}, "The van came at 9:55 AM, 25 minutes after the window.", True),
-                ({"arrived": 565, "wait": 1}, "waited 1 minutes of 5", True), ({"arrived": 565}, "The van was there at 9:25 AM and waited 8 minutes.", False)]:
+                ({"arrived": 565, "wait": 1}, "waited 1 minute of 5", True), ({"arrived": 565}, "The van was there at 9:25 AM and waited 8 minutes.", False)]:
             file = {"made": f"{AFTER}T16:00:00Z", "since": "2025-01-01", "no_shows": {str(trip): {**SEEN, **row}} if row else {}}
             at.town.write_file("staff/no-shows.json", None if row is None else json.dumps(file))
             at.browser.sign_in(at.keys["clerk"], "clerk", "file")
