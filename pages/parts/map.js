@@ -72,7 +72,7 @@ function routeNameShape({ id, points }, foot, room) {
 function placeShape(place, foot) {
     const side = 9 * foot, [x, north] = pointOf(place), y = -north;
     return [place.core ? draw("rect", { class: "place", x: x - side, y: y - side, width: 2 * side, height: 2 * side }) : draw("circle", { class: "place", cx: x, cy: y, r: side }),
-        draw("text", { class: "place-number", x, y: y + 4.7 * foot, "font-size": NAME * foot }, String(place.id))];
+        draw("text", { class: "place-number", x, y: y + 4.7 * foot, "font-size": 1.06 * NAME * foot }, String(place.id))];
 }
 
 /** @param {Place} place @param {number} foot @param {string | undefined} mark @param {Room} room */
