@@ -15,7 +15,7 @@ const MILE = 5280, LEAST_SIDE = 6000, SIZE = [900, 480], NEAR = 40, WIDE = 0.55;
 // What is left free around a map: so many feet at least, and so much of its longer side.
 const LEAST_EDGE = 1500, EDGE = 0.07;
 // Names and numbers are as large as that nine points of them are left on paper, where the map is narrower than on a screen.
-const NAME = 13.5;
+const NAME = 14;
 
 const isPut = (/** @type {Place} */ { x, y }) => Number.isFinite(x) && Number.isFinite(y);
 const pointOf = (/** @type {Place} */ { x, y }) => /** @type {Point} */ ([Number(x), Number(y)]);
@@ -72,7 +72,7 @@ function routeNameShape({ id, points }, foot, room) {
 function placeShape(place, foot) {
     const side = 9 * foot, [x, north] = pointOf(place), y = -north;
     return [place.core ? draw("rect", { class: "place", x: x - side, y: y - side, width: 2 * side, height: 2 * side }) : draw("circle", { class: "place", cx: x, cy: y, r: side }),
-        draw("text", { class: "place-number", x, y: y + 4.7 * foot, "font-size": 1.06 * NAME * foot }, String(place.id))];
+        draw("text", { class: "place-number", x, y: y + 4.7 * foot, "font-size": NAME * foot }, String(place.id))];
 }
 
 /** @param {Place} place @param {number} foot @param {string | undefined} mark @param {Room} room */
