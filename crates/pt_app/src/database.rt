@@ -1,17 +1,17 @@
 //! Commands over a database file.
 ghost use Rattle.std.specs.Prelude.{◌≡◌, ◌⊎◌, IfErr, IfOk};
-ghost use Rattle.pt_base.specs.declared.fault.Cause.TheVariants as cause;
+ghost use Rattle.pt_base_values.specs.declared.fault.Cause.TheVariants as cause;
 ghost use Rattle.pt_app.specs.Opening.{IsStoreFault};
-ghost use Rattle.pt_base.specs.Fault.{fault};
+ghost use Rattle.pt_base_values.specs.Fault.{fault};
 ghost use Rattle.pt_tables_keeper.specs.Sound.{IsSound};
 
-use pt_base::{Cause, Fault, Moment};
-use pt_command_line::Task;
-use pt_commands::{Ending, do_task, print_done};
+use pt_app_command_line::Task;
+use pt_app_commands::{Ending, do_task, print_done};
+use pt_app_serve::{Port, moment_at, serve};
+use pt_base_values::{Cause, Fault, Moment};
+use pt_desk_store::Keeper;
 use pt_http_request::desk_router;
-use pt_serve::{Port, moment_at, serve};
-use pt_store::Keeper;
-use pt_tables::{adopt, create, migrate};
+use pt_tables::{adopt, migrate};
 use pt_tables_keeper::SqlKeeper;
 use pt_tables_opening::OpenFault;
 use sqlite::{Alter, Connection, Error, ErrorCode};
@@ -24,10 +24,6 @@ use std::{fs, io};
 /// A task for a database file.
 #[derive(Drop)]
 enum Work<'a> {
-    /// Makes it the database of a desk whose admin has this key.
-    Make {
-        key: &'a str,
-    },
     /// Migrates it to this version.
     Migrate,
     /// Serves this number of connections on a port, in a time zone.
@@ -47,11 +43,11 @@ enum Work<'a> {
 
 /// The fault for a database that is not opened; `row` is the number of the bad table.
 fn fault_of_opening(refused: OpenFault) -> Fault
-    ensures cause { result.cause ≡ refused.cause }
+    ensures code { result.code ≡ refused.code }
     ensures row { result.row ≡ refused.table }
 {
     Fault {
-        cause: refused.cause,
+        code: refused.code,
         row: u32::from(refused.table),
     }
 }
@@ -82,17 +78,6 @@ fn fault_of_reading(error: &io::Error) -> Fault
     }
 }
 
-/// The fault if a file cannot be made.
-fn fault_of_making(error: &io::Error) -> Fault
-    ensures { (result ≡ fault cause.FileExists) ⊎ IsStoreFault result }
-{
-    match error.kind() {
-        ErrorKind::AlreadyExists => Fault::of(Cause::FileExists),
-        ErrorKind::OutOfMemory => Fault::of(Cause::Memory),
-        _ => Fault::of(Cause::StoreFailed),
-    }
-}
-
 /// A connection to a database file.
 fn connect(rt: &HostRuntime, file: &str) -> Result<Connection<FileStore<File>>, Fault>
     ensures fault { IfErr result IsStoreFault }
@@ -100,18 +85,6 @@ fn connect(rt: &HostRuntime, file: &str) -> Result<Connection<FileStore<File>>, 
     match Connection::open(rt, file) {
         Ok(conn) => Ok(conn),
         Err(error) => Err(fault_of_store(&error)),
-    }
-}
-
-/// Makes the database that of a desk whose admin has this key.
-fn make_desk<S: Alter + Drop>(
-    alloc: Global,
-    conn: Connection<S>,
-    key: &str,
-) -> Result<Ending, Fault> {
-    match create(alloc, conn, key.as_bytes()) {
-        Ok(_) => Ok(Ending::Done),
-        Err((_, refused)) => Err(fault_of_opening(refused)),
     }
 }
 
@@ -153,14 +126,13 @@ fn serve_on<K: Keeper>(
 
 /// Does this task with the database of a connection.
 ///
-/// It works over any store. So one proof covers all stores, and only `over_file` speaks of a file.
+/// It works over any store. So one proof covers all stores, and only `over_known_file` speaks of a file.
 fn do_work<S: Alter + Drop>(
     rt: &HostRuntime,
     conn: Connection<S>,
     work: Work<'_>,
 ) -> Result<Ending, Fault> {
     match work {
-        Work::Make { key } => make_desk(rt.alloc(), conn, key),
         Work::Migrate => migrate_desk(rt, conn),
         Work::Serve { zone, port, count } => {
             let mut keeper = adopt_desk(rt.alloc(), conn)?;
@@ -180,25 +152,12 @@ fn do_work<S: Alter + Drop>(
     }
 }
 
-/// Does this task with a database file.
-fn over_file(rt: &HostRuntime, file: &str, work: Work<'_>) -> Result<Ending, Fault> {
-    do_work(rt, connect(rt, file)?, work)
-}
-
-/// The same for a file that must exist.
+/// Does this task with a database file, which must exist.
 fn over_known_file(rt: &HostRuntime, file: &str, work: Work<'_>) -> Result<Ending, Fault> {
     if let Err(error) = fs::open(rt, file) {
         return Err(fault_of_reading(&error));
     }
-    over_file(rt, file, work)
-}
-
-/// Makes a file, which must not exist, with the tables of a desk whose admin has this key.
-pub(crate) fn init(rt: &HostRuntime, file: &str, key: &str) -> Result<Ending, Fault> {
-    if let Err(error) = fs::File::create_new(rt, file) {
-        return Err(fault_of_making(&error));
-    }
-    over_file(rt, file, Work::Make { key })
+    do_work(rt, connect(rt, file)?, work)
 }
 
 /// Migrates the tables of an earlier version in a file to this version, and prints `done`.

@@ -14,8 +14,8 @@ use Rattle.clap.specs.Walk.{nothing_held, settled, stop_after, walk, walk_from, 
 use Rattle.clap.specs.Words.{reading_of}
 use Rattle.clap.specs.declared.builder.value_parser.ValueParser.TheVariants as parser
 use Rattle.clap.specs.declared.parser.matches.ValueSource.TheVariants.{CommandLine}
-use Rattle.pt_command_line.specs.CommandLine.{place}
-use Rattle.pt_command_line.specs.Line.{IsPlainWord}
+use Rattle.pt_app_command_line.specs.CommandLine.{place}
+use Rattle.pt_app_command_line.specs.Line.{IsPlainWord}
 
 -- what clap finds at a place
 abbrev pub row : Text → Text → Row

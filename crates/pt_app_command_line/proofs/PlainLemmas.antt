@@ -6,14 +6,13 @@ use Rattle.clap.proofs.OnLiterals.{clap_on_literals}
 use Rattle.clap.specs.Simple.{App, built, built_leaf}
 use Rattle.clap.specs.Walk.{Row, Text, Walk, finished}
 use Rattle.clap.specs.Words.{fault_of, subcommand_of}
-use Rattle.pt_command_line.proofs.PlaceLemmas.{ArePlaces, HasCommand, IsEnd, all_stand, command_found, command_taken}
-use Rattle.pt_command_line.proofs.PlaceLemmas.{level_taken, row, stand_after, words_of}
-use Rattle.pt_command_line.specs.CommandLine.{audit_words, desk_words, explain_words, init_words, manifest_words}
-use Rattle.pt_command_line.specs.CommandLine.{migrate_words, rehearse_words, serve_words, travel_words, trips_words}
-use Rattle.pt_command_line.specs.Line.{Asks, IsLine, IsPlainWord, SpellsLine}
-use Rattle.pt_command_line.specs.declared.asked.Line.{Line}
-use Rattle.pt_command_line.specs.declared.asked.Line.TheVariants as line
-use Rattle.pt_command_line.specs.declared.asked.Task.TheVariants as task
+use Rattle.pt_app_command_line.proofs.PlaceLemmas.{ArePlaces, HasCommand, IsEnd, all_stand, command_found, command_taken}
+use Rattle.pt_app_command_line.proofs.PlaceLemmas.{level_taken, row, stand_after, words_of}
+use Rattle.pt_app_command_line.specs.CommandLine.{audit_words, desk_words, explain_words, init_words, manifest_words}
+use Rattle.pt_app_command_line.specs.CommandLine.{migrate_words, rehearse_words, serve_words, travel_words, trips_words}
+use Rattle.pt_app_command_line.specs.Line.{Asks, IsLine, IsPlainWord, SpellsLine}
+use Rattle.pt_app_command_line.specs.declared.asked.Line.{Line}
+use Rattle.pt_app_command_line.specs.declared.asked.Line.TheVariants as line
 
 -- the rows that clap finds at places with these words
 abbrev rows_for : List (Text × Text) → List Row
@@ -248,24 +247,24 @@ spelled_is_line words (line.Migrate file) s =
 spelled_is_line words (line.Serve file zone port count) s =
     rw s.3 (read_line (serve_read file.now zone.now s.1 s.2) s.0 (line.Serve file zone port count)
     (s.4, (s.5, (s.6, (s.7, tt)))) (refl, refl, refl, (s.1, refl, s.8), (s.2, refl, s.9)))
-spelled_is_line words (line.Ask file zone key (task.Travel number day csv)) s =
+spelled_is_line words (line.Travel file zone key number day csv) s =
     rw s.3 (read_line (travel_read file.now zone.now key.now s.1 s.2 csv.now) s.0
-    (line.Ask file zone key (task.Travel number day csv)) (s.4, (s.5, (s.6, (s.7, (s.8, (s.9, tt))))))
+    (line.Travel file zone key number day csv) (s.4, (s.5, (s.6, (s.7, (s.8, (s.9, tt))))))
     (refl, refl, refl, refl, (s.1, refl, s.10), (s.2, refl, s.11), refl))
-spelled_is_line words (line.Ask file zone key (task.Manifest vehicle day)) s =
+spelled_is_line words (line.Manifest file zone key vehicle day) s =
     rw s.3 (read_line (manifest_read file.now zone.now key.now s.1 s.2) s.0
-    (line.Ask file zone key (task.Manifest vehicle day)) (s.4, (s.5, (s.6, (s.7, (s.8, tt)))))
+    (line.Manifest file zone key vehicle day) (s.4, (s.5, (s.6, (s.7, (s.8, tt)))))
     (refl, refl, refl, refl, (s.1, refl, s.9), (s.2, refl, s.10)))
-spelled_is_line words (line.Ask file zone key (task.Trips day)) s =
-    rw s.2 (read_line (trips_read file.now zone.now key.now s.1) s.0 (line.Ask file zone key (task.Trips day))
+spelled_is_line words (line.Trips file zone key day) s =
+    rw s.2 (read_line (trips_read file.now zone.now key.now s.1) s.0 (line.Trips file zone key day)
     (s.3, (s.4, (s.5, (s.6, tt)))) (refl, refl, refl, refl, (s.1, refl, s.7)))
-spelled_is_line words (line.Ask file zone key (task.Explain rider wish)) s =
+spelled_is_line words (line.Explain file zone key rider day pickup from to by attendant companions) s =
     let w = s.4 in
     let asked = file.now ∷ zone.now ∷ key.now ∷ s.1 in
     let plain = subst (λ (asked : List Text). AllByRecursion IsPlainWord (file.now ∷ zone.now ∷ key.now ∷ asked)) w.8
     (recursion_from_All IsPlainWord asked s.3) in
     rw s.2 (rw w.8 (read_line (explain_read file.now zone.now key.now w.0 w.1 w.2 w.3 w.4 w.5 w.6 w.7) s.0
-    (line.Ask file zone key (task.Explain rider wish)) plain (
+    (line.Explain file zone key rider day pickup from to by attendant companions) plain (
       refl,
       refl,
       refl,
@@ -281,13 +280,13 @@ spelled_is_line words (line.Ask file zone key (task.Explain rider wish)) s =
         (w.7, refl, w.16),
       ),
     )))
-spelled_is_line words (line.Ask file zone key (task.Audit log rider wish)) s =
+spelled_is_line words (line.Audit log file zone key rider day pickup from to by attendant companions) s =
     let w = s.4 in
     let asked = log.now ∷ file.now ∷ zone.now ∷ key.now ∷ s.1 in
     let plain = subst (λ (asked : List Text). AllByRecursion IsPlainWord
     (log.now ∷ file.now ∷ zone.now ∷ key.now ∷ asked)) w.8 (recursion_from_All IsPlainWord asked s.3) in
     rw s.2 (rw w.8 (read_line (audit_read log.now file.now zone.now key.now w.0 w.1 w.2 w.3 w.4 w.5 w.6 w.7) s.0
-    (line.Ask file zone key (task.Audit log rider wish)) plain (
+    (line.Audit log file zone key rider day pickup from to by attendant companions) plain (
       refl,
       refl,
       refl,

@@ -3,15 +3,14 @@ use Rattle.std.proofs.Common.{◌≡◌, ◌∙◌, List, [], None, Some, ap, ar
 use Rattle.std.specs.Int.{from_bool}
 use Rattle.std.specs.Prelude.{Bool, ℕ, Option, unwrap_or}
 use Rattle.clap.specs.Words.{Row, Text}
-use Rattle.pt_base.proofs.DayLemmas.{day_from-known}
-use Rattle.pt_base.specs.SpelledDay.{SpellsDay, day_from}
-use Rattle.pt_base.specs.declared.trip.Wish.{Wish}
-use Rattle.pt_command_line.proofs.LineLemmas.{apart, name_of, named, other, task_name}
-use Rattle.pt_command_line.specs.Line.{Asks, AsksOf, HasDay, HasNumber, HasWish, HasWord, HasWordThat, IsByWord}
-use Rattle.pt_command_line.specs.Line.{IsLine, IsMinuteWord, IsSameLine}
-use Rattle.pt_command_line.specs.declared.asked.Line.{Line}
-use Rattle.pt_command_line.specs.declared.asked.Line.TheVariants as line
-use Rattle.pt_command_line.specs.declared.asked.Task.TheVariants as task
+use Rattle.pt_base_values.proofs.DayLemmas.{day_from-known}
+use Rattle.pt_base_values.specs.SpelledDay.{SpellsDay, day_from}
+use Rattle.pt_base_values.specs.declared.trip.Wish.{Wish}
+use Rattle.pt_app_command_line.proofs.LineLemmas.{name_of, named, other}
+use Rattle.pt_app_command_line.specs.Line.{Asks, AsksOf, HasDay, HasNumber, HasWish, HasWord, HasWordThat, IsByWord}
+use Rattle.pt_app_command_line.specs.Line.{IsLine, IsMinuteWord, IsSameLine, wish_of}
+use Rattle.pt_app_command_line.specs.declared.asked.Line.{Line}
+use Rattle.pt_app_command_line.specs.declared.asked.Line.TheVariants as line
 
 same_word : (rows : List Row) (place word read : Text) → HasWord rows place word → HasWord rows place read → read ≡ word
 same_word rows place word read has also = cc (has, also)
@@ -51,17 +50,6 @@ same_truth false false e = refl
 same_truth true false e = absurd (omega (arith, e))
 same_truth false true e = absurd (omega (arith, e))
 
-abbrev wish_of : ℕ → ℕ → ℕ → ℕ → Option ℕ → Bool → ℕ → Wish
-wish_of day pickup from to by attendant companions = record {
-  day = day;
-  pickup = pickup;
-  from = from;
-  to = to;
-  by = by;
-  attendant = attendant;
-  companions = companions;
-}
-
 same_fields : (wish read : Wish) → read.day ≡ wish.day → read.pickup ≡ wish.pickup → read.from ≡ wish.from
     → read.to ≡ wish.to → read.by ≡ wish.by → read.attendant ≡ wish.attendant → read.companions ≡ wish.companions
     → read ≡ wish
@@ -89,7 +77,7 @@ same_asked name rows (line.Serve file zone port count) (line.Serve file_read zon
   same_number rows _ _ _ _ _ asks.3 reads.3,
   same_number rows _ _ _ _ _ asks.4 reads.4,
 )
-same_asked name rows (line.Ask file zone key (task.Travel number day csv)) (line.Ask file_read zone_read key_read (task.Travel count on table)) asks reads = (
+same_asked name rows (line.Travel file zone key number day csv) (line.Travel file_read zone_read key_read count on table) asks reads = (
   same_word rows _ _ _ asks.1 reads.1,
   same_word rows _ _ _ asks.2 reads.2,
   same_word rows _ _ _ asks.3 reads.3,
@@ -97,27 +85,27 @@ same_asked name rows (line.Ask file zone key (task.Travel number day csv)) (line
   same_day rows _ _ _ asks.5 reads.5,
   same_word rows _ _ _ asks.6 reads.6,
 )
-same_asked name rows (line.Ask file zone key (task.Manifest vehicle day)) (line.Ask file_read zone_read key_read (task.Manifest van on)) asks reads = (
+same_asked name rows (line.Manifest file zone key vehicle day) (line.Manifest file_read zone_read key_read van on) asks reads = (
   same_word rows _ _ _ asks.1 reads.1,
   same_word rows _ _ _ asks.2 reads.2,
   same_word rows _ _ _ asks.3 reads.3,
   same_number rows _ _ _ _ _ asks.4 reads.4,
   same_day rows _ _ _ asks.5 reads.5,
 )
-same_asked name rows (line.Ask file zone key (task.Trips day)) (line.Ask file_read zone_read key_read (task.Trips on)) asks reads = (
+same_asked name rows (line.Trips file zone key day) (line.Trips file_read zone_read key_read on) asks reads = (
   same_word rows _ _ _ asks.1 reads.1,
   same_word rows _ _ _ asks.2 reads.2,
   same_word rows _ _ _ asks.3 reads.3,
   same_day rows _ _ _ asks.4 reads.4,
 )
-same_asked name rows (line.Ask file zone key (task.Explain rider wish)) (line.Ask file_read zone_read key_read (task.Explain who wish_read)) asks reads = (
+same_asked name rows (line.Explain file zone key rider day pickup from to by attendant companions) (line.Explain file_read zone_read key_read who on when start end latest escort others) asks reads = (
   same_word rows _ _ _ asks.1 reads.1,
   same_word rows _ _ _ asks.2 reads.2,
   same_word rows _ _ _ asks.3 reads.3,
   same_number rows _ _ _ _ _ asks.4 reads.4,
   same_wish rows _ _ asks.5 reads.5,
 )
-same_asked name rows (line.Ask file zone key (task.Audit log rider wish)) (line.Ask file_read zone_read key_read (task.Audit log_read who wish_read)) asks reads = (
+same_asked name rows (line.Audit log file zone key rider day pickup from to by attendant companions) (line.Audit log_read file_read zone_read key_read who on when start end latest escort others) asks reads = (
   same_word rows _ _ _ asks.1 reads.1,
   same_word rows _ _ _ asks.2 reads.2,
   same_word rows _ _ _ asks.3 reads.3,
@@ -125,15 +113,6 @@ same_asked name rows (line.Ask file zone key (task.Audit log rider wish)) (line.
   same_number rows _ _ _ _ _ asks.5 reads.5,
   same_wish rows _ _ asks.6 reads.6,
 )
-same_asked name rows (line.Ask file zone key t) (line.Ask file_read zone_read key_read t_read) asks reads =
-    absurd (other (task_name t) (task_name t_read) refl (sym (named name rows (line.Ask file zone key t) asks)
-    ∙ named name rows (line.Ask file_read zone_read key_read t_read) reads))
-same_asked name rows asked (line.Ask file zone key t) asks reads =
-    absurd (other (name_of asked) (task_name t) (apart asked t tt) (sym (named name rows asked asks)
-    ∙ named name rows (line.Ask file zone key t) reads))
-same_asked name rows (line.Ask file zone key t) read asks reads =
-    absurd (other (name_of read) (task_name t) (apart read t tt) (sym (named name rows read reads)
-    ∙ named name rows (line.Ask file zone key t) asks))
 same_asked name rows asked read asks reads =
     absurd (other (name_of asked) (name_of read) refl (sym (named name rows asked asks) ∙ named name rows read reads))
 

@@ -5,7 +5,7 @@ use Rattle.clap.specs.declared.error.kind.ErrorKind.TheVariants.{OutOfMemory}
 use Rattle.clap.specs.declared.error.Error.{Error}
 use Rattle.clap.specs.Kinds.{Kinds}
 use Rattle.clap.proofs.OnLiterals.{clap_on_literals}
-use Rattle.pt_command_line.specs.CommandLine.{desk_words}
+use Rattle.pt_app_command_line.specs.CommandLine.{desk_words}
 
 pub desk_is_simple : is_simple desk_words ≡ true
 unfolding clap_on_literals

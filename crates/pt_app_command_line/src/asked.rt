@@ -1,12 +1,14 @@
 ghost use Rattle.std.specs.Prelude.{◌≡◌, ℕ, IfSome, IsNone, Option, codes, option_map};
 ghost use Rattle.clap.specs.Words.{first_of, found_of, rows_of, subcommand_rows_of};
-ghost use Rattle.pt_base.specs.declared.trip.Wish.{Wish};
-ghost use Rattle.pt_command_line.specs.Line.{Asks, AsksOf, HasDay, HasNumber, HasWish, HasWordThat, IsByWord};
-ghost use Rattle.pt_command_line.specs.Line.{IsMinuteWord, IsRecordWord};
-ghost use Rattle.pt_command_line.specs.declared.asked.Line.{Line};
+ghost use Rattle.pt_base_values.specs.declared.trip.Wish.{Wish};
+ghost use Rattle.pt_app_command_line.specs.Line.{Asks, AsksOf, HasDay, HasNumber, HasWish, HasWordThat, IsByWord};
+ghost use Rattle.pt_app_command_line.specs.Line.{IsMinuteWord, IsRecordWord};
+ghost use Rattle.pt_app_command_line.specs.declared.asked.Line.{Line};
 
 use clap::ArgMatches;
-use pt_base::{Day, Id, LAST_MINUTE, Minute, RiderId, VehicleId, Wish, day_from, number_from};
+use pt_base_values::{
+    Day, Id, LAST_MINUTE, Minute, PlaceId, RiderId, VehicleId, Wish, day_from, number_from,
+};
 
 /// The last port.
 const LAST_PORT: u32 = 65_535;
@@ -71,13 +73,126 @@ pub enum Line<'a> {
         port: u16,
         count: u32,
     },
-    /// Asks the desk in a file, as the caller with a key, in a time zone.
-    Ask {
+    /// Sends the driving times of a CSV file, which hold from a day on, under this number of the caller.
+    Travel {
         file: &'a str,
         zone: &'a str,
         key: &'a str,
-        task: Task<'a>,
+        number: u32,
+        day: Day,
+        csv: &'a str,
     },
+    /// Prints the manifest of a vehicle on a day.
+    Manifest {
+        file: &'a str,
+        zone: &'a str,
+        key: &'a str,
+        vehicle: VehicleId,
+        day: Day,
+    },
+    /// Prints the trips of a day.
+    Trips {
+        file: &'a str,
+        zone: &'a str,
+        key: &'a str,
+        day: Day,
+    },
+    /// Prints the log of a refusal, which shows that no vehicle can take this wish of the rider.
+    Explain {
+        file: &'a str,
+        zone: &'a str,
+        key: &'a str,
+        rider: RiderId,
+        day: Day,
+        wish: Minute,
+        from: PlaceId,
+        to: PlaceId,
+        by: Option<Minute>,
+        attendant: bool,
+        companions: u8,
+    },
+    /// Checks the log in a file.
+    Audit {
+        log: &'a str,
+        file: &'a str,
+        zone: &'a str,
+        key: &'a str,
+        rider: RiderId,
+        day: Day,
+        wish: Minute,
+        from: PlaceId,
+        to: PlaceId,
+        by: Option<Minute>,
+        attendant: bool,
+        companions: u8,
+    },
+}
+
+impl<'a> Line<'a> {
+    ghost use Rattle.pt_app_command_line.specs.Line.{task_of};
+
+    /// The task for the desk in a file. The other commands have none.
+    pub fn task(&self) -> Option<Task<'a>>
+        ensures { result ≡ task_of self.now }
+    {
+        match *self {
+            Line::Travel {
+                number,
+                day,
+                csv,
+                ..
+            } => Some(Task::Travel { number, day, csv }),
+            Line::Manifest { vehicle, day, .. } => Some(Task::Manifest { vehicle, day }),
+            Line::Trips { day, .. } => Some(Task::Trips { day }),
+            Line::Explain {
+                rider,
+                day,
+                wish,
+                from,
+                to,
+                by,
+                attendant,
+                companions,
+                ..
+            } => {
+                let wish = Wish {
+                    day,
+                    pickup: wish,
+                    from,
+                    to,
+                    by,
+                    attendant,
+                    companions,
+                };
+                Some(Task::Explain { rider, wish })
+            }
+            Line::Audit {
+                log,
+                rider,
+                day,
+                wish,
+                from,
+                to,
+                by,
+                attendant,
+                companions,
+                ..
+            } => {
+                let wish = Wish {
+                    day,
+                    pickup: wish,
+                    from,
+                    to,
+                    by,
+                    attendant,
+                    companions,
+                };
+                Some(Task::Audit { log, rider, wish })
+            }
+            Line::Rehearse { .. } | Line::Init { .. } | Line::Migrate { .. } | Line::Serve { .. } =>
+                None,
+        }
+    }
 }
 
 /// The word at a place of a command.
@@ -209,15 +324,13 @@ fn travel_line<'a>(words: &ArgMatches<'a>) -> Option<Line<'a>>
     ensures none { IsNone result → (asked : Line)
         → ¬ (Asks (codes "travel") (rows_of (found_of words.now)) asked) }
 {
-    Some(Line::Ask {
+    Some(Line::Travel {
         file: word_at(words, "FILE")?,
         zone: word_at(words, "ZONE")?,
         key: word_at(words, "KEY")?,
-        task: Task::Travel {
-            number: number_at(words, "NUMBER", 0, u32::MAX)?,
-            day: day_at(words, "DAY")?,
-            csv: word_at(words, "CSV")?,
-        },
+        number: number_at(words, "NUMBER", 0, u32::MAX)?,
+        day: day_at(words, "DAY")?,
+        csv: word_at(words, "CSV")?,
     })
 }
 
@@ -227,14 +340,12 @@ fn manifest_line<'a>(words: &ArgMatches<'a>) -> Option<Line<'a>>
     ensures none { IsNone result → (asked : Line)
         → ¬ (Asks (codes "manifest") (rows_of (found_of words.now)) asked) }
 {
-    Some(Line::Ask {
+    Some(Line::Manifest {
         file: word_at(words, "FILE")?,
         zone: word_at(words, "ZONE")?,
         key: word_at(words, "KEY")?,
-        task: Task::Manifest {
-            vehicle: VehicleId::of(number_at(words, "VEHICLE", 1, u32::MAX)?)?,
-            day: day_at(words, "DAY")?,
-        },
+        vehicle: VehicleId::of(number_at(words, "VEHICLE", 1, u32::MAX)?)?,
+        day: day_at(words, "DAY")?,
     })
 }
 
@@ -244,13 +355,11 @@ fn trips_line<'a>(words: &ArgMatches<'a>) -> Option<Line<'a>>
     ensures none { IsNone result → (asked : Line)
         → ¬ (Asks (codes "trips") (rows_of (found_of words.now)) asked) }
 {
-    Some(Line::Ask {
+    Some(Line::Trips {
         file: word_at(words, "FILE")?,
         zone: word_at(words, "ZONE")?,
         key: word_at(words, "KEY")?,
-        task: Task::Trips {
-            day: day_at(words, "DAY")?,
-        },
+        day: day_at(words, "DAY")?,
     })
 }
 
@@ -260,14 +369,23 @@ fn explain_line<'a>(words: &ArgMatches<'a>) -> Option<Line<'a>>
     ensures none { IsNone result → (asked : Line)
         → ¬ (Asks (codes "explain") (rows_of (found_of words.now)) asked) }
 {
-    Some(Line::Ask {
-        file: word_at(words, "FILE")?,
-        zone: word_at(words, "ZONE")?,
-        key: word_at(words, "KEY")?,
-        task: Task::Explain {
-            rider: id_at(words, "RIDER")?,
-            wish: wish_at(words)?,
-        },
+    let file = word_at(words, "FILE")?;
+    let zone = word_at(words, "ZONE")?;
+    let key = word_at(words, "KEY")?;
+    let rider = id_at(words, "RIDER")?;
+    let wish = wish_at(words)?;
+    Some(Line::Explain {
+        file,
+        zone,
+        key,
+        rider,
+        day: wish.day,
+        wish: wish.pickup,
+        from: wish.from,
+        to: wish.to,
+        by: wish.by,
+        attendant: wish.attendant,
+        companions: wish.companions,
     })
 }
 
@@ -277,15 +395,25 @@ fn audit_line<'a>(words: &ArgMatches<'a>) -> Option<Line<'a>>
     ensures none { IsNone result → (asked : Line)
         → ¬ (Asks (codes "audit") (rows_of (found_of words.now)) asked) }
 {
-    Some(Line::Ask {
-        file: word_at(words, "FILE")?,
-        zone: word_at(words, "ZONE")?,
-        key: word_at(words, "KEY")?,
-        task: Task::Audit {
-            log: word_at(words, "LOG")?,
-            rider: id_at(words, "RIDER")?,
-            wish: wish_at(words)?,
-        },
+    let file = word_at(words, "FILE")?;
+    let zone = word_at(words, "ZONE")?;
+    let key = word_at(words, "KEY")?;
+    let log = word_at(words, "LOG")?;
+    let rider = id_at(words, "RIDER")?;
+    let wish = wish_at(words)?;
+    Some(Line::Audit {
+        log,
+        file,
+        zone,
+        key,
+        rider,
+        day: wish.day,
+        wish: wish.pickup,
+        from: wish.from,
+        to: wish.to,
+        by: wish.by,
+        attendant: wish.attendant,
+        companions: wish.companions,
     })
 }
 

@@ -2,18 +2,18 @@ ghost use Rattle.std.specs.Prelude.{◌≡◌, ◌≢◌, ◌⊎◌, Err, IfErr,
 ghost use Rattle.clap.specs.Words.{FailsBy, HasMatchesOf, app_of, fault_of, with_rule, with_subcommand};
 ghost use Rattle.clap.specs.declared.error.kind.ErrorKind.TheVariants.{OutOfMemory};
 ghost use Rattle.clap.specs.declared.builder.command.Command.TheViews.{out-Command as fields_of};
-ghost use Rattle.pt_command_line.specs.CommandLine.{audit_words, command, desk_words, place, program_words};
-ghost use Rattle.pt_command_line.specs.CommandLine.{with_commands, with_places};
-ghost use Rattle.pt_base.specs.declared.fault.Cause.TheVariants as cause;
-ghost use Rattle.pt_command_line.specs.Line.{IsLine, IsSameLine, SpellsLine};
-ghost use Rattle.pt_command_line.specs.declared.asked.Line.{Line};
-ghost use Rattle.pt_base.specs.Fault.{fault};
+ghost use Rattle.pt_app_command_line.specs.CommandLine.{audit_words, command, desk_words, place, program_words};
+ghost use Rattle.pt_app_command_line.specs.CommandLine.{with_commands, with_places};
+ghost use Rattle.pt_base_values.specs.declared.fault.Cause.TheVariants as cause;
+ghost use Rattle.pt_app_command_line.specs.Line.{IsLine, IsSameLine, SpellsLine};
+ghost use Rattle.pt_app_command_line.specs.declared.asked.Line.{Line};
+ghost use Rattle.pt_base_values.specs.Fault.{fault};
 
 use crate::asked;
 use crate::asked::found_line;
 use clap::error::ErrorKind;
 use clap::{Arg, ArgMatches, Command, Error};
-use pt_base::{Cause, Fault};
+use pt_base_values::{Cause, Fault};
 use std::alloc::{AllocError, Global};
 
 const ABOUT: &str = "The office system of a transit agency that gives complementary paratransit \

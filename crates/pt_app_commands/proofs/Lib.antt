@@ -1,2 +1,3 @@
 mod RefusalLemmas
+mod RehearsalLemmas
 mod TaskLemmas

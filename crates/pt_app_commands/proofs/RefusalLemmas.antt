@@ -4,12 +4,12 @@ use Rattle.std.proofs.lemmas.List.Elements.{All-map}
 use Rattle.std.specs.Io.KnownBytes.{Appends}
 use Rattle.std.specs.Prelude.{is_some, IfNone, IfSome}
 use Rattle.pt_audit.specs.RightLog.{IsNowherePossible}
-use Rattle.pt_base.specs.declared.fault.Fault.{Fault}
-use Rattle.pt_base.specs.declared.rule.Rule.TheVariants.{NoVehicle}
-use Rattle.pt_base.specs.declared.trip.Wish.{Wish}
-use Rattle.pt_base.specs.declared.moment.Moment.{Moment}
-use Rattle.pt_booking.proofs.DutyLemmas.{Any-map, no_any}
-use Rattle.pt_booking.specs.Planning.{OnDuty, SomeVehicleCan, on_duty}
+use Rattle.pt_base_values.specs.declared.fault.Fault.{Fault}
+use Rattle.pt_base_values.specs.declared.rule.Rule.TheVariants.{NoVehicle}
+use Rattle.pt_base_values.specs.declared.trip.Wish.{Wish}
+use Rattle.pt_base_values.specs.Moment.{Moment}
+use Rattle.pt_desk_booking.proofs.DutyLemmas.{Any-map, no_any}
+use Rattle.pt_desk_booking.specs.Planning.{OnDuty, SomeVehicleCan, on_duty}
 use Rattle.pt_desk.proofs.RefusalLemmas.{refusals_are_told}
 use Rattle.pt_desk.specs.Refusals.{IsFacts}
 use Rattle.pt_desk.specs.Booking.{AreTimes}
@@ -19,19 +19,19 @@ use Rattle.pt_desk.specs.State.{State}
 use Rattle.pt_desk.specs.Step.{IsOutcome}
 use Rattle.pt_desk_reads.specs.declared.explaining.Inquiry.{Inquiry}
 use Rattle.pt_desk_reads.specs.declared.explaining.Inquiry.TheVariants as inquiry
-use Rattle.pt_store.specs.Route.{stops_of}
-use Rattle.pt_insertion.specs.Choice.{IsChosenIn}
-use Rattle.pt_insertion.specs.Possible.{IsPossible}
-use Rattle.pt_insertion.specs.declared.asked.Asked.{Asked}
-use Rattle.pt_insertion.specs.declared.chosen.Chosen.{Chosen}
-use Rattle.pt_insertion.specs.declared.duty.Duty.{Duty}
+use Rattle.pt_desk_store.specs.Route.{stops_of}
+use Rattle.pt_insertion_search.specs.Choice.{IsChosenIn}
+use Rattle.pt_insertion_search.specs.Possible.{IsPossible}
+use Rattle.pt_insertion_search.specs.declared.asked.Asked.{Asked}
+use Rattle.pt_insertion_search.specs.declared.chosen.Chosen.{Chosen}
+use Rattle.pt_insertion_search.specs.declared.duty.Duty.{Duty}
 use Rattle.pt_insertion_log.specs.Written.{WritesRightLog}
-use Rattle.pt_requests.specs.declared.request.Answer.{Answer}
-use Rattle.pt_requests.specs.declared.request.Answer.TheVariants as answer
-use Rattle.pt_requests.specs.declared.request.Request.TheVariants.{Explain}
-use Rattle.pt_commands.specs.Refusals.{IsAuditedFrom, IsExplainedFrom, NoneCan, SomeCan}
-use Rattle.pt_commands.specs.declared.ending.Ending.{Ending}
-use Rattle.pt_commands.specs.declared.ending.Ending.TheVariants.{Done}
+use Rattle.pt_desk_requests.specs.declared.request.Answer.{Answer}
+use Rattle.pt_desk_requests.specs.declared.request.Answer.TheVariants as answer
+use Rattle.pt_desk_requests.specs.declared.request.Request.TheVariants.{Explain}
+use Rattle.pt_app_commands.specs.Refusals.{IsAuditedFrom, IsExplainedFrom, NoneCan, SomeCan}
+use Rattle.pt_app_commands.specs.declared.ending.Ending.{Ending}
+use Rattle.pt_app_commands.specs.declared.ending.Ending.TheVariants.{Done}
 use Rattle.pt_audit.specs.declared.line.Line.{Line}
 
 abbrev lent : Duty → OnDuty

@@ -1,11 +1,11 @@
 -- The results of reading the text of a file.
 use Rattle.std.proofs.Common.{◌≡◌, ◌⊎◌, ℕ, List, Result, Ok, Err, ap, subst, sym}
 use Rattle.std.specs.Prelude.{IfErr, IfOk, IsErrAnd}
-use Rattle.pt_base.specs.declared.fault.Cause.TheVariants as cause
-use Rattle.pt_base.specs.Fault.{fault}
-use Rattle.pt_base.specs.declared.fault.Fault.{Fault}
-use Rattle.pt_commands.specs.Tasks.{IsTimesRead, IsTimesReadBy}
-use Rattle.pt_store.specs.declared.keeper.StoreFault.{StoreFault}
+use Rattle.pt_base_values.specs.declared.fault.Cause.TheVariants as cause
+use Rattle.pt_base_values.specs.Fault.{fault}
+use Rattle.pt_base_values.specs.declared.fault.Fault.{Fault}
+use Rattle.pt_app_commands.specs.Tasks.{IsTimesRead, IsTimesReadBy}
+use Rattle.pt_desk_store.specs.declared.keeper.StoreFault.{StoreFault}
 use Rattle.pt_travel.specs.Chain.{Row}
 use Rattle.pt_travel.specs.Text.{IsFirstFault, ReadsAs}
 

@@ -3,21 +3,21 @@ use Rattle.std.specs.Prelude.{◌≡◌, ◌⊎◌, ℕ, List, ◌++◌, Option,
 use Rattle.std.specs.Io.KnownBytes.{Appends}
 use Rattle.pt_audit.specs.RightLog.{IsRightLog}
 use Rattle.pt_audit.specs.declared.line.Line.{Line}
-use Rattle.pt_base.specs.declared.fault.Cause.TheVariants as cause
-use Rattle.pt_base.specs.Fault.{fault}
-use Rattle.pt_base.specs.Rule.{name_of}
-use Rattle.pt_base.specs.declared.fault.Fault.{Fault}
-use Rattle.pt_booking.specs.Planning.{SomeVehicleCan, on_duty}
-use Rattle.pt_store.specs.declared.keeper.StoreFault.{StoreFault}
+use Rattle.pt_base_values.specs.declared.fault.Cause.TheVariants as cause
+use Rattle.pt_base_values.specs.Fault.{fault}
+use Rattle.pt_base_values.specs.Rule.{name_of}
+use Rattle.pt_base_values.specs.declared.fault.Fault.{Fault}
+use Rattle.pt_desk_booking.specs.Planning.{SomeVehicleCan, on_duty}
+use Rattle.pt_desk_store.specs.declared.keeper.StoreFault.{StoreFault}
 use Rattle.pt_desk.specs.Booking.{AreTimes}
 use Rattle.pt_desk_reads.specs.Refusal.{Refusal}
 use Rattle.pt_desk_reads.specs.declared.explaining.Inquiry.{Inquiry}
 use Rattle.pt_desk_reads.specs.declared.explaining.Inquiry.TheVariants as inquiry
-use Rattle.pt_insertion.specs.declared.duty.Duty.{Duty}
+use Rattle.pt_insertion_search.specs.declared.duty.Duty.{Duty}
 use Rattle.pt_insertion_log.specs.Written.{WritesRightLog}
-use Rattle.pt_commands.specs.Told.{fault_of}
-use Rattle.pt_commands.specs.declared.ending.Ending.{Ending}
-use Rattle.pt_commands.specs.declared.ending.Ending.TheVariants.{Done, Denied}
+use Rattle.pt_app_commands.specs.Told.{fault_of}
+use Rattle.pt_app_commands.specs.declared.ending.Ending.{Ending}
+use Rattle.pt_app_commands.specs.declared.ending.Ending.TheVariants.{Done, Denied}
 
 -- this holds for the vehicles of a refusal, borrowed with their routes, by the driving times of its rows
 abbrev pub OfRefusal : ((ℕ → ℕ → Option ℕ) → List Duty → Type 0) → Refusal → Type 0

@@ -3,28 +3,28 @@ use Rattle.std.specs.Prelude.{◌≡◌, ◌⊎◌, ℕ, List, map, Option, Resu
 use Rattle.std.specs.Io.KnownBytes.{Appends}
 use Rattle.pt_audit.specs.Text.{FailsAt, IsLogText}
 use Rattle.pt_audit.specs.declared.line.Line.{Line}
-use Rattle.pt_base.specs.declared.fault.Cause.TheVariants as cause
-use Rattle.pt_base.specs.Fault.{fault}
-use Rattle.pt_base.specs.declared.fault.Fault.{Fault}
-use Rattle.pt_base.specs.declared.moment.Moment.{Moment}
-use Rattle.pt_base.specs.declared.trip.Wish.{Wish}
-use Rattle.pt_command_line.specs.declared.asked.Task.{Task}
-use Rattle.pt_command_line.specs.declared.asked.Task.TheVariants as task
-use Rattle.pt_commands.specs.Refusals.{EndsByFacts, IsAuditedFrom, IsExplainedFrom}
-use Rattle.pt_commands.specs.Told.{EndsBy, fault_of, told_text}
-use Rattle.pt_commands.specs.declared.ending.Ending.{Ending}
+use Rattle.pt_base_values.specs.declared.fault.Cause.TheVariants as cause
+use Rattle.pt_base_values.specs.Fault.{code_of, fault}
+use Rattle.pt_base_values.specs.declared.fault.Fault.{Fault}
+use Rattle.pt_base_values.specs.Moment.{Moment}
+use Rattle.pt_base_values.specs.declared.trip.Wish.{Wish}
+use Rattle.pt_app_command_line.specs.declared.asked.Task.{Task}
+use Rattle.pt_app_command_line.specs.declared.asked.Task.TheVariants as task
+use Rattle.pt_app_commands.specs.Refusals.{EndsByFacts, IsAuditedFrom, IsExplainedFrom}
+use Rattle.pt_app_commands.specs.Told.{EndsBy, fault_of, told_text}
+use Rattle.pt_app_commands.specs.declared.ending.Ending.{Ending}
 use Rattle.pt_desk.specs.Refusals.{IsFacts}
 use Rattle.pt_desk_reads.specs.Refusal.{Refusal}
 use Rattle.pt_desk_reads.specs.declared.explaining.Inquiry.{Inquiry}
 use Rattle.pt_desk.specs.State.{place_key}
 use Rattle.pt_desk.specs.Step.{IsOutcome}
-use Rattle.pt_requests.specs.declared.request.Answer.{Answer}
-use Rattle.pt_requests.specs.declared.request.Read.TheVariants as read
-use Rattle.pt_requests.specs.declared.request.Request.{Request}
-use Rattle.pt_requests.specs.declared.request.Request.TheVariants as request
-use Rattle.pt_requests.specs.declared.request.Write.TheVariants as write
-use Rattle.pt_store.specs.Store.{Store, Answers, Reads}
-use Rattle.pt_store.specs.declared.keeper.StoreFault.{StoreFault}
+use Rattle.pt_desk_requests.specs.declared.request.Answer.{Answer}
+use Rattle.pt_desk_requests.specs.declared.request.Read.TheVariants as read
+use Rattle.pt_desk_requests.specs.declared.request.Request.{Request}
+use Rattle.pt_desk_requests.specs.declared.request.Request.TheVariants as request
+use Rattle.pt_desk_requests.specs.declared.request.Write.TheVariants as write
+use Rattle.pt_desk_store.specs.Store.{Store, Answers, Reads}
+use Rattle.pt_desk_store.specs.declared.keeper.StoreFault.{StoreFault}
 use Rattle.pt_travel.specs.Chain.{Row}
 use Rattle.pt_travel.specs.Text.{IsFirstFault, ReadsAs}
 
@@ -82,7 +82,7 @@ Inquires Ends key now rider wish before after old new result =
 abbrev pub IsLogRead : List ℕ → Result (List Line) Fault → Type 0
 IsLogRead text (Ok lines) = IsLogText text lines
 IsLogRead text (Err error) =
-    (error ≡ fault cause.Memory) ⊎ ((error.cause ≡ cause.LogLine) × FailsAt text error.row)
+    (error ≡ fault cause.Memory) ⊎ ((error.code ≡ code_of cause.LogLine) × FailsAt text error.row)
 
 -- a log that was read is judged; a text that was not read ends the command
 abbrev pub AuditsRead : {K : Type 0} → (K → Store) → List ℕ → Moment → ℕ → Wish → Result (List Line) Fault → K → K

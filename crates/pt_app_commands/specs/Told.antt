@@ -1,17 +1,17 @@
 -- The desk's reply to a command, the text that the command prints, and its ending.
 use Rattle.std.specs.Prelude.{◌≡◌, ◌⊎◌, ℕ, List, [], ◌++◌, Result, Ok, Err, codes}
-use Rattle.pt_base.specs.declared.fault.Cause.TheVariants as cause
-use Rattle.pt_base.specs.Fault.{fault}
-use Rattle.pt_base.specs.Rule.{name_of}
-use Rattle.pt_base.specs.declared.fault.Fault.{Fault}
-use Rattle.pt_store.specs.declared.keeper.StoreFault.{StoreFault}
-use Rattle.pt_store.specs.declared.keeper.StoreFault.TheVariants.{Memory, Store}
+use Rattle.pt_base_values.specs.declared.fault.Cause.TheVariants as cause
+use Rattle.pt_base_values.specs.Fault.{fault}
+use Rattle.pt_base_values.specs.Rule.{name_of}
+use Rattle.pt_base_values.specs.declared.fault.Fault.{Fault}
+use Rattle.pt_desk_store.specs.declared.keeper.StoreFault.{StoreFault}
+use Rattle.pt_desk_store.specs.declared.keeper.StoreFault.TheVariants.{Memory, Store}
 use Rattle.pt_manifest.specs.Export.{trips_text}
 use Rattle.pt_manifest.specs.Manifests.{manifest_text}
-use Rattle.pt_requests.specs.declared.request.Answer.{Answer}
-use Rattle.pt_requests.specs.declared.request.Answer.TheVariants as answer
-use Rattle.pt_commands.specs.declared.ending.Ending.{Ending}
-use Rattle.pt_commands.specs.declared.ending.Ending.TheVariants.{Done, Denied}
+use Rattle.pt_desk_requests.specs.declared.request.Answer.{Answer}
+use Rattle.pt_desk_requests.specs.declared.request.Answer.TheVariants as answer
+use Rattle.pt_app_commands.specs.declared.ending.Ending.{Ending}
+use Rattle.pt_app_commands.specs.declared.ending.Ending.TheVariants.{Done, Denied}
 
 -- The printed text. It is a word on its own line if the request is done, the rule's name if it is denied, and otherwise
 -- the text that was asked for.

@@ -1,18 +1,18 @@
 ghost use Rattle.std.specs.Prelude.{◌≡◌, ◌⊎◌, ◌++◌, codes, IfErr, IfOk, OnOk, Ok};
 ghost use Rattle.std.specs.Io.KnownBytes.{Appends};
-ghost use Rattle.pt_commands.specs.declared.ending.Ending.TheVariants.{Done};
-ghost use Rattle.pt_commands.specs.Tasks.{Prints};
-ghost use Rattle.pt_commands.specs.Told.{EndsBy, ending_of, fault_of, told_text};
-ghost use Rattle.pt_base.specs.declared.fault.Cause.TheVariants as cause;
-ghost use Rattle.pt_base.specs.Fault.{fault};
-ghost use Rattle.pt_requests.specs.declared.request.Answer.{Answer};
+ghost use Rattle.pt_app_commands.specs.declared.ending.Ending.TheVariants.{Done};
+ghost use Rattle.pt_app_commands.specs.Tasks.{Prints};
+ghost use Rattle.pt_app_commands.specs.Told.{EndsBy, ending_of, fault_of, told_text};
+ghost use Rattle.pt_base_values.specs.declared.fault.Cause.TheVariants as cause;
+ghost use Rattle.pt_base_values.specs.Fault.{fault};
+ghost use Rattle.pt_desk_requests.specs.declared.request.Answer.{Answer};
 
 use crate::ending::Ending;
-use pt_base::{Cause, Fault, Moment};
+use pt_base_values::{Cause, Fault, Moment};
 use pt_desk::answer;
+use pt_desk_requests::{Answer, Request};
+use pt_desk_store::{Keeper, Reply, StoreFault};
 use pt_manifest::{manifest, trips_csv};
-use pt_requests::{Answer, Request};
-use pt_store::{Keeper, Reply, StoreFault};
 use std::alloc::{AllocError, Global};
 use std::io::Write;
 
@@ -35,13 +35,14 @@ pub(crate) fn line_of(alloc: Global, word: &str) -> Result<Vec<u8>, AllocError>
     Ok(line)
 }
 
-/// The text that a command prints for this answer. The error is out of memory.
-fn text_of(alloc: Global, told: &Answer) -> Result<Vec<u8>, AllocError>
+/// The text that a command prints for this answer. The fault is out of memory.
+fn text_of(alloc: Global, told: &Answer) -> Result<Vec<u8>, Fault>
     ensures text { IfOk result (λ text. text.items ≡ told_text told.now) }
+    ensures memory { IfErr result (λ refused. refused ≡ fault cause.Memory) }
 {
     match told {
-        Answer::Done => line_of(alloc, "done"),
-        Answer::Denied(rule) => line_of(alloc, rule.name()),
+        Answer::Done => Ok(line_of(alloc, "done")?),
+        Answer::Denied(rule) => Ok(line_of(alloc, rule.name())?),
         Answer::Manifest { day, sheet } => manifest(alloc, *day, sheet),
         Answer::Export(trips) => trips_csv(alloc, trips.as_slice()),
         _ => Ok(Vec::new(alloc)),

@@ -1,9 +1,9 @@
 ghost use Rattle.std.specs.Prelude.{◌≡◌, MatchResult};
-ghost use Rattle.pt_commands.specs.Status.{is_of_store, refusal_ending, status_of};
-ghost use Rattle.pt_commands.specs.declared.ending.Ending.TheVariants.{Failed};
+ghost use Rattle.pt_app_commands.specs.Status.{is_of_store, refusal_ending, status_of};
+ghost use Rattle.pt_app_commands.specs.declared.ending.Ending.TheVariants.{Failed};
 
 use clap::error::ErrorKind;
-use pt_base::{Cause, Fault};
+use pt_base_values::{Cause, Fault};
 
 /// How the program ends.
 #[derive(Clone, Copy)]
@@ -42,14 +42,14 @@ pub fn ending_of_refusal(reason: ErrorKind, is_shown: bool) -> Ending
     }
 }
 
-/// Whether this cause is out of memory or a fault of the store.
-fn is_of_store(cause: Cause) -> bool
-    ensures { result ≡ is_of_store cause }
+/// Whether this is the code of out of memory or of a fault of the store.
+fn is_of_store(code: u16) -> bool
+    ensures { result ≡ is_of_store code }
 {
-    matches!(
-        cause,
-        Cause::Memory | Cause::OtherTables | Cause::UnsoundRows | Cause::StoreFailed
-    )
+    code == Cause::Memory.code()
+        || code == Cause::OtherTables.code()
+        || code == Cause::UnsoundRows.code()
+        || code == Cause::StoreFailed.code()
 }
 
 /// The exit status of an ending.
@@ -60,7 +60,7 @@ pub fn exit_status(ending: Ending) -> u8
         Ending::Done => 0,
         Ending::Denied => 1,
         Ending::WrongWords => 2,
-        Ending::Failed(fault) if is_of_store(fault.cause) => 3,
+        Ending::Failed(fault) if is_of_store(fault.code) => 3,
         Ending::Failed(_) => 4,
     }
 }

@@ -1,25 +1,25 @@
 ghost use Rattle.std.specs.Prelude.{◌≡◌, ℕ, Option, Ok};
-ghost use Rattle.pt_base.specs.Rule.{name_of};
-ghost use Rattle.pt_base.specs.declared.rule.Rule.TheVariants.{NoVehicle};
-ghost use Rattle.pt_commands.specs.Refusals.{IsAuditedFrom, IsDeniedBy, IsExplainedFrom};
-ghost use Rattle.pt_commands.specs.Tasks.{Inquires};
-ghost use Rattle.pt_commands.specs.declared.ending.Ending.TheVariants.{Done};
+ghost use Rattle.pt_base_values.specs.Rule.{name_of};
+ghost use Rattle.pt_base_values.specs.declared.rule.Rule.TheVariants.{NoVehicle};
+ghost use Rattle.pt_app_commands.specs.Refusals.{IsAuditedFrom, IsDeniedBy, IsExplainedFrom};
+ghost use Rattle.pt_app_commands.specs.Tasks.{Inquires};
+ghost use Rattle.pt_app_commands.specs.declared.ending.Ending.TheVariants.{Done};
 ghost use Rattle.pt_desk.specs.Sound.{IsSound};
 ghost use Rattle.pt_desk.specs.State.{State};
 ghost use Rattle.pt_desk.specs.Step.{IsOutcome};
-ghost use Rattle.pt_requests.specs.declared.request.Answer.{Answer};
-ghost use Rattle.pt_requests.specs.declared.request.Answer.TheVariants as answer;
-ghost use Rattle.pt_requests.specs.declared.request.Request.TheVariants.{Explain};
+ghost use Rattle.pt_desk_requests.specs.declared.request.Answer.{Answer};
+ghost use Rattle.pt_desk_requests.specs.declared.request.Answer.TheVariants as answer;
+ghost use Rattle.pt_desk_requests.specs.declared.request.Request.TheVariants.{Explain};
 
 use crate::asking::{line_of, print};
 use crate::{Ending, fault_of};
 use pt_audit::{Log, check};
-use pt_base::{Cause, Fault, Moment, RiderId, Rule, Wish};
-use pt_desk::facts;
-use pt_desk_reads::{Inquiry, RefusalFacts};
-use pt_insertion::best;
+use pt_base_values::{Cause, Fault, Moment, RiderId, Rule, Wish};
+use pt_desk::inquire;
+use pt_desk_reads::{Facts, Inquiry};
+use pt_desk_store::Keeper;
 use pt_insertion_log::explain;
-use pt_store::Keeper;
+use pt_insertion_search::best;
 use std::alloc::Global;
 use std::io::Write;
 
@@ -33,15 +33,11 @@ fn print_denial<W: Write>(alloc: Global, rule: Rule, out: &mut W) -> Result<Endi
 }
 
 /// Prints the log of a refusal, or that the wish is possible.
-fn print_refusal<W: Write>(
-    alloc: Global,
-    found: &RefusalFacts,
-    out: &mut W,
-) -> Result<Ending, Fault>
+fn print_refusal<W: Write>(alloc: Global, found: &Facts, out: &mut W) -> Result<Ending, Fault>
     ensures { IsExplainedFrom found.now (W.contents out.old) (W.contents out.new) result }
 {
     let duties = found.duties(alloc)?;
-    let (lent, asked, times) = (duties.as_slice(), found.requested_trip(), found.times());
+    let (lent, asked, times) = (duties.as_slice(), found.asked(), found.times());
     if best(lent, asked, times).is_some() {
         print(b"possible\n", out)?;
         return Ok(Ending::Denied);
@@ -61,18 +57,13 @@ fn print_refusal<W: Write>(
 fn print_verdict<W: Write>(
     alloc: Global,
     log: &Log,
-    found: &RefusalFacts,
+    found: &Facts,
     out: &mut W,
 ) -> Result<Ending, Fault>
     ensures { IsAuditedFrom log.now.lines.items found.now (W.contents out.old) (W.contents out.new) result }
 {
     let duties = found.duties(alloc)?;
-    if check(
-        log,
-        duties.as_slice(),
-        found.requested_trip(),
-        found.times(),
-    ) {
+    if check(log, duties.as_slice(), found.asked(), found.times()) {
         print(b"yes\n", out)?;
         return Ok(Ending::Done);
     }
@@ -102,7 +93,7 @@ pub fn explain_refusal<K: Keeper, W: Write>(
         → IsOutcome key.now now number (Explain rider wish.now) (K.store keeper.old).content told left
         → told ≡ answer.Denied NoVehicle }
 {
-    match facts(alloc, keeper, now, key, rider, wish) {
+    match inquire(alloc, keeper, now, key, rider, wish) {
         Ok(Inquiry::Facts(found)) => print_refusal(alloc, &found, out),
         Ok(Inquiry::Denied(rule)) => print_denial(alloc, rule, out),
         Err(failed) => Err(fault_of(failed)),
@@ -131,7 +122,7 @@ pub fn audit_refusal<K: Keeper, W: Write>(
         → IsOutcome key.now now number (Explain rider wish.now) (K.store keeper.old).content told left
         → told ≡ answer.Denied NoVehicle }
 {
-    match facts(alloc, keeper, now, key, rider, wish) {
+    match inquire(alloc, keeper, now, key, rider, wish) {
         Ok(Inquiry::Facts(found)) => print_verdict(alloc, log, &found, out),
         Ok(Inquiry::Denied(rule)) => print_denial(alloc, rule, out),
         Err(failed) => Err(fault_of(failed)),

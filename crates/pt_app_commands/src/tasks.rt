@@ -1,14 +1,14 @@
-ghost use Rattle.pt_commands.specs.Tasks.{AuditsLog, DoesTask, PutsTimes, ReadsTimes};
+ghost use Rattle.pt_app_commands.specs.Tasks.{AuditsLog, DoesTask, PutsTimes, ReadsTimes};
 
 use crate::asking::{ask, fault_of};
 use crate::ending::Ending;
 use crate::refusals::{audit_refusal, explain_refusal};
+use pt_app_command_line::Task;
 use pt_audit::read_log;
-use pt_base::{Day, Fault, Moment, RiderId, Wish};
-use pt_command_line::Task;
+use pt_base_values::{Day, Fault, Moment, RiderId, Wish};
 use pt_desk::place_ids;
-use pt_requests::{Read, Request, Write as Change};
-use pt_store::Keeper;
+use pt_desk_requests::{Read, Request, Write as Change};
+use pt_desk_store::Keeper;
 use pt_travel::Raw;
 use std::alloc::Global;
 use std::io::Write;

@@ -1,12 +1,12 @@
 -- The result of one connection.
 use Rattle.std.proofs.Common.{◌≡◌, ◌⊎◌, List, ℕ, Option, Some, None, Result, Ok, Err, OnErr, ap, arith, inl, inr, subst, sym, ◌∙◌}
-use Rattle.pt_base.specs.declared.fault.Cause.TheVariants as cause
-use Rattle.pt_base.specs.Fault.{fault}
-use Rattle.pt_base.proofs.FaultLemmas.{other_cause, other_fault}
-use Rattle.pt_base.specs.declared.fault.Fault.{Fault}
-use Rattle.pt_clock.specs.LocalTime.{IsZoneRule}
-use Rattle.pt_http.specs.Exchange.{IsUnanswered}
-use Rattle.pt_serve.specs.Serving.{EndsConnection, EndsServing}
+use Rattle.pt_base_values.specs.declared.fault.Cause.TheVariants as cause
+use Rattle.pt_base_values.specs.Fault.{code_of, fault}
+use Rattle.pt_base_values.proofs.FaultLemmas.{other_code, other_fault}
+use Rattle.pt_base_values.specs.declared.fault.Fault.{Fault}
+use Rattle.pt_base_clock.specs.LocalTime.{IsZoneRule}
+use Rattle.pt_http_exchange.specs.Exchange.{IsUnanswered}
+use Rattle.pt_app_serve.specs.Serving.{EndsConnection, EndsServing}
 
 -- what is so only of an error is so of a connection that was accepted
 accepted : {S E : Type 0} (connection : Result S E) (stream : S) (Fact : Type 0) → connection ≡ Ok stream
@@ -71,17 +71,17 @@ ends_serving connection stream zone SameStore SamePort error is ends same no_rul
 }
 
 -- the error of a connection with this cause is out of memory
-memory_alone : (error : Fault) → error.cause ≡ cause.Memory → IsUnanswered error ⊎ (error ≡ fault cause.WriteFailed)
+memory_alone : (error : Fault) → error.code ≡ code_of cause.Memory → IsUnanswered error ⊎ (error ≡ fault cause.WriteFailed)
     → error ≡ fault cause.Memory
 memory_alone error is (inl (inl memory)) = memory
 memory_alone error is (inl (inr read)) =
-    absurd (other_cause cause.ReadFailed cause.Memory (omega arith) (sym (ap (λ (it : Fault). it.cause) read) ∙ is))
+    absurd (other_code error.code cause.ReadFailed cause.Memory (omega arith) (ap (λ (it : Fault). it.code) read) is)
 memory_alone error is (inr write) =
-    absurd (other_cause cause.WriteFailed cause.Memory (omega arith) (sym (ap (λ (it : Fault). it.cause) write) ∙ is))
+    absurd (other_code error.code cause.WriteFailed cause.Memory (omega arith) (ap (λ (it : Fault). it.code) write) is)
 
 -- out of memory ends it
 pub ends_without_memory : {S E : Type 0} (connection : Result S E) (stream : S) (zone : List ℕ)
-    (SameStore SamePort : Type 0) (error : Fault) → connection ≡ Ok stream → error.cause ≡ cause.Memory
+    (SameStore SamePort : Type 0) (error : Fault) → connection ≡ Ok stream → error.code ≡ code_of cause.Memory
     → IsUnanswered error ⊎ (error ≡ fault cause.WriteFailed) → (IsUnanswered error → SameStore) → SamePort
     → EndsConnection connection zone SameStore SamePort (Err error)
 ends_without_memory connection stream zone SameStore SamePort error is cause_is kind same_store same_port =

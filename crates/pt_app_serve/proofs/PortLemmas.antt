@@ -1,7 +1,7 @@
 -- Connections that a port is still open to.
 use Rattle.std.proofs.Common.{◌≡◌, ◌↔◌, ◌+◌, ℕ, suc, List, [], ◌∷◌, Option, zero, Some, None, Result, Ok, Err, IfSome, IsSome, ap, arith, refl, replicate}
 use Rattle.std.specs.Prelude.{⊤}
-use Rattle.pt_serve.specs.Connection.{IsNext}
+use Rattle.pt_app_serve.specs.Connection.{IsNext}
 
 abbrev unknown : ℕ → List (Option (List ℕ))
 unknown count = replicate count None

@@ -1,9 +1,9 @@
 -- Connections one after another.
 use Rattle.std.proofs.Common.{◌≡◌, ◌⊎◌, ◌∙◌, ◌+◌, ◌^◌, ◌<◌, ◌≤◌, ℕ, ℤ, Bool, cond, List, [], ◌∷◌, ◌++◌, Option, Result, Ok, Err, OnErr, is_some, ap, arith, inl, inr, refl, subst, sym}
 use Rattle.std.proofs.lemmas.List.Sums.{sum_by_push}
-use Rattle.pt_base.specs.declared.fault.Fault.{Fault}
-use Rattle.pt_store.specs.Store.{Store}
-use Rattle.pt_serve.specs.Serving.{Progress, ServesATurn, ServesInTurn, ServesOn, Turn, failures_in, has_failed, progress_of}
+use Rattle.pt_base_values.specs.declared.fault.Fault.{Fault}
+use Rattle.pt_desk_store.specs.Store.{Store}
+use Rattle.pt_app_serve.specs.Serving.{Progress, ServesATurn, ServesInTurn, ServesOn, Turn, failures_in, has_failed, progress_of}
 
 -- one connection more
 pub one_more : (Shows : Option (List ℕ) → ℤ → Type 0) (Fails : Option (List ℕ) → Type 0) (zone : List ℕ)
@@ -60,19 +60,17 @@ goes_on Shows Fails zone before now_left after sent failed more next old now new
 -- the same of a store that is clean in the end
 pub goes_on_clean : (Shows : Option (List ℕ) → ℤ → Type 0) (Fails : Option (List ℕ) → Type 0) (zone : List ℕ)
     (before now_left after : List (Option (List ℕ))) (sent : Option (List ℕ)) (failed more : ℕ) (next : Option Fault)
-    (old now new : Store) (replied_old replied_now replied_new : Option (List (List ℕ)))
-    → (now.doubt ≡ 0 → HasServed Shows Fails zone before now_left failed (progress_of old replied_old)
-    (progress_of now replied_now))
+    (now new : Store) (old at next_at : Progress)
+    → (now.doubt ≡ 0 → HasServed Shows Fails zone before now_left failed old at)
     → now.doubt ≤ new.doubt → now_left ≡ sent ∷ after → failed + count_of (is_some next) ≡ more
-    → (new.doubt ≡ 0 → ServesATurn Shows Fails zone sent next (progress_of now replied_now)
-    (progress_of new replied_new))
+    → (new.doubt ≡ 0 → ServesATurn Shows Fails zone sent next at next_at)
     → new.doubt ≡ 0
-    → HasServed Shows Fails zone before after more (progress_of old replied_old) (progress_of new replied_new)
-goes_on_clean Shows Fails zone before now_left after sent failed more next old now new replied_old replied_now
-    replied_new has stays one counts serves clean =
+    → HasServed Shows Fails zone before after more old next_at
+goes_on_clean Shows Fails zone before now_left after sent failed more next now new old at next_at has stays one counts
+    serves clean =
     let was_clean : now.doubt ≡ 0 = omega arith in
-    goes_on Shows Fails zone before now_left after sent failed more next (progress_of old replied_old)
-    (progress_of now replied_now) (progress_of new replied_new) (has was_clean) one counts (serves clean)
+    goes_on Shows Fails zone before now_left after sent failed more next old at next_at (has was_clean) one counts
+    (serves clean)
 
 -- none is still to come
 pub has_served_all : (Shows : Option (List ℕ) → ℤ → Type 0) (Fails : Option (List ℕ) → Type 0) (zone : List ℕ)
@@ -101,11 +99,13 @@ fits_still now fn (inl same) fits = omega (arith, same, fits)
 fits_still now fn (inr fits) now_fits = fits
 
 -- a desk and clients of which nothing has come
-pub same_progress : (old new : Store) (replied_old replied_new : Option (List (List ℕ))) → new ≡ old
-    → replied_new ≡ replied_old → progress_of old replied_old ≡ progress_of new replied_new
-same_progress old new replied_old replied_new store replied =
-    ap (λ (it : Store). progress_of it replied_old) (sym store)
-    ∙ ap (λ (it : Option (List (List ℕ))). progress_of new it) (sym replied)
+pub same_progress : (old new : Store) (replied_old replied_new : Option (List (List ℕ)))
+    (ending_old ending_new : Option Bool) → new ≡ old → (replied_new ≡ replied_old) × (ending_new ≡ ending_old)
+    → progress_of old replied_old ending_old ≡ progress_of new replied_new ending_new
+same_progress old new replied_old replied_new ending_old ending_new store same =
+    ap (λ (it : Store). progress_of it replied_old ending_old) (sym store)
+    ∙ ap (λ (it : Option (List (List ℕ))). progress_of new it ending_old) (sym same.0)
+    ∙ ap (λ (it : Option Bool). progress_of new replied_new it) (sym same.1)
 
 -- what is so is so of an error
 pub so_of_error : {T E : Type 0} (result : Result T E) (Fact : Type 0) → Fact → OnErr result Fact

@@ -1,16 +1,16 @@
 -- What comes of one connection.
-use Rattle.std.proofs.Common.{◌≡◌, ◌⊎◌, ◌∙◌, ℕ, ℤ, List, [], Option, Some, None, Ok, Err, ap, inl, inr, refl, subst, sym}
+use Rattle.std.proofs.Common.{◌≡◌, ◌⊎◌, ◌∙◌, ℕ, ℤ, Bool, true, false, List, [], Option, Some, None, Ok, Err, ap, inl, inr, not, refl, subst, sym}
 use Rattle.std.specs.Io.KnownBytes.{Appends}
-use Rattle.pt_base.specs.declared.fault.Cause.TheVariants as cause
-use Rattle.pt_base.specs.Fault.{fault}
-use Rattle.pt_base.specs.declared.fault.Fault.{Fault}
-use Rattle.pt_base.specs.declared.moment.Moment.{Moment}
-use Rattle.pt_store.specs.Store.{Store}
-use Rattle.pt_http.specs.Exchange.{IsUnanswered, IsWritten, desk_of}
+use Rattle.pt_base_values.specs.declared.fault.Cause.TheVariants as cause
+use Rattle.pt_base_values.specs.Fault.{code_of, fault}
+use Rattle.pt_base_values.specs.declared.fault.Fault.{Fault}
+use Rattle.pt_base_values.specs.Moment.{Moment}
+use Rattle.pt_desk_store.specs.Store.{Store}
+use Rattle.pt_http_exchange.specs.Exchange.{IsUnanswered, IsWritten, desk_of}
 use Rattle.pt_http_reply.specs.Response.{IsReplyText}
 use Rattle.pt_http_reply.specs.declared.response.Response.{Response}
-use Rattle.pt_serve.specs.Connection.{Adds, AnswersFrom, nothing_of}
-use Rattle.pt_serve.specs.Serving.{AnswersSent, Gets, IsMomentAt, Served, ServesATurn, Turn, heard, unheard, unanswered, progress_of}
+use Rattle.pt_app_serve.specs.Connection.{Adds, AnswersFrom, nothing_of}
+use Rattle.pt_app_serve.specs.Serving.{AnswersSent, Gets, IsLeftAs, IsMomentAt, Served, ServesATurn, Turn, has_failed, heard, unheard, unanswered, progress_of}
 
 some_same : {T : Type 0} (one other : T) → Some one ≡ Some other → one ≡ other
 some_same one other is = cc
@@ -55,6 +55,17 @@ gets_unknown : (sent : Option (List ℕ)) (turn : Turn) (old new : Option (List 
 gets_unknown None turn old new is = tt
 gets_unknown (Some input) turn old new is = absurd (no_some input is)
 
+-- a connection was left as its turn says
+left_as : (sent : Option (List ℕ)) (turn : Turn) (before after : Option Bool) → after ≡ Some (not (has_failed turn))
+    → IsLeftAs sent turn before after
+left_as (Some input) turn before after is = is
+left_as None turn before after is = inl is
+
+-- one that was not accepted is not left
+left_not : (sent : Option (List ℕ)) (ending : Option Bool) → sent ≡ None → IsLeftAs sent unanswered ending ending
+left_not None ending is = inr (refl, refl)
+left_not (Some input) ending is = absurd (no_some input is)
+
 -- a request that was answered is to what the client sends
 answers_sent : {T : Type 0} (sent : Option (List ℕ)) (old new : Store) (now : Moment)
     (got_old got_new : Option (List ℕ)) (Same : Type 0) (value : T)
@@ -90,14 +101,16 @@ along Fact given sent got same first holds =
 pub heard_turn : {T : Type 0} (Shows : Option (List ℕ) → ℤ → Type 0) (Fails : Option (List ℕ) → Type 0)
     (zone : List ℕ) (given sent : Option (List ℕ)) (old new : Store) (now : Moment)
     (got_old got_new : Option (List ℕ)) (Same : Type 0) (value : T) (replied_old replied_new : Option (List (List ℕ)))
+    (ending_old ending_new : Option Bool)
     → given ≡ sent → got_old ≡ nothing_of sent → IsMomentAt (Shows given) zone now
     → AnswersFrom given old new now got_old got_new Same (Ok value) → Adds replied_old got_new replied_new
-    → new.doubt ≡ 0
-    → ServesATurn Shows Fails zone sent None (progress_of old replied_old) (progress_of new replied_new)
-heard_turn Shows Fails zone given sent old new now got_old got_new Same value replied_old replied_new same first moment
-    answers adds clean =
-    along (λ it. ServesATurn Shows Fails zone it None (progress_of old replied_old)
-    (progress_of new replied_new)) given sent got_old same first (λ blank.
+    → ending_new ≡ Some true → new.doubt ≡ 0
+    → ServesATurn Shows Fails zone sent None (progress_of old replied_old ending_old)
+    (progress_of new replied_new ending_new)
+heard_turn Shows Fails zone given sent old new now got_old got_new Same value replied_old replied_new ending_old
+    ending_new same first moment answers adds ends clean =
+    along (λ it. ServesATurn Shows Fails zone it None (progress_of old replied_old ending_old)
+    (progress_of new replied_new ending_new)) given sent got_old same first (λ blank.
     let found = answers_sent given old new now got_old got_new Same value answers clean in
     let one : Served = record { now = now; reply = found.0 } in (
       heard one,
@@ -105,6 +118,7 @@ heard_turn Shows Fails zone given sent old new now got_old got_new Same value re
       record {
         desk = record { moment = moment; answered = found.1 };
         client = gets_reply given one got_old got_new replied_old replied_new blank found.2 adds;
+        seen_off = left_as given (heard one) ending_old ending_new ends;
       },
     ))
 
@@ -112,27 +126,31 @@ heard_turn Shows Fails zone given sent old new now got_old got_new Same value re
 pub failed_turn : {T : Type 0} (Shows : Option (List ℕ) → ℤ → Type 0) (Fails : Option (List ℕ) → Type 0)
     (zone : List ℕ) (given sent : Option (List ℕ)) (old new : Store) (now : Moment)
     (got_old got_new : Option (List ℕ)) (Same : Type 0) (error : Fault) (replied_old replied_new : Option (List (List ℕ)))
+    (ending_old ending_new : Option Bool)
     → given ≡ sent → got_old ≡ nothing_of sent → IsMomentAt (Shows given) zone now
     → AnswersFrom {T = T} given old new now got_old got_new Same (Err error) → Fails given
     → (Same → (desk_of new ≡ desk_of old) × (got_new ≡ got_old)) → Adds replied_old got_new replied_new
+    → ending_new ≡ Some false
     → (error ≡ fault cause.ReadFailed) ⊎ (error ≡ fault cause.WriteFailed) → new.doubt ≡ 0
-    → ServesATurn Shows Fails zone sent (Some error) (progress_of old replied_old) (progress_of new replied_new)
-failed_turn Shows Fails zone given sent old new now got_old got_new Same error replied_old replied_new same first moment
-    answers fails kept adds (inl read) clean =
-    along (λ it. ServesATurn Shows Fails zone it (Some error) (progress_of old replied_old)
-    (progress_of new replied_new)) given sent got_old same first (λ blank.
+    → ServesATurn Shows Fails zone sent (Some error) (progress_of old replied_old ending_old)
+    (progress_of new replied_new ending_new)
+failed_turn Shows Fails zone given sent old new now got_old got_new Same error replied_old replied_new ending_old
+    ending_new same first moment answers fails kept adds ends (inl read) clean =
+    along (λ it. ServesATurn Shows Fails zone it (Some error) (progress_of old replied_old ending_old)
+    (progress_of new replied_new ending_new)) given sent got_old same first (λ blank.
     let left = kept (answers.failure.unanswered (inr read)) in (
       unanswered,
       sym (ap Some read),
       record {
         desk = (left.0, fails);
         client = gets_nothing given got_old got_new replied_old replied_new blank left.1 adds;
+        seen_off = left_as given unanswered ending_old ending_new ends;
       },
     ))
-failed_turn Shows Fails zone given sent old new now got_old got_new Same error replied_old replied_new same first moment
-    answers fails kept adds (inr write) clean =
-    along (λ it. ServesATurn Shows Fails zone it (Some error) (progress_of old replied_old)
-    (progress_of new replied_new)) given sent got_old same first (λ blank.
+failed_turn Shows Fails zone given sent old new now got_old got_new Same error replied_old replied_new ending_old
+    ending_new same first moment answers fails kept adds ends (inr write) clean =
+    along (λ it. ServesATurn Shows Fails zone it (Some error) (progress_of old replied_old ending_old)
+    (progress_of new replied_new ending_new)) given sent got_old same first (λ blank.
     let found = answers_unheard given old new now got_old got_new Same error answers clean write in
     let one : Served = record { now = now; reply = found.0 } in (
       unheard one,
@@ -140,23 +158,29 @@ failed_turn Shows Fails zone given sent old new now got_old got_new Same error r
       record {
         desk = (record { moment = moment; answered = found.1 }, fails);
         client = gets_some given one got_new replied_old replied_new adds;
+        seen_off = left_as given (unheard one) ending_old ending_new ends;
       },
     ))
 
 -- and one that was not accepted
 pub refused_turn : (Shows : Option (List ℕ) → ℤ → Type 0) (Fails : Option (List ℕ) → Type 0) (zone : List ℕ)
-    (sent : Option (List ℕ)) (store : Store) (replied : Option (List (List ℕ))) → sent ≡ None → Fails sent
-    → ServesATurn Shows Fails zone sent (Some (fault cause.ReadFailed)) (progress_of store replied)
-    (progress_of store replied)
-refused_turn Shows Fails zone sent store replied unknown fails = (
+    (sent : Option (List ℕ)) (store : Store) (replied : Option (List (List ℕ))) (ending : Option Bool) → sent ≡ None
+    → Fails sent
+    → ServesATurn Shows Fails zone sent (Some (fault cause.ReadFailed)) (progress_of store replied ending)
+    (progress_of store replied ending)
+refused_turn Shows Fails zone sent store replied ending unknown fails = (
   unanswered,
   refl,
-  record { desk = (refl, fails); client = gets_unknown sent unanswered replied replied unknown },
+  record {
+    desk = (refl, fails);
+    client = gets_unknown sent unanswered replied replied unknown;
+    seen_off = left_not sent ending unknown;
+  },
 )
 
 -- a connection that does not end the serving failed to be read or to be written
-pub read_or_write : (error : Fault) → (error.cause ≡ cause.Memory → ⊥) → IsUnanswered error ⊎ (error ≡ fault cause.WriteFailed)
+pub read_or_write : (error : Fault) → (error.code ≡ code_of cause.Memory → ⊥) → IsUnanswered error ⊎ (error ≡ fault cause.WriteFailed)
     → (error ≡ fault cause.ReadFailed) ⊎ (error ≡ fault cause.WriteFailed)
-read_or_write error other (inl (inl memory)) = absurd (other (ap (λ (it : Fault). it.cause) memory))
+read_or_write error other (inl (inl memory)) = absurd (other (ap (λ (it : Fault). it.code) memory))
 read_or_write error other (inl (inr read)) = inl read
 read_or_write error other (inr write) = inr write

@@ -1,10 +1,10 @@
 -- How the request of a connection is answered.
 use Rattle.std.specs.Prelude.{◌≡◌, ℕ, List, [], ◌∷◌, ◌++◌, Option, Some, None, Result, MatchResult, option_map, ⊤}
-use Rattle.pt_base.specs.declared.fault.Fault.{Fault}
-use Rattle.pt_base.specs.declared.moment.Moment.{Moment}
-use Rattle.pt_store.specs.Store.{Store}
-use Rattle.pt_http.specs.Answering.{AnswersOne}
-use Rattle.pt_http.specs.Exchange.{Exchanges, KeepsFound, desk_of}
+use Rattle.pt_base_values.specs.declared.fault.Fault.{Fault}
+use Rattle.pt_base_values.specs.Moment.{Moment}
+use Rattle.pt_desk_store.specs.Store.{Store}
+use Rattle.pt_http_exchange.specs.Answering.{AnswersOne}
+use Rattle.pt_http_exchange.specs.Exchange.{Exchanges, KeepsFound, desk_of}
 use Rattle.pt_http_reply.specs.declared.response.Response.{Response}
 
 -- a desk over a store answers the front of these bytes so at this moment; the store before and after

@@ -1,14 +1,14 @@
 -- What a desk has served on connections one after another.
-use Rattle.std.specs.Prelude.{◌≡◌, ◌⊎◌, ℕ, Bool, List, [], ◌∷◌, ◌++◌, ℤ, pos, Option, Some, None, is_some, ⊤}
+use Rattle.std.specs.Prelude.{◌≡◌, ◌⊎◌, ℕ, Bool, not, List, [], ◌∷◌, ◌++◌, ℤ, pos, Option, Some, None, is_some, ⊤}
 use Rattle.std.specs.Prelude.{Result, Ok, Err, IfOk, IfErr, IfSome, OnErr}
 use Rattle.std.specs.List.{count_by}
-use Rattle.pt_base.specs.declared.fault.Cause.TheVariants as cause
-use Rattle.pt_base.specs.Fault.{fault}
-use Rattle.pt_base.specs.declared.fault.Fault.{Fault}
-use Rattle.pt_base.specs.declared.moment.Moment.{Moment}
-use Rattle.pt_clock.specs.LocalTime.{IsLocalTime, IsZoneRule}
-use Rattle.pt_store.specs.Store.{Store}
-use Rattle.pt_http.specs.Exchange.{Desk, Exchanges, Serves, desk_of}
+use Rattle.pt_base_values.specs.declared.fault.Cause.TheVariants as cause
+use Rattle.pt_base_values.specs.Fault.{fault}
+use Rattle.pt_base_values.specs.declared.fault.Fault.{Fault}
+use Rattle.pt_base_values.specs.Moment.{Moment}
+use Rattle.pt_base_clock.specs.LocalTime.{IsLocalTime, IsZoneRule}
+use Rattle.pt_desk_store.specs.Store.{Store}
+use Rattle.pt_http_exchange.specs.Exchange.{Desk, Exchanges, Serves, desk_of}
 use Rattle.pt_http_reply.specs.Response.{IsReplyText}
 use Rattle.pt_http_reply.specs.declared.response.Response.{Response}
 
@@ -17,21 +17,19 @@ pub record Served : Type 0 where
   pub now : Moment
   pub reply : Response
 
--- the state between two connections: the desk, and what the clients so far have got, if that is known
+-- The state between two connections: the desk, what the clients so far have got, if that is known, and whether the last
+-- connection that was left had its whole reply.
 pub record Progress : Type 0 where
   pub desk : Desk
   pub replied : Option (List (List ℕ))
+  pub ending : Option Bool
 
-abbrev pub progress_of : Store → Option (List (List ℕ)) → Progress
-progress_of store replied = record { desk = desk_of store; replied = replied }
+abbrev pub progress_of : Store → Option (List (List ℕ)) → Option Bool → Progress
+progress_of store replied ending = record { desk = desk_of store; replied = replied; ending = ending }
 
--- clocks of the zone show this moment at some instant
-abbrev pub IsMomentIn : List ℕ → Moment → Type 0
-IsMomentIn zone now = (instant : ℤ) × IsLocalTime zone instant (pos now.day) now.minute
-
--- and a clock showed that instant
+-- clocks of the zone show this moment at an instant that a clock showed
 abbrev pub IsMomentAt : (ℤ → Type 0) → List ℕ → Moment → Type 0
-IsMomentAt Shows zone now = (instant : ℤ) × Shows instant × IsLocalTime zone instant (pos now.day) now.minute
+IsMomentAt Shows zone now = (instant : ℤ) × Shows instant × IsLocalTime zone instant (pos now.0) now.1
 
 -- the reply is the desk's to the front of the bytes that a client sends; if these are unknown, it is to some message
 abbrev pub AnswersSent : Option (List ℕ) → Moment → Desk → Desk → Response → Type 0
@@ -84,11 +82,18 @@ abbrev pub Gets : Option (List ℕ) → Turn → Option (List (List ℕ)) → Op
 Gets (Some input) turn (Some before) (Some after) = (text : List ℕ) × IsGot turn text × (after ≡ before ++ text ∷ [])
 Gets _ _ _ _ = ⊤
 
+-- The connection was left in the way that goes with its turn: its client is seen off if its whole reply was written, and
+-- only then. One that was not accepted is not left.
+abbrev pub IsLeftAs : Option (List ℕ) → Turn → Option Bool → Option Bool → Type 0
+IsLeftAs (Some input) turn before after = after ≡ Some (not (has_failed turn))
+IsLeftAs None turn before after = (after ≡ Some (not (has_failed turn))) ⊎ ((turn ≡ unanswered) × (after ≡ before))
+
 -- the turn of one connection whose client sends this
 pub record ServesOn (Shows : Option (List ℕ) → ℤ → Type 0) (Fails : Option (List ℕ) → Type 0) (zone : List ℕ)
     (sent : Option (List ℕ)) (turn : Turn) (old new : Progress) : Type 0 where
   pub desk : DeskServes Shows Fails zone sent turn old.desk new.desk
   pub client : Gets sent turn old.replied new.replied
+  pub seen_off : IsLeftAs sent turn old.ending new.ending
 
 -- the same, and this is how the connection failed, if it did
 abbrev pub ServesATurn : (Option (List ℕ) → ℤ → Type 0) → (Option (List ℕ) → Type 0) → List ℕ → Option (List ℕ)

@@ -1,11 +1,11 @@
-ghost use Rattle.std.specs.Prelude.{◌≡◌, ◌↔◌, ◌<◌, ◌^◌, ℕ, ℤ, List, [], Option, None, length, ⊤};
+ghost use Rattle.std.specs.Prelude.{◌≡◌, ◌↔◌, ◌<◌, ◌^◌, ℕ, ℤ, Bool, List, [], Option, Some, None, length, ⊤};
 ghost use Rattle.std.specs.Prelude.{IfSome, IsNone, IsSome, OnErr};
-ghost use Rattle.pt_serve.specs.Connection.{Adds, IsNext};
+ghost use Rattle.pt_app_serve.specs.Connection.{Adds, IsNext};
 
 use crate::connection::Answering;
 use jiff::Timestamp;
-use pt_base::Fault;
-use pt_store::Keeper;
+use pt_base_values::Fault;
+use pt_desk_store::Keeper;
 use std::io;
 use std::net::TcpStream;
 use std::time::Clock;
@@ -50,18 +50,22 @@ pub trait Accepts {
     /// What was written to each connection that was left, the first of them first, where that is known.
     ghost replied: { Self → Option (List (List ℕ)) };
 
+    /// Whether the connection that was left last had its whole reply. There is none before the first.
+    ghost ending: { Self → Option Bool };
+
     /// Waits for the next connection, if one more is to come. One that cannot be accepted counts too.
     fn accept(&mut self) -> Option<io::Result<Self::Stream>>
         ensures none { IsNone result ↔ (comes self.old ≡ []) }
         ensures same { IsNone result → self.new ≡ self.old }
         ensures next { IfSome result (λ connection. IsNext Self.Stream.sends Self.Stream.got Self.Stream.fails
             (comes self.old) (comes self.new) connection) }
-        ensures kept { IsSome result → replied self.new ≡ replied self.old }
+        ensures kept { IsSome result → (replied self.new ≡ replied self.old) × (ending self.new ≡ ending self.old) }
         ensures fits { length (comes self.old) < 2 ^ 32 };
 
     /// Leaves a connection whose request was answered, and the whole reply written or not.
     fn leave<C: Clock>(&mut self, clock: &C, stream: Self::Stream, is_whole: bool)
         ensures left { Adds (replied self.old) (Self.Stream.got stream) (replied self.new) }
+        ensures seen_off { ending self.new ≡ Some is_whole }
         ensures others { comes self.new ≡ comes self.old };
 }
 

@@ -1,4 +1,4 @@
-ghost use Rattle.std.specs.Prelude.{◌≡◌, ◌+◌, IfSome};
+ghost use Rattle.std.specs.Prelude.{◌≡◌, ◌+◌, true, false, IfSome};
 ghost use Rattle.std.specs.Time.{instant_nanos};
 
 use crate::bounded::{Bounded, Waits};
@@ -39,10 +39,40 @@ pub fn drop_rest<C: Clock, S: Read + Waits + Drop>(clock: &C, stream: S) -> io::
     io::copy(&mut bounded.take(MOST_DROPPED), &mut io::sink())
 }
 
-/// Has a client see that its reply is whole, and drops what it still sends. A connection that is closed while bytes of
-/// it are unread breaks, and then its client can lose the reply.
-pub(crate) fn let_go<C: Clock>(clock: &C, stream: &TcpStream) {
-    if stream.shutdown(Shutdown::Write).is_ok() {
-        let _dropped = drop_rest(clock, stream);
+/// How a connection was left. Only this file makes one.
+#[derive(Clone, Copy)]
+pub struct Parting {
+    is_whole: bool,
+}
+
+impl Parting {
+    /// Leaves a connection whose request was answered, and the whole reply written or not. A client that got its whole
+    /// reply and sent more is read from for a while, so that it can read it.
+    pub(crate) fn of<C: Clock>(clock: &C, stream: TcpStream, is_whole: bool) -> Parting
+        ensures { result.is_whole ≡ is_whole }
+    {
+        if is_whole {
+            Parting::seen_off(clock, &stream)
+        } else {
+            Parting::cut(stream)
+        }
+    }
+
+    /// Has a client see that its reply is whole, and drops what it still sends. A connection that is closed while bytes
+    /// of it are unread breaks, and then its client can lose the reply.
+    fn seen_off<C: Clock>(clock: &C, stream: &TcpStream) -> Parting
+        ensures { result.is_whole ≡ true }
+    {
+        if stream.shutdown(Shutdown::Write).is_ok() {
+            let _dropped = drop_rest(clock, stream);
+        }
+        Parting { is_whole: true }
+    }
+
+    /// Closes a connection whose reply was not wholly written.
+    fn cut(_stream: TcpStream) -> Parting
+        ensures { result.is_whole ≡ false }
+    {
+        Parting { is_whole: false }
     }
 }

@@ -1,19 +1,20 @@
-ghost use Rattle.std.specs.Prelude.{◌≡◌, ℕ, List, Option, Result, OnErr};
-ghost use Rattle.pt_base.specs.declared.fault.Fault.{Fault};
-ghost use Rattle.pt_store.specs.Store.{Store};
+ghost use Rattle.std.specs.Prelude.{◌≡◌, ℕ, List, None, Option, Result, OnErr};
+ghost use Rattle.pt_base_values.specs.declared.fault.Fault.{Fault};
+ghost use Rattle.pt_desk_store.specs.Store.{Store};
 ghost use Rattle.pt_http_request.specs.Targets.{desk_routes};
-ghost use Rattle.pt_serve.specs.Connection.{AnswersFrom};
+ghost use Rattle.pt_app_serve.specs.Connection.{AnswersFrom};
 
 use crate::accepting::Connection;
 use crate::bounded::{Bounded, Ends, Waits};
 use matchit::Router;
-use pt_base::{Cause, Fault, Moment};
-use pt_http::exchange;
+use pt_base_values::{Cause, Fault, Moment};
+use pt_desk_store::Keeper;
+use pt_http_exchange::exchange;
 use pt_http_inbox::Inbox;
-use pt_http_request::Path;
-use pt_store::Keeper;
+use pt_http_request::{Path, desk_router};
 use std::alloc::Global;
 use std::io::{Read, Write};
+use std::net::TcpStream;
 use std::time::Clock;
 
 /// Answers the one request that a reader gives from its beginning, by the desk's routes and by the rules as of this
@@ -130,11 +131,12 @@ impl<C: Clock> Answering for InTime<'_, C> {
     }
 }
 
-/// Answers one request on a connection, by the rules as of this moment and in time, as `answer_in_time` does.
+/// Answers one request on any connection, by the desk's routes, by the rules as of this moment and in time, as
+/// `answer_in_time` does.
 ///
 /// The error is out of memory, a read that failed, or came too late, or was one too many, or a clock that could not be
 /// read (then nothing is changed); or a write that failed or came too late (then the request is answered all the same).
-pub fn serve_one<C: Clock, K: Keeper, S: Connection>(
+pub fn serve_one_by<C: Clock, K: Keeper, S: Connection>(
     clock: &C,
     alloc: Global,
     router: &Router<Path>,
@@ -155,4 +157,24 @@ pub fn serve_one<C: Clock, K: Keeper, S: Connection>(
         now,
     };
     stream.answer_by(&how, keeper)
+}
+
+/// Answers one request on a socket, by the rules as of this moment and in time, as `answer_in_time` does.
+///
+/// The error is out of memory, a read that failed, or came too late, or was one too many, or a clock that could not be
+/// read (then nothing is changed); or a write that failed or came too late (then the request is answered all the same).
+pub fn serve_one<R: Clock, K: Keeper>(
+    rt: &R,
+    alloc: Global,
+    keeper: &mut K,
+    now: Moment,
+    stream: &TcpStream,
+) -> Result<(), Fault>
+    ensures answers { AnswersFrom None (K.store keeper.old) (K.store keeper.new) now None None
+        (keeper.new ≡ keeper.old) result }
+{
+    match desk_router(alloc) {
+        Ok(router) => answer_in_time(rt, alloc, &router, keeper, now, stream, stream).1,
+        Err(_) => Err(Fault::of(Cause::Memory)),
+    }
 }

@@ -1,11 +1,11 @@
 ghost use Rattle.std.specs.Prelude.{◌≡◌, ◌+◌, ◌<◌, ◌^◌, ◌↔◌, None, ⊤, IfErr, IfOk, IsNone, IsSome};
-ghost use Rattle.pt_base.specs.Fault.{fault};
-ghost use Rattle.pt_serve.specs.Port.{IsOwnAddress, comes_to, left_of};
-ghost use Rattle.pt_base.specs.declared.fault.Cause.TheVariants as cause;
+ghost use Rattle.pt_base_values.specs.Fault.{fault};
+ghost use Rattle.pt_app_serve.specs.Port.{IsOwnAddress, comes_to, ending_at, left_of};
+ghost use Rattle.pt_base_values.specs.declared.fault.Cause.TheVariants as cause;
 
 use crate::accepting::Accepts;
-use crate::closing::let_go;
-use pt_base::{Cause, Fault};
+use crate::closing::Parting;
+use pt_base_values::{Cause, Fault};
 use std::io;
 use std::net::{IpAddr, Ipv4Addr, Net, SocketAddr, TcpListener, TcpStream};
 use std::time::Clock;
@@ -16,6 +16,8 @@ pub struct Port {
     pub(crate) listener: TcpListener,
     /// How many connections it is still open to.
     left: u32,
+    /// How the last connection was left.
+    last: Option<Parting>,
 }
 
 /// What listens at an address.
@@ -66,6 +68,7 @@ impl Port {
         Ok(Port {
             listener,
             left: connections,
+            last: None,
         })
     }
 
@@ -74,6 +77,7 @@ impl Port {
         ensures none { IsNone result ↔ (left_of self.old ≡ 0) }
         ensures same { IsNone result → self.new ≡ self.old }
         ensures one { IsSome result → left_of self.new + 1 ≡ left_of self.old }
+        ensures ending { ending_at self.new ≡ ending_at self.old }
         ensures fits { left_of self.old < 2 ^ 32 }
     {
         if self.left == 0 {
@@ -91,14 +95,13 @@ impl Accepts for Port {
 
     ghost replied = { λ _. None };
 
+    ghost ending = { ending_at };
+
     fn accept(&mut self) -> Option<io::Result<TcpStream>> {
         self.next_stream()
     }
 
-    /// A client that got its whole reply and sent more is read from for a while, so that it can read it.
     fn leave<C: Clock>(&mut self, clock: &C, stream: TcpStream, is_whole: bool) {
-        if is_whole {
-            let_go(clock, &stream);
-        }
+        self.last = Some(Parting::of(clock, stream, is_whole));
     }
 }

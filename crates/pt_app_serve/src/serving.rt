@@ -1,24 +1,24 @@
-ghost use Rattle.std.specs.Prelude.{◌≡◌, ◌<◌, ◌≤◌, ◌↔◌, ◌++◌, ℕ, List, [], ◌∷◌, Option, Err};
-ghost use Rattle.std.specs.Prelude.{IfErr, IfOk, OnErr, OnOk, length};
-ghost use Rattle.pt_base.specs.declared.fault.Cause.TheVariants as cause;
-ghost use Rattle.pt_base.specs.Fault.{fault};
-ghost use Rattle.pt_clock.specs.LocalTime.{IsZoneRule};
-ghost use Rattle.pt_store.specs.Store.{Store};
-ghost use Rattle.pt_http.specs.Answering.{GoesOn};
+ghost use Rattle.std.specs.Prelude.{◌≡◌, ◌<◌, ◌≤◌, ◌↔◌, ◌++◌, ℕ, ℤ, List, [], ◌∷◌, Option, Err, ⊤};
+ghost use Rattle.std.specs.Prelude.{IfErr, IfOk, IfSome, OnErr, OnOk, length};
+ghost use Rattle.pt_base_values.specs.declared.fault.Cause.TheVariants as cause;
+ghost use Rattle.pt_base_values.specs.Fault.{fault};
+ghost use Rattle.pt_base_clock.specs.LocalTime.{IsZoneRule};
+ghost use Rattle.pt_desk_store.specs.Store.{Store};
+ghost use Rattle.pt_http_exchange.specs.Answering.{GoesOn};
 ghost use Rattle.pt_http_request.specs.Targets.{desk_routes};
-ghost use Rattle.pt_serve.specs.Connection.{IsComing};
-ghost use Rattle.pt_serve.specs.Serving.{EndsConnection, EndsServing, IsMomentAt, IsMomentIn};
-ghost use Rattle.pt_serve.specs.Serving.{ServesATurn, ServesInTurn, Turn};
-ghost use Rattle.pt_serve.specs.Serving.{failures_in, progress_of};
+ghost use Rattle.pt_app_serve.specs.Connection.{IsComing};
+ghost use Rattle.pt_app_serve.specs.Serving.{EndsConnection, EndsServing, IsMomentAt};
+ghost use Rattle.pt_app_serve.specs.Serving.{ServesATurn, ServesInTurn, Turn};
+ghost use Rattle.pt_app_serve.specs.Serving.{failures_in, progress_of};
 
 use crate::accepting::{Accepts, Connection};
-use crate::connection::serve_one;
+use crate::connection::serve_one_by;
 use jiff::Timestamp;
 use matchit::Router;
-use pt_base::{Cause, Fault, Moment};
-use pt_clock::{moment_of, now_in};
+use pt_base_clock::{moment_of, now_in};
+use pt_base_values::{Cause, Fault, Moment};
+use pt_desk_store::Keeper;
 use pt_http_request::Path;
-use pt_store::Keeper;
 use std::alloc::Global;
 use std::io;
 use std::time::Clock;
@@ -34,16 +34,37 @@ fn unread(zone: &str) -> Fault
     }
 }
 
+/// What tells the time.
+///
+/// Only a call of `now` gives `shows`. Code that is proved over every clock cannot make it up.
+pub trait TellsTime {
+    /// The clock showed this instant.
+    ghost shows: { ℤ → Type 0 };
+
+    /// The instant that the clock shows. There is none where it cannot be read.
+    fn now(&self) -> Option<Timestamp>
+        ensures shown { IfSome result (λ instant. shows instant.nanosecond) };
+}
+
+/// The kit states nothing of what a clock reads.
+impl<C: Clock> TellsTime for C {
+    ghost shows = { λ _. ⊤ };
+
+    fn now(&self) -> Option<Timestamp> {
+        Timestamp::now(self).ok()
+    }
+}
+
 /// The day and the minute that clocks of a zone show now. The error is fault 3, a zone that is no POSIX rule, or fault
 /// 2, a clock that shows no day of 2000 to 2099.
-pub fn moment_at<C: Clock>(clock: &C, zone: &str) -> Result<Moment, Fault>
-    ensures moment { IfOk result (λ now. IsMomentIn zone.now now) }
+pub fn moment_at<T: TellsTime>(clock: &T, zone: &str) -> Result<Moment, Fault>
+    ensures moment { IfOk result (IsMomentAt T.shows zone.now) }
     ensures zone { (result ≡ Err (fault cause.NoSuchZone)) ↔ ¬ (IsZoneRule zone.now) }
     ensures fault { IfErr result EndsServing }
 {
-    match Timestamp::now(clock) {
-        Ok(instant) => now_in(zone, instant),
-        Err(_) => Err(unread(zone)),
+    match clock.now() {
+        Some(instant) => now_in(zone, instant),
+        None => Err(unread(zone)),
     }
 }
 
@@ -76,8 +97,8 @@ fn serve_next<C: Clock, K: Keeper, A: Accepts>(
     ensures turn { (K.store keeper.new).doubt ≡ 0 → (sent : Option (List ℕ))
         → IsComing A.Stream.sends A.Stream.got A.Stream.fails sent connection
         → IfOk result (λ failed. ServesATurn A.Stream.shows A.Stream.fails zone.now sent failed
-        (progress_of (K.store keeper.old) (A.replied port.old))
-        (progress_of (K.store keeper.new) (A.replied port.new))) }
+        (progress_of (K.store keeper.old) (A.replied port.old) (A.ending port.old))
+        (progress_of (K.store keeper.new) (A.replied port.new) (A.ending port.new))) }
     ensures ends { EndsConnection connection zone.now (keeper.new ≡ keeper.old) (port.new ≡ port.old) result }
     ensures others { A.comes port.new ≡ A.comes port.old }
     ensures goes { GoesOn (K.store keeper.old) (K.store keeper.new) }
@@ -86,12 +107,12 @@ fn serve_next<C: Clock, K: Keeper, A: Accepts>(
         return Ok(Some(Fault::of(Cause::ReadFailed)));
     };
     let now = moment_on(clock, zone, &stream)?;
-    match serve_one(clock, alloc, router, keeper, now, &mut stream) {
+    match serve_one_by(clock, alloc, router, keeper, now, &mut stream) {
         Ok(()) => {
             port.leave(clock, stream, true);
             Ok(None)
         }
-        Err(fault) if fault.cause == Cause::Memory => Err(fault),
+        Err(fault) if fault.code == Cause::Memory.code() => Err(fault),
         Err(fault) => {
             port.leave(clock, stream, false);
             Ok(Some(fault))
@@ -121,15 +142,15 @@ pub fn serve<R: Clock + Eprint, K: Keeper, A: Accepts>(
     ensures served { (K.store keeper.new).doubt ≡ 0
         → IfOk result (λ failed. (turns : List Turn) × (failures_in turns ≡ failed)
         × ServesInTurn A.Stream.shows A.Stream.fails zone.now (A.comes port.old) turns
-        (progress_of (K.store keeper.old) (A.replied port.old))
-        (progress_of (K.store keeper.new) (A.replied port.new))) }
+        (progress_of (K.store keeper.old) (A.replied port.old) (A.ending port.old))
+        (progress_of (K.store keeper.new) (A.replied port.new) (A.ending port.new))) }
     // The connection at which the error came has changed nothing.
     ensures broken_off { (K.store keeper.new).doubt ≡ 0
         → OnErr result ((sents : List (Option (List ℕ))) × (sent : Option (List ℕ)) × (turns : List Turn)
         × (A.comes port.old ≡ sents ++ sent ∷ A.comes port.new)
         × ServesInTurn A.Stream.shows A.Stream.fails zone.now sents turns
-        (progress_of (K.store keeper.old) (A.replied port.old))
-        (progress_of (K.store keeper.new) (A.replied port.new))) }
+        (progress_of (K.store keeper.old) (A.replied port.old) (A.ending port.old))
+        (progress_of (K.store keeper.new) (A.replied port.new) (A.ending port.new))) }
     ensures few { IfOk result (λ failed. failed ≤ length (A.comes port.old)) }
     ensures all { OnOk result (A.comes port.new ≡ []) }
     ensures ended { OnErr result (length (A.comes port.new) < length (A.comes port.old)) }

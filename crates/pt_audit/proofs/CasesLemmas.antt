@@ -7,9 +7,9 @@ use Rattle.std.proofs.lemmas.List.Concat.{flat_map_single}
 use Rattle.std.proofs.lemmas.List.{nil_from_length}
 use Rattle.pt_audit.specs.declared.line.Line.{Line}
 use Rattle.pt_audit.specs.declared.line.Line.TheVariants as line
-use Rattle.pt_base.specs.declared.vehicle.Vehicle.{Vehicle}
+use Rattle.pt_base_values.specs.declared.vehicle.Vehicle.{Vehicle}
 use Rattle.pt_feasible.specs.declared.stop.Stop.{Stop}
-use Rattle.pt_insertion.specs.declared.asked.Asked.{Asked}
+use Rattle.pt_insertion_search.specs.declared.asked.Asked.{Asked}
 use Rattle.pt_audit.specs.Cases.{Case, case_at, numbers_from, cases_of_pickup}
 use Rattle.pt_audit.specs.Reading.{EndsCases}
 use Rattle.pt_audit.specs.RightLog.{BeginsWithCases}

@@ -1,7 +1,7 @@
 -- Those who came aboard and those who left, summed stop by stop.
 use Rattle.std.proofs.Common.{◌≡◌, ℕ, ◌+◌, ◌*◌, ◌≤◌, Bool, true, false, List, take, Some, slice_get, arith, ap}
 use Rattle.std.specs.Prelude.{filter}
-use Rattle.pt_base.specs.declared.load.Load.{Load}
+use Rattle.pt_base_values.specs.declared.load.Load.{Load}
 use Rattle.pt_feasible.specs.declared.stop.Stop.{Stop}
 use Rattle.pt_feasible.specs.Loads.{total_load}
 use Rattle.pt_feasible.proofs.LoadLemmas.{total_load-takes, total_load-leaves}

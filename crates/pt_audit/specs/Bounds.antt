@@ -2,8 +2,8 @@
 -- 2003). `visits` are numbered from 0, the depot; `bound` gives each visit's lower bound in minutes of the day.
 use Rattle.std.specs.Prelude.{◌≡◌, ℕ, zero, suc, ◌+◌, ◌<◌, ◌≤◌, ◌==◌, max, if◌then◌else◌, IsTrue, List, [], ◌∷◌}
 use Rattle.std.specs.Prelude.{length, take, Option, None, Some, IsSomeAnd, slice_get}
-use Rattle.pt_base.specs.Load.{FitsWithin}
-use Rattle.pt_base.specs.declared.vehicle.Vehicle.{Vehicle}
+use Rattle.pt_base_values.specs.Load.{FitsWithin}
+use Rattle.pt_base_values.specs.declared.vehicle.Vehicle.{Vehicle}
 use Rattle.pt_feasible.specs.Pairing.{most_stops}
 use Rattle.pt_feasible.specs.declared.stop.Stop.{Stop}
 use Rattle.pt_feasible.specs.Loads.{load_aboard}

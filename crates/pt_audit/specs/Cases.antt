@@ -1,12 +1,12 @@
 -- The places at which a trip may be put into the routes of a day, one case for each.
 use Rattle.std.specs.Prelude.{ℕ, zero, suc, ◌+◌, ◌-◌, List, [], ◌∷◌, length, map}
 use Rattle.std.specs.List.{flat_map}
-use Rattle.pt_base.specs.declared.vehicle.Vehicle.{Vehicle}
+use Rattle.pt_base_values.specs.declared.vehicle.Vehicle.{Vehicle}
 use Rattle.pt_feasible.specs.declared.stop.Stop.{Stop}
 use Rattle.pt_feasible.specs.Route.{stops_of}
-use Rattle.pt_insertion.specs.declared.asked.Asked.{Asked}
-use Rattle.pt_insertion.specs.declared.duty.Duty.{Duty}
-use Rattle.pt_insertion.specs.Insertion.{with_trip}
+use Rattle.pt_insertion_search.specs.declared.asked.Asked.{Asked}
+use Rattle.pt_insertion_search.specs.declared.duty.Duty.{Duty}
+use Rattle.pt_insertion_search.specs.Insertion.{with_trip}
 
 -- a vehicle, a place of the pickup and one of the drop, and the route with the trip put in there
 pub record Case : Type 0 where

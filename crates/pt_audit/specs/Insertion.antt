@@ -3,7 +3,7 @@ use Rattle.std.specs.Prelude.{List}
 use Rattle.pt_feasible.specs.declared.stop.Stop.{Stop}
 use Rattle.pt_feasible.specs.declared.visit.Visit as planned
 use Rattle.pt_feasible.specs.Route.{stops_of}
-use Rattle.pt_insertion.specs.Insertion.{with_trip}
+use Rattle.pt_insertion_search.specs.Insertion.{with_trip}
 use Rattle.pt_audit.specs.Cases.{Case, case_at}
 use Rattle.pt_audit.specs.declared.insertion.Insertion.{Insertion}
 use Rattle.pt_audit.specs.declared.insertion.Visit.{Visit}

@@ -1,9 +1,9 @@
 -- Right logs: each case of a day ends in a constraint that no service times meet.
 use Rattle.std.specs.Prelude.{◌≡◌, ℕ, ◌⊎◌, List, [], ◌∷◌, ◌++◌, map, All, Option, None}
 use Rattle.pt_feasible.specs.Route.{stops_of}
-use Rattle.pt_insertion.specs.declared.asked.Asked.{Asked}
-use Rattle.pt_insertion.specs.declared.duty.Duty.{Duty}
-use Rattle.pt_insertion.specs.Possible.{IsPossible}
+use Rattle.pt_insertion_search.specs.declared.asked.Asked.{Asked}
+use Rattle.pt_insertion_search.specs.declared.duty.Duty.{Duty}
+use Rattle.pt_insertion_search.specs.Possible.{IsPossible}
 use Rattle.pt_audit.specs.Bounds.{AreRight}
 use Rattle.pt_audit.specs.Cases.{Case, cases_of_day}
 use Rattle.pt_audit.specs.declared.line.Line.{Line}

@@ -1,6 +1,6 @@
 ghost use Rattle.std.specs.Prelude.{◌≡◌, ◌≤◌, ◌↔◌, [], ◌∷◌, length, All, IsTrue, IfSome};
 ghost use Rattle.pt_feasible.specs.Route.{stops_of};
-ghost use Rattle.pt_insertion.specs.Insertion.{IsWithout};
+ghost use Rattle.pt_insertion_search.specs.Insertion.{IsWithout};
 ghost use Rattle.pt_audit.specs.Cases.{cases_of_pickup, cases_of_vehicle};
 ghost use Rattle.pt_audit.specs.Reading.{EndsCases};
 ghost use Rattle.pt_audit.specs.RightLog.{IsRightLog, IsNowherePossible};
@@ -9,7 +9,7 @@ use crate::case_end::case_end;
 use crate::insertion::Insertion;
 use crate::{Line, Log};
 use pt_feasible::Stops;
-use pt_insertion::{Asked, Duty};
+use pt_insertion_search::{Asked, Duty};
 use pt_travel::Times;
 
 /// Whether the log is right for this trip, these vehicles and their routes. It takes no memory.

@@ -1,10 +1,10 @@
 ghost use Rattle.std.specs.Prelude.{◌≡◌, ◌+◌, ◌<◌, ◌≤◌, Some, length, slice_get};
 ghost use Rattle.pt_feasible.specs.Route.{stops_of};
-ghost use Rattle.pt_insertion.specs.Insertion.{IsWithout};
+ghost use Rattle.pt_insertion_search.specs.Insertion.{IsWithout};
 
-use pt_base::{Minute, PlaceId, Vehicle};
+use pt_base_values::{Minute, PlaceId, Vehicle};
 use pt_feasible::{Route, Stop, Stops};
-use pt_insertion::Asked;
+use pt_insertion_search::Asked;
 
 /// A vehicle's route with the trip put in at one place.
 #[derive(Clone, Copy)]

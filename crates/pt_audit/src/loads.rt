@@ -1,11 +1,11 @@
 ghost use Rattle.std.specs.Prelude.{◌≡◌, ◌+◌, ◌≤◌, ◌↔◌, length, take, IsTrue};
-ghost use Rattle.pt_base.specs.Load.{FitsWithin};
+ghost use Rattle.pt_base_values.specs.Load.{FitsWithin};
 ghost use Rattle.pt_feasible.specs.Loads.{load_aboard};
 ghost use Rattle.pt_feasible.specs.Pairing.{most_stops};
 ghost use Rattle.pt_audit.specs.Insertion.{inserted_stops};
 
 use crate::insertion::Insertion;
-use pt_base::Load;
+use pt_base_values::Load;
 use pt_feasible::StopKind;
 
 /// The loads of many stops together, which may be more than any vehicle carries at once.

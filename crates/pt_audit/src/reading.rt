@@ -1,28 +1,28 @@
 ghost use Rattle.std.specs.Prelude.{◌≡◌, ◌≢◌, ◌⊎◌, ◌↔◌, IsTrue, ℕ, ◌+◌, ◌*◌, ◌^◌, ◌<◌, ◌≤◌, ◌∷◌, ◌++◌};
 ghost use Rattle.std.specs.Prelude.{List, length, drop, slice_index, codes, decimal};
 ghost use Rattle.std.specs.Prelude.{IsNone, IsSomeAnd, IfSome, IfNone, IfOk, IfErr};
-ghost use Rattle.pt_base.specs.Fault.{fault, fault_at};
-ghost use Rattle.pt_base.specs.declared.fault.Cause.TheVariants as cause;
+ghost use Rattle.pt_base_values.specs.Fault.{code_of, fault, fault_at};
+ghost use Rattle.pt_base_values.specs.declared.fault.Cause.TheVariants as cause;
 ghost use Rattle.pt_audit.specs.declared.line.Line.{Line};
 ghost use Rattle.pt_audit.specs.Text.{opening, closing, IsLogText, IsNoLog, FailsAt, IsNumber, IsInForm, numbers_of};
 ghost use Rattle.pt_audit.specs.Letters.{count_after, line_with_one, line_with_two};
 ghost use Rattle.pt_audit.specs.Text.{number_text, words_of, line_text};
 
 use crate::{End, Line, Log, Raise};
-use pt_base::{Cause, Fault};
+use pt_base_values::{Cause, Fault};
 use std::alloc::{AllocError, Global};
 
 /// The log of the text. The fault is the first row that is not in form, or out of memory.
 pub fn read_log(alloc: Global, text: &[u8]) -> Result<Log, Fault>
     ensures log { IfOk result (λ log. IsLogText text.now log.lines.items) }
     ensures fault { IfErr result (λ error. (error ≡ fault cause.Memory)
-        ⊎ ((error.cause ≡ cause.LogLine) × FailsAt text.now error.row)) }
+        ⊎ ((error.code ≡ code_of cause.LogLine) × FailsAt text.now error.row)) }
     // so a text that is a log never has this fault
-    ensures no_log { IfErr result (λ error. error.cause ≡ cause.LogLine → IsNoLog text.now) }
+    ensures no_log { IfErr result (λ error. error.code ≡ code_of cause.LogLine → IsNoLog text.now) }
 {
     if !is_opened(text) {
         return Err(Fault {
-            cause: Cause::LogLine,
+            code: Cause::LogLine.code(),
             row: 1,
         });
     }
@@ -32,7 +32,7 @@ pub fn read_log(alloc: Global, text: &[u8]) -> Result<Log, Fault>
     while !is_closing(rest) {
         let Some((line, after)) = first_line(rest) else {
             return Err(Fault {
-                cause: Cause::LogLine,
+                code: Cause::LogLine.code(),
                 row,
             });
         };

@@ -3,9 +3,9 @@ use Rattle.std.proofs.Common.{◌≡◌, ℕ, ◌+◌, ◌*◌, List, ℤ, pos, 
 use Rattle.std.proofs.lemmas.Int.{ints}
 use Rattle.jiff.proofs.Family.{same_datetime}
 use Rattle.jiff.specs.Words.{epoch_day, nanos_of_seconds}
-use Rattle.pt_base.specs.Day.{IsDay, IsOutside}
-use Rattle.pt_clock.specs.LocalTime.{IsLocalTime}
-use Rattle.pt_clock.proofs.ZoneLemmas.{offset_at-rule}
+use Rattle.pt_base_values.specs.Day.{IsDay, IsOutside}
+use Rattle.pt_base_clock.specs.LocalTime.{IsLocalTime}
+use Rattle.pt_base_clock.proofs.ZoneLemmas.{offset_at-rule}
 
 pub IsLocalTime-unique : (rule : List ℕ) (instant day day' : ℤ) (minute minute' : ℕ)
     → IsLocalTime rule instant day minute → IsLocalTime rule instant day' minute'

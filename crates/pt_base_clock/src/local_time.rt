@@ -1,14 +1,14 @@
 ghost use Rattle.std.specs.Prelude.{◌≡◌, ◌⊎◌, ℕ, ◌+◌, ◌*◌, ◌↔◌, ℤ, pos, Ok, Err, IsNone, IfSome, IfOk, IfErr};
 ghost use Rattle.jiff.specs.Words.{epoch_day};
-ghost use Rattle.pt_base.specs.declared.fault.Cause.TheVariants as cause;
-ghost use Rattle.pt_base.specs.Day.{IsDay, IsOutside};
-ghost use Rattle.pt_base.specs.Fault.{fault};
-ghost use Rattle.pt_clock.specs.LocalTime.{IsZoneRule, IsLocalTime};
+ghost use Rattle.pt_base_values.specs.declared.fault.Cause.TheVariants as cause;
+ghost use Rattle.pt_base_values.specs.Day.{IsDay, IsOutside};
+ghost use Rattle.pt_base_values.specs.Fault.{fault};
+ghost use Rattle.pt_base_clock.specs.LocalTime.{IsZoneRule, IsLocalTime};
 
 use jiff::Timestamp;
 use jiff::civil::{Date, DateTime};
 use jiff::tz::TimeZone;
-use pt_base::{Cause, Day, Fault, Minute, Moment};
+use pt_base_values::{Cause, Day, Fault, Minute, Moment};
 
 /// The day of a date; `None` outside 2000 to 2099.
 fn day_of(date: Date) -> Option<Day>
@@ -31,10 +31,10 @@ fn minute_of(clock: DateTime) -> Minute
 /// `EST5EDT,M3.2.0,M11.1.0`. The cause is `NoSuchZone` if the text is not such a rule, and else `DateOutOfRange` if the
 /// day is outside 2000 to 2099.
 pub fn now_in(zone: &str, instant: Timestamp) -> Result<Moment, Fault>
-    ensures local { IfOk result (λ now. IsLocalTime zone.now instant.nanosecond (pos now.day) now.minute) }
+    ensures local { IfOk result (λ now. IsLocalTime zone.now instant.nanosecond (pos now.0) now.1) }
     // The clocks show nothing else.
     ensures only { (day minute : ℕ) → IsDay day → IsLocalTime zone.now instant.nanosecond (pos day) minute
-        → result ≡ Ok (record { day = day; minute = minute }) }
+        → result ≡ Ok (day, minute) }
     ensures no_such_zone { (result ≡ Err (fault cause.NoSuchZone)) ↔ ¬ (IsZoneRule zone.now) }
     ensures out_of_range { (result ≡ Err (fault cause.DateOutOfRange))
         ↔ ((day : ℤ) × (minute : ℕ) × IsLocalTime zone.now instant.nanosecond day minute × IsOutside day) }
@@ -47,10 +47,7 @@ pub fn now_in(zone: &str, instant: Timestamp) -> Result<Moment, Fault>
     let Some(day) = day_of(clock.date()) else {
         return Err(Fault::of(Cause::DateOutOfRange));
     };
-    Ok(Moment {
-        day,
-        minute: minute_of(clock),
-    })
+    Ok((day, minute_of(clock)))
 }
 
 /// The day and the minute on the clocks of a zone; `clock` is `None` if the clock could not be read.
@@ -59,10 +56,10 @@ pub fn now_in(zone: &str, instant: Timestamp) -> Result<Moment, Fault>
 /// clock, or of a day outside 2000 to 2099, is `DateOutOfRange`.
 pub fn moment_of(zone: &str, clock: Option<Timestamp>) -> Result<Moment, Fault>
     ensures local { IfSome clock (λ instant. IfOk result (λ now.
-        IsLocalTime zone.now instant.nanosecond (pos now.day) now.minute)) }
+        IsLocalTime zone.now instant.nanosecond (pos now.0) now.1)) }
     ensures only { IfSome clock (λ instant. (day minute : ℕ) → IsDay day
         → IsLocalTime zone.now instant.nanosecond (pos day) minute
-        → result ≡ Ok (record { day = day; minute = minute })) }
+        → result ≡ Ok (day, minute)) }
     ensures no_such_zone { (result ≡ Err (fault cause.NoSuchZone)) ↔ ¬ (IsZoneRule zone.now) }
     ensures out_of_range { IfSome clock (λ instant. (result ≡ Err (fault cause.DateOutOfRange))
         ↔ ((day : ℤ) × (minute : ℕ) × IsLocalTime zone.now instant.nanosecond day minute × IsOutside day)) }

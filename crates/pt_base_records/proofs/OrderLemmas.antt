@@ -3,8 +3,8 @@ use Rattle.std.proofs.Common.{rules, ◌≡◌, ◌⊎◌, inl, inr, ℕ, ◌+�
 use Rattle.std.specs.Prelude.{◌==◌, cond}
 use Rattle.std.proofs.lemmas.Bool.{cases_order}
 use Rattle.std.proofs.lemmas.Bool.Decides.{nat_tests}
-use Rattle.pt_records.specs.Records.{put, record_at, Each, IsInOrder}
-use Rattle.pt_records.proofs.RecordLemmas.{put_past, put_over, put_before}
+use Rattle.pt_base_records.specs.Records.{put, record_at, Each, IsInOrder}
+use Rattle.pt_base_records.proofs.RecordLemmas.{put_past, put_over, put_before}
 
 abbrev pub Compared : ℕ → ℕ → Type 0
 Compared a b = (a < b) ⊎ ((a ≡ b) ⊎ (b < a))

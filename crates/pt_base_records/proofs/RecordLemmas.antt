@@ -2,7 +2,7 @@
 use Rattle.std.proofs.Common.{◌≡◌, ℕ, ◌+◌, ◌<◌, ◌≤◌, List, [], ◌∷◌, ◌++◌, length, take, drop, get_or, suc, arith, sym, ap, ◌∙◌, add-one, append_assoc, drop-cons}
 use Rattle.std.proofs.Math.ListN.{set}
 use Rattle.std.proofs.lemmas.List.Edits.{sets-eq}
-use Rattle.pt_records.specs.Records.{put}
+use Rattle.pt_base_records.specs.Records.{put}
 
 -- the record comes after the one at this place
 pub put_past : {A : Type 0} (key : A → ℕ) (new x : A) (xs : List A) → key x < key new → put key new (x ∷ xs) ≡ x ∷ put key new xs

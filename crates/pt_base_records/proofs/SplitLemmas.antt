@@ -8,10 +8,10 @@ use Rattle.std.specs.List.Sorted.{IsPartitionedBy}
 use Rattle.std.proofs.lemmas.Bool.Decides.{nat_tests}
 use Rattle.std.proofs.lemmas.List.{take-append-drop, append-nil}
 use Rattle.std.proofs.lemmas.List.Elements.{filter-append}
-use Rattle.pt_records.specs.Records.{put, record_at, within, is_within, Each, IsInOrder}
-use Rattle.pt_records.specs.declared.span.Span.{Span}
-use Rattle.pt_records.proofs.OrderLemmas.{compared, Each-weaker, Each-both, record_at-past, record_at-here, record_at-above}
-use Rattle.pt_records.proofs.RecordLemmas.{put_past, put_before, put_at}
+use Rattle.pt_base_records.specs.Records.{put, record_at, within, is_within, Each, IsInOrder}
+use Rattle.pt_base_records.specs.declared.span.Span.{Span}
+use Rattle.pt_base_records.proofs.OrderLemmas.{compared, Each-weaker, Each-both, record_at-past, record_at-here, record_at-above}
+use Rattle.pt_base_records.proofs.RecordLemmas.{put_past, put_before, put_at}
 
 -- what holds of each holds of any one
 pub Each-at : {A : Type 0} (P : A → Type 0) (xs : List A) → Each P xs → (k : ℕ) (d : A) → k < length xs → P (slice_index_or xs k d)

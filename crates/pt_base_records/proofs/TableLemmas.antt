@@ -5,9 +5,9 @@ use Rattle.std.proofs.Common.{subst}
 use Rattle.std.specs.Prelude.{◌==◌, find, filter}
 use Rattle.std.proofs.lemmas.Bool.{cases_order}
 use Rattle.std.proofs.lemmas.Bool.Decides.{nat_tests}
-use Rattle.pt_records.specs.Records.{put, put_all, take_away, take_all, is_within, record_at, Each, IsInOrder, IsTable}
-use Rattle.pt_records.specs.declared.span.Span.{Span}
-use Rattle.pt_records.proofs.OrderLemmas.{IsInOrder-put, length-put, length-put_there, record_at-put_same, record_at-put_other, record_at-here, record_at-past}
+use Rattle.pt_base_records.specs.Records.{put, put_all, take_away, take_all, is_within, record_at, Each, IsInOrder, IsTable}
+use Rattle.pt_base_records.specs.declared.span.Span.{Span}
+use Rattle.pt_base_records.proofs.OrderLemmas.{IsInOrder-put, length-put, length-put_there, record_at-put_same, record_at-put_other, record_at-here, record_at-past}
 
 pub same_or_other : (a b : ℕ) → (a ≡ b) ⊎ (a ≡ b → ⊥)
 same_or_other a b = elim (cases_order a b) [

@@ -1,10 +1,10 @@
 -- The records of a span, as one more is put.
 use Rattle.std.proofs.Common.{◌≡◌, ℕ, ◌<◌, Bool, true, false, IsTrue, List, [], ◌∷◌, ◌++◌, arith, cond, refl, sym, ap, ◌∙◌, inl, inr}
-use Rattle.pt_records.specs.Records.{put, within, is_within, Each, IsInOrder}
-use Rattle.pt_records.specs.declared.span.Span.{Span}
-use Rattle.pt_records.proofs.RecordLemmas.{put_past, put_over, put_before}
-use Rattle.pt_records.proofs.OrderLemmas.{compared, Each-weaker}
-use Rattle.pt_records.proofs.TableLemmas.{Each-filter}
+use Rattle.pt_base_records.specs.Records.{put, within, is_within, Each, IsInOrder}
+use Rattle.pt_base_records.specs.declared.span.Span.{Span}
+use Rattle.pt_base_records.proofs.RecordLemmas.{put_past, put_over, put_before}
+use Rattle.pt_base_records.proofs.OrderLemmas.{compared, Each-weaker}
+use Rattle.pt_base_records.proofs.TableLemmas.{Each-filter}
 
 -- a record outside the span
 pub within-put_other : {A : Type 0} (key : A → ℕ) (span : Span) (new : A) (xs : List A) → is_within (key new) span ≡ false → within key span (put key new xs) ≡ within key span xs

@@ -1,7 +1,7 @@
 -- Lists of records in order of a number, their key, and edits of them.
 use Rattle.std.specs.Prelude.{ℕ, ◌<◌, ◌≤◌, ◌==◌, ◌&&◌, Bool, not, nat_le, List, [], ◌∷◌, length, find, filter, Option}
 use Rattle.std.specs.Ordering.{nat_cmp, match_ordering}
-use Rattle.pt_records.specs.declared.span.Span.{Span}
+use Rattle.pt_base_records.specs.declared.span.Span.{Span}
 
 -- the key lies in the span, both ends included
 abbrev pub is_within : ℕ → Span → Bool

@@ -1,6 +1,6 @@
 ghost use Rattle.std.specs.Prelude.{◌≡◌, ℕ, ◌+◌, ◌<◌, ◌≤◌, [], ◌∷◌, ◌++◌, length, MatchResult, OnOk, vec_len};
 ghost use Rattle.std.specs.Prelude.{vec_capacity, insert, slice_set};
-ghost use Rattle.pt_records.specs.Records.{IsInOrder, put, put_all, take_away, take_all};
+ghost use Rattle.pt_base_records.specs.Records.{IsInOrder, put, put_all, take_away, take_all};
 
 use crate::searching::position_of;
 use crate::{Keyed, Span};
@@ -15,7 +15,7 @@ pub struct Edits<T> {
 }
 
 impl<T> Model for Edits<T> {
-    ghost use Rattle.pt_records.specs.Records.{Edit};
+    ghost use Rattle.pt_base_records.specs.Records.{Edit};
 
     ghost Value = { Edit T };
 

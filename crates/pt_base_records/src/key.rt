@@ -1,6 +1,6 @@
 ghost use Rattle.std.specs.Prelude.{◌≡◌, nat_lt};
 ghost use Rattle.std.specs.Ordering.{nat_cmp};
-ghost use Rattle.pt_records.specs.Keys.{pair_key};
+ghost use Rattle.pt_base_records.specs.Keys.{pair_key};
 
 use std::cmp::Ordering;
 use std::marker::Model;
@@ -16,7 +16,7 @@ pub struct Key {
 
 impl Model for Key {
     ghost use Rattle.std.specs.Prelude.{ℕ};
-    ghost use Rattle.pt_records.specs.Keys.{pair_key};
+    ghost use Rattle.pt_base_records.specs.Keys.{pair_key};
 
     ghost Value = { ℕ };
 

@@ -1,5 +1,5 @@
 use crate::{Key, Keyed};
-use pt_base::{Day, Place, Rider, Trip, Vehicle};
+use pt_base_values::{Day, Place, Rider, Trip, Vehicle};
 
 impl Keyed for Day {
     ghost key = { λ day. day };
@@ -26,7 +26,7 @@ impl Keyed for Rider {
 }
 
 impl Keyed for Vehicle {
-    ghost use Rattle.pt_records.specs.Keys.{pair_key};
+    ghost use Rattle.pt_base_records.specs.Keys.{pair_key};
 
     ghost key = { λ vehicle. pair_key vehicle.id vehicle.from_day };
 

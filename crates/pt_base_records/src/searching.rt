@@ -1,6 +1,6 @@
 ghost use Rattle.std.specs.Prelude.{◌≡◌, ◌<◌, ◌≤◌, length, take, drop, MatchResult, slice_index_or};
 ghost use Rattle.std.specs.Option.{option_copied};
-ghost use Rattle.pt_records.specs.Records.{Each, IsInOrder, record_at, within};
+ghost use Rattle.pt_base_records.specs.Records.{Each, IsInOrder, record_at, within};
 
 use crate::{Key, Keyed, Span};
 

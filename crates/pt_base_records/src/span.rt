@@ -1,5 +1,5 @@
 ghost use Rattle.std.specs.Prelude.{◌≡◌, ℕ};
-ghost use Rattle.pt_records.specs.Records.{is_within};
+ghost use Rattle.pt_base_records.specs.Records.{is_within};
 
 use crate::Key;
 use std::cmp::Ordering;

@@ -1,6 +1,6 @@
 ghost use Rattle.std.specs.Prelude.{◌≡◌, ◌≤◌, [], length, OnOk};
 ghost use Rattle.std.specs.Option.{option_copied};
-ghost use Rattle.pt_records.specs.Records.{IsInOrder, edited, record_at, within};
+ghost use Rattle.pt_base_records.specs.Records.{IsInOrder, edited, record_at, within};
 
 use crate::edits::{put_records, take_spans};
 use crate::searching::{find_record, find_within};
@@ -16,7 +16,7 @@ pub struct Table<T: Keyed> {
 
 impl<T: Keyed> Model for Table<T> {
     ghost use Rattle.std.specs.Prelude.{◌-◌, vec_len, vec_capacity};
-    ghost use Rattle.pt_records.specs.Records.{Contents, IsInOrder};
+    ghost use Rattle.pt_base_records.specs.Records.{Contents, IsInOrder};
 
     ghost Value = { Contents T };
 

@@ -7,8 +7,8 @@ use Rattle.jiff_core.specs.declared.civil.date.Date.{Date}
 use Rattle.jiff_core.proofs.CalendarLemmas.{days_from_civil-day_count, day_count-lt_year, day_count-epoch}
 use Rattle.jiff_core.proofs.DateLemmas.{civil, epoch_day_injective, epoch_day_same}
 use Rattle.jiff_fmt.specs.Text.{pad2, year_text, date_text}
-use Rattle.pt_base.specs.DateText.{IsDateText, IsInMonth, text_of}
-use Rattle.pt_base.proofs.DateTextLemmas.{date_text-text_of, pos-unsigned_abs}
+use Rattle.pt_base_values.specs.DateText.{IsDateText, IsInMonth, text_of}
+use Rattle.pt_base_values.proofs.DateTextLemmas.{date_text-text_of, pos-unsigned_abs}
 
 year_from : (y : ℤ) (m d n : ℕ) → IsCivilDate y m d → days_from_civil y m d ≡ pos n → pos 0 ≤ℤ y
 year_from (pos k) m d n is day = omega (arith, ints)

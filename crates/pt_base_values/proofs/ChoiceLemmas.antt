@@ -4,7 +4,7 @@ use Rattle.std.proofs.lemmas.Bool.{leb-true, le-leb}
 use Rattle.std.proofs.lemmas.Bool.Decides.{Decides-and}
 use Rattle.std.specs.Int.{IsInRange}
 use Rattle.std.specs.Prelude.{Decides, nat_le, if◌then◌else◌, IsSome, IfSome, ◌↔◌}
-use Rattle.pt_base.specs.SpelledNumber.{is_within}
+use Rattle.pt_base_values.specs.SpelledNumber.{is_within}
 
 pub Decides-le : (a b : ℕ) → Decides (nat_le a b) (a ≤ b)
 Decides-le a b = (leb-true a b, le-leb a b)

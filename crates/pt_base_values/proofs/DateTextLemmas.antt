@@ -6,7 +6,7 @@ use Rattle.jiff_core.specs.Calendar.{IsDate, IsYear}
 use Rattle.jiff_core.specs.declared.civil.date.Date.{Date}
 use Rattle.jiff_core.proofs.CalendarLemmas.{days_in_month_bounds}
 use Rattle.jiff_fmt.specs.Text.{pad2, year_text, date_text}
-use Rattle.pt_base.specs.DateText.{text_of}
+use Rattle.pt_base_values.specs.DateText.{text_of}
 
 spelled_of : (y : ℤ) (m d : ℕ) → pos 0 ≤ℤ y → year_text y ++ 45 ∷ [] ++ pad2 m ++ 45 ∷ [] ++ pad2 d ≡ text_of (unsigned_abs y) m d
 spelled_of (pos n) m d h = refl

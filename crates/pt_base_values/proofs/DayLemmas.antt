@@ -7,13 +7,13 @@ use Rattle.std.specs.Int.{IsInRange}
 use Rattle.std.specs.Prelude.{Decides, ◌&&◌, bytes_eq}
 use Rattle.jiff_core.proofs.CalendarLemmas.{days_in_month_bounds}
 use Rattle.jiff_core.specs.Calendar.{days_from_civil, days_in_month}
-use Rattle.pt_base.proofs.DateTextLemmas.{date_text-text_of, pos-unsigned_abs}
-use Rattle.pt_base.specs.DateText.{text_of}
-use Rattle.pt_base.specs.Day.{IsDay}
-use Rattle.pt_base.specs.Ranges.{first_day, last_day}
-use Rattle.pt_base.proofs.ChoiceLemmas.{Decides-le, Decides-within, chosen, chosen-known}
-use Rattle.pt_base.specs.SpelledDay.{SpellsDay, year_in, month_in, date_in, has_date, of_century, day_of_date}
-use Rattle.pt_base.specs.SpelledDay.{day_from}
+use Rattle.pt_base_values.proofs.DateTextLemmas.{date_text-text_of, pos-unsigned_abs}
+use Rattle.pt_base_values.specs.DateText.{text_of}
+use Rattle.pt_base_values.specs.Day.{IsDay}
+use Rattle.pt_base_values.specs.Ranges.{first_day, last_day}
+use Rattle.pt_base_values.proofs.ChoiceLemmas.{Decides-le, Decides-within, chosen, chosen-known}
+use Rattle.pt_base_values.specs.SpelledDay.{SpellsDay, year_in, month_in, date_in, has_date, of_century, day_of_date}
+use Rattle.pt_base_values.specs.SpelledDay.{day_from}
 
 of_century-day : (number : ℤ) (day : ℕ) → of_century number ≡ Some day → (number ≡ pos day) × IsDay day
 of_century-day (pos n) day e =

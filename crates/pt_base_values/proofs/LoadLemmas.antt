@@ -1,8 +1,8 @@
 -- Loads are equal, or one is within the other, if both parts are.
 use Rattle.std.proofs.Common.{◌≡◌, ℕ, ap, ◌∙◌, arith}
-use Rattle.pt_base.specs.declared.load.Load.{Load}
-use Rattle.pt_base.specs.declared.vehicle.Vehicle.{Vehicle}
-use Rattle.pt_base.specs.Load.{IsWithin, IsLoad, FitsWithin}
+use Rattle.pt_base_values.specs.declared.load.Load.{Load}
+use Rattle.pt_base_values.specs.declared.vehicle.Vehicle.{Vehicle}
+use Rattle.pt_base_values.specs.Load.{IsWithin, IsLoad, FitsWithin}
 
 abbrev of_parts : ℕ → ℕ → Load
 of_parts seats chairs = record { seats = seats; chairs = chairs }

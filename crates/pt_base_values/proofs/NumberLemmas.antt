@@ -7,8 +7,8 @@ use Rattle.std.specs.Char.{digit_value, is_digit}
 use Rattle.std.specs.List.{list_all}
 use Rattle.std.specs.Prelude.{Decides, IsAscii, IsUtf8, length, nat_lt, nat_le, ◌&&◌}
 use Rattle.std.specs.Str.Parse.{AllDigits, IsNumeral, digits_value}
-use Rattle.pt_base.proofs.ChoiceLemmas.{Decides-le, chosen, chosen-known}
-use Rattle.pt_base.specs.SpelledNumber.{SpellsNumber, number_from}
+use Rattle.pt_base_values.proofs.ChoiceLemmas.{Decides-le, chosen, chosen-known}
+use Rattle.pt_base_values.specs.SpelledNumber.{SpellsNumber, number_from}
 
 Decides-digits : (text : List ℕ) → Decides (list_all (λ byte. is_digit byte 10) text) (AllDigits 10 text)
 Decides-digits [] = (λ e. tt, λ digits. refl)

@@ -1,6 +1,6 @@
 -- Days by their number since 1 January 1970.
 use Rattle.std.specs.Prelude.{ℕ, ◌+◌, ◌%◌, ◌≤◌, ◌⊎◌, ℤ, pos, ◌<ℤ◌}
-use Rattle.pt_base.specs.Ranges.{first_day, last_day}
+use Rattle.pt_base_values.specs.Ranges.{first_day, last_day}
 
 -- the day number lies in 2000-01-01 to 2099-12-31
 abbrev pub IsDay : ℕ → Type 0

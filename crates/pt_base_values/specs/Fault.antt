@@ -1,8 +1,8 @@
 -- Faults: what went wrong outside the rules.
 use Rattle.std.specs.Prelude.{ℕ}
-use Rattle.pt_base.specs.declared.fault.Cause.{Cause}
-use Rattle.pt_base.specs.declared.fault.Cause.TheVariants as cause
-use Rattle.pt_base.specs.declared.fault.Fault.{Fault}
+use Rattle.pt_base_values.specs.declared.fault.Cause.{Cause}
+use Rattle.pt_base_values.specs.declared.fault.Cause.TheVariants as cause
+use Rattle.pt_base_values.specs.declared.fault.Fault.{Fault}
 
 -- the code that programs print for a cause
 abbrev pub code_of : Cause → ℕ
@@ -34,8 +34,8 @@ code_of cause.LogLine = 50
 
 -- the fault of this cause, in no row
 abbrev pub fault : Cause → Fault
-fault why = record { cause = why; row = 0 }
+fault why = record { code = code_of why; row = 0 }
 
 -- the fault of this cause, found in this row
 abbrev pub fault_at : Cause → ℕ → Fault
-fault_at why row = record { cause = why; row = row }
+fault_at why row = record { code = code_of why; row = row }

@@ -1,7 +1,7 @@
 -- The load of a party, or of all parties aboard: how many seats it takes, and how many wheelchair places.
 use Rattle.std.specs.Prelude.{◌+◌, ◌-◌, ◌≤◌}
-use Rattle.pt_base.specs.declared.load.Load.{Load}
-use Rattle.pt_base.specs.declared.vehicle.Vehicle.{Vehicle}
+use Rattle.pt_base_values.specs.declared.load.Load.{Load}
+use Rattle.pt_base_values.specs.declared.vehicle.Vehicle.{Vehicle}
 
 -- nobody
 abbrev pub no_load : Load

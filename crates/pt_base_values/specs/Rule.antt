@@ -1,10 +1,10 @@
 -- The names of the rules.
 use Rattle.std.specs.Prelude.{ℕ, List, codes}
-use Rattle.pt_base.specs.declared.rule.Rule.{Rule}
-use Rattle.pt_base.specs.declared.rule.Rule.TheVariants.{Key, Number, Caller, Unknown, Over, Early, Exists}
-use Rattle.pt_base.specs.declared.rule.Rule.TheVariants.{Booked, Full, Residents, Application, LastDay, Appeal}
-use Rattle.pt_base.specs.declared.rule.Rule.TheVariants.{Suspension, Standing, VisitorDays, Conditions, Party}
-use Rattle.pt_base.specs.declared.rule.Rule.TheVariants.{BookingDays, Area, Hours, NoVehicle}
+use Rattle.pt_base_values.specs.declared.rule.Rule.{Rule}
+use Rattle.pt_base_values.specs.declared.rule.Rule.TheVariants.{Key, Number, Caller, Unknown, Over, Early, Exists}
+use Rattle.pt_base_values.specs.declared.rule.Rule.TheVariants.{Booked, Full, Residents, Application, LastDay, Appeal}
+use Rattle.pt_base_values.specs.declared.rule.Rule.TheVariants.{Suspension, Standing, VisitorDays, Conditions, Party}
+use Rattle.pt_base_values.specs.declared.rule.Rule.TheVariants.{BookingDays, Area, Hours, NoVehicle}
 
 -- the rule's name in ASCII: the desk's own name, or the section of 49 CFR Part 37
 abbrev pub name_of : Rule → List ℕ

@@ -3,10 +3,10 @@ use Rattle.std.specs.Prelude.{ℕ, ◌+◌, ◌*◌, ◌-◌, ◌&&◌, ℤ, pos
 use Rattle.std.specs.Prelude.{nat_le}
 use Rattle.std.specs.Prelude.{bytes_eq, if◌then◌else◌}
 use Rattle.jiff_core.specs.Calendar.{days_from_civil, days_in_month}
-use Rattle.pt_base.specs.DateText.{IsDateText, text_of}
-use Rattle.pt_base.specs.Day.{IsDay}
-use Rattle.pt_base.specs.Ranges.{first_day, last_day}
-use Rattle.pt_base.specs.SpelledNumber.{is_within}
+use Rattle.pt_base_values.specs.DateText.{IsDateText, text_of}
+use Rattle.pt_base_values.specs.Day.{IsDay}
+use Rattle.pt_base_values.specs.Ranges.{first_day, last_day}
+use Rattle.pt_base_values.specs.SpelledNumber.{is_within}
 
 -- the text is the day with this number, of the years 2000 to 2099, as `YYYY-MM-DD`
 abbrev pub SpellsDay : List ℕ → ℕ → Type 0

@@ -1,8 +1,8 @@
 -- Weekdays and sets of them.
 use Rattle.std.specs.Prelude.{◌≡◌, ℕ, List, Bool, true, Some, slice_get}
-use Rattle.pt_base.specs.declared.weekday.Weekday.{Weekday}
-use Rattle.pt_base.specs.declared.weekday.Weekday.TheVariants.{Monday, Tuesday, Wednesday, Thursday, Friday}
-use Rattle.pt_base.specs.declared.weekday.Weekday.TheVariants.{Saturday, Sunday}
+use Rattle.pt_base_values.specs.declared.weekday.Weekday.{Weekday}
+use Rattle.pt_base_values.specs.declared.weekday.Weekday.TheVariants.{Monday, Tuesday, Wednesday, Thursday, Friday}
+use Rattle.pt_base_values.specs.declared.weekday.Weekday.TheVariants.{Saturday, Sunday}
 
 -- days since Monday
 abbrev pub number_of : Weekday → ℕ

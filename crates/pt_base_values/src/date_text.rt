@@ -1,7 +1,7 @@
 ghost use Rattle.std.specs.Prelude.{◌≡◌, ℕ, ◌+◌, ◌<◌, ◌↔◌, [], ◌∷◌, Some, pos, ◌≤ℤ◌, IsNone, IfSome, ◌≢◌};
 ghost use Rattle.jiff_core.specs.declared.civil.date.Date as the_date;
 ghost use Rattle.jiff_fmt.specs.Text.{pad2, date_text};
-ghost use Rattle.pt_base.specs.DateText.{text_of};
+ghost use Rattle.pt_base_values.specs.DateText.{text_of};
 
 use jiff_core::civil::Date;
 

@@ -2,17 +2,16 @@ ghost use Rattle.std.specs.Prelude.{◌≡◌, ℕ, ◌+◌, ◌%◌, ◌≤◌,
 ghost use Rattle.std.specs.Prelude.{IsSome, IsNone, IfSome, IfOk, IfErr, OnOk, OnErr};
 ghost use Rattle.std.specs.Int.{IsInRange};
 ghost use Rattle.jiff_core.specs.Date.{epoch_day};
-ghost use Rattle.pt_base.specs.DateText.{IsDateText, IsInMonth};
-ghost use Rattle.pt_base.specs.Day.{IsDay, IsOutside, weekday_of, IsBookable};
-ghost use Rattle.pt_base.specs.Fault.{fault};
-ghost use Rattle.pt_base.specs.declared.fault.Cause.TheVariants as cause;
-ghost use Rattle.pt_base.specs.Weekday.{number_of};
-ghost use Rattle.pt_base.specs.Ranges.{last_day};
-ghost use Rattle.pt_base.specs.SpelledDay.{SpellsDay, day_from};
+ghost use Rattle.pt_base_values.specs.DateText.{IsDateText, IsInMonth};
+ghost use Rattle.pt_base_values.specs.Day.{IsDay, IsOutside, weekday_of, IsBookable};
+ghost use Rattle.pt_base_values.specs.Fault.{fault};
+ghost use Rattle.pt_base_values.specs.declared.fault.Cause.TheVariants as cause;
+ghost use Rattle.pt_base_values.specs.Weekday.{number_of};
+ghost use Rattle.pt_base_values.specs.Ranges.{last_day};
+ghost use Rattle.pt_base_values.specs.SpelledDay.{SpellsDay, day_from};
 
 use crate::{Cause, Fault, Weekday, date_text};
 use jiff_core::civil::Date;
-use std::alloc::AllocError;
 use std::marker::Model;
 
 /// The day number of 2000-01-01, where 1970-01-01 is 0.
@@ -89,14 +88,15 @@ impl Day {
         })
     }
 
-    /// Appends the ten bytes of `YYYY-MM-DD`.
-    pub fn write(self, out: &mut Vec<u8>) -> Result<(), AllocError>
+    /// Appends the ten bytes of `YYYY-MM-DD`. The fault is out of memory.
+    pub fn write(self, out: &mut Vec<u8>) -> Result<(), Fault>
         ensures text { OnOk result ((text : List ℕ) × IsDateText (pos self) text
             × (out.new.items ≡ out.old.items ++ text)) }
         // No other text names the day.
         ensures only { OnOk result ((text : List ℕ) → IsDateText (pos self) text
             → out.new.items ≡ out.old.items ++ text) }
         ensures err { OnErr result (out.new.items ≡ out.old.items) }
+        ensures memory { IfErr result (λ refused. refused ≡ fault cause.Memory) }
     {
         out.extend_from_slice(&date_text::spell(self.date()))?;
         Ok(())

@@ -1,5 +1,6 @@
-ghost use Rattle.std.specs.Prelude.{◌≡◌};
-ghost use Rattle.pt_base.specs.Fault.{code_of};
+ghost use Rattle.std.specs.Prelude.{◌≡◌, IfSome, IsNone};
+ghost use Rattle.pt_base_values.specs.Fault.{code_of};
+ghost use Rattle.pt_base_values.specs.declared.fault.Cause.{Cause};
 
 use std::alloc::AllocError;
 use std::error::Error;
@@ -92,6 +93,41 @@ impl Cause {
         }
     }
 
+    /// The cause with this code, if there is one.
+    pub fn of(code: u16) -> Option<Self>
+        ensures known { IfSome result (λ cause. code_of cause ≡ code) }
+        ensures unknown { IsNone result → (cause : Cause) → ¬ (code_of cause ≡ code) }
+    {
+        match code {
+            0 => Some(Cause::Memory),
+            1 => Some(Cause::NoSuchDate),
+            2 => Some(Cause::DateOutOfRange),
+            3 => Some(Cause::NoSuchZone),
+            5 => Some(Cause::NoSuchFile),
+            6 => Some(Cause::PortRefused),
+            7 => Some(Cause::FileExists),
+            8 => Some(Cause::WrongWords),
+            10 => Some(Cause::RoutePoints),
+            11 => Some(Cause::RouteWidth),
+            12 => Some(Cause::RouteCoordinate),
+            13 => Some(Cause::RouteHours),
+            20 => Some(Cause::TravelRecord),
+            21 => Some(Cause::TravelHeader),
+            22 => Some(Cause::TravelPlace),
+            23 => Some(Cause::TravelMinutes),
+            24 => Some(Cause::TravelPair),
+            25 => Some(Cause::TravelPlaces),
+            30 => Some(Cause::OtherTables),
+            31 => Some(Cause::UnsoundRows),
+            32 => Some(Cause::StoreFailed),
+            46 => Some(Cause::ReadFailed),
+            47 => Some(Cause::WriteFailed),
+            48 => Some(Cause::MomentLine),
+            50 => Some(Cause::LogLine),
+            _ => None,
+        }
+    }
+
     /// The cause in words, as the help of the program lists them.
     fn words(self) -> &'static str {
         match self {
@@ -130,34 +166,54 @@ impl fmt::Display for Cause {
     }
 }
 
-/// A cause, and the row of the input where it was found, or 0 for none.
+/// The code of a cause, and the row of the input where it was found, or 0 for none.
 #[derive(Clone, Copy, Debug, PartialEq, Eq)]
 pub struct Fault {
-    pub cause: Cause,
+    pub code: u16,
     pub row: u32,
 }
 
 impl Fault {
+    ghost use Rattle.pt_base_values.specs.Fault.{fault_at};
+
     /// The fault with this cause, in no row.
     pub fn of(cause: Cause) -> Self
-        ensures cause { result.cause ≡ cause }
+        ensures code { result.code ≡ code_of cause }
         ensures row { result.row ≡ 0 }
     {
-        Fault { cause, row: 0 }
+        Fault::at(cause, 0)
+    }
+
+    /// The fault with this cause, found in this row.
+    pub fn at(cause: Cause, row: u32) -> Self
+        ensures { result ≡ fault_at cause row }
+    {
+        Fault {
+            code: cause.code(),
+            row,
+        }
+    }
+
+    /// The cause; `None` if no cause has this code.
+    pub fn cause(self) -> Option<Cause>
+        ensures known { IfSome result (λ cause. code_of cause ≡ self.code) }
+        ensures unknown { IsNone result → (cause : Cause) → ¬ (code_of cause ≡ self.code) }
+    {
+        Cause::of(self.code)
     }
 }
 
 impl fmt::Display for Fault {
     fn fmt<W: fmt::Write>(&self, f: &mut fmt::Formatter<W>) -> fmt::Result {
-        write!(f, "fault {} row {}", self.cause.code(), self.row)
+        write!(f, "fault {} row {}", self.code, self.row)
     }
 }
 
 impl Error for Fault {}
 
 impl From<AllocError> for Fault {
-    ghost use Rattle.pt_base.specs.Fault.{fault as fault_of};
-    ghost use Rattle.pt_base.specs.declared.fault.Cause.TheVariants.{Memory};
+    ghost use Rattle.pt_base_values.specs.Fault.{fault as fault_of};
+    ghost use Rattle.pt_base_values.specs.declared.fault.Cause.TheVariants.{Memory};
 
     ghost from_gives = { λ error fault. fault ≡ fault_of Memory };
 

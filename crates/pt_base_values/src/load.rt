@@ -1,5 +1,5 @@
 ghost use Rattle.std.specs.Prelude.{◌≡◌, ◌↔◌, IsTrue, IsSome, IfSome};
-ghost use Rattle.pt_base.specs.Load.{no_load, load_sum, load_difference, IsLoad, FitsWithin};
+ghost use Rattle.pt_base_values.specs.Load.{no_load, load_sum, load_difference, IsLoad, FitsWithin};
 
 use crate::Vehicle;
 

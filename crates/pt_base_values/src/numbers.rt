@@ -1,5 +1,5 @@
 ghost use Rattle.std.specs.Prelude.{◌≡◌, ℕ, IfSome, IsNone};
-ghost use Rattle.pt_base.specs.SpelledNumber.{SpellsNumber, number_from};
+ghost use Rattle.pt_base_values.specs.SpelledNumber.{SpellsNumber, number_from};
 
 use std::str;
 

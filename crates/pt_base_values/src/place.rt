@@ -1,4 +1,4 @@
-ghost use Rattle.pt_base.specs.Place.{IsOnPlane};
+ghost use Rattle.pt_base_values.specs.Place.{IsOnPlane};
 
 use crate::PlaceId;
 

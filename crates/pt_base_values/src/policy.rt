@@ -1,6 +1,6 @@
 ghost use Rattle.std.specs.Prelude.{◌≤◌};
 ghost use Rattle.std.specs.Int.{IsInRange};
-ghost use Rattle.pt_base.specs.Ranges.{highest_fare};
+ghost use Rattle.pt_base_values.specs.Ranges.{highest_fare};
 
 /// The highest fare that a policy may set, in cents.
 pub const HIGHEST_FARE: u32 = 100_000;

@@ -1,5 +1,5 @@
 ghost use Rattle.std.specs.Prelude.{◌≡◌};
-ghost use Rattle.pt_base.specs.Rule.{name_of};
+ghost use Rattle.pt_base_values.specs.Rule.{name_of};
 
 /// A rule by which the desk denies a request.
 #[derive(Clone, Copy, PartialEq, Eq)]

@@ -1,5 +1,5 @@
 ghost use Rattle.std.specs.Prelude.{◌≤◌};
-ghost use Rattle.pt_base.specs.Ranges.{highest_fare};
+ghost use Rattle.pt_base_values.specs.Ranges.{highest_fare};
 
 use crate::{Day, Minute, PlaceId, RiderId, TripId, TripStatus, VehicleId};
 

@@ -1,5 +1,5 @@
 ghost use Rattle.std.specs.Prelude.{◌≡◌};
-ghost use Rattle.pt_base.specs.TripStatus.{stands};
+ghost use Rattle.pt_base_values.specs.TripStatus.{stands};
 
 /// What has become of a trip.
 #[derive(Clone, Copy, PartialEq, Eq)]

@@ -1,6 +1,6 @@
 ghost use Rattle.std.specs.Prelude.{◌≤◌};
 ghost use Rattle.std.specs.Int.{IsInRange};
-ghost use Rattle.pt_base.specs.Ranges.{last_minute};
+ghost use Rattle.pt_base_values.specs.Ranges.{last_minute};
 
 use crate::{Day, Minute, PlaceId, VehicleId, Weekdays};
 

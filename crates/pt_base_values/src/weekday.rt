@@ -1,6 +1,6 @@
 ghost use Rattle.std.specs.Prelude.{◌≡◌, ℕ, ◌<◌, ◌↔◌, List, Bool, true, false, replicate, slice_set, IsTrue};
 ghost use Rattle.std.specs.Prelude.{IsSome, IfSome};
-ghost use Rattle.pt_base.specs.Weekday.{number_of, Includes};
+ghost use Rattle.pt_base_values.specs.Weekday.{number_of, Includes};
 
 use std::marker::Model;
 

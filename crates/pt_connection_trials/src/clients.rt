@@ -3,10 +3,10 @@ ghost use Rattle.std.specs.Prelude.{◌≡◌, ◌<◌, ◌^◌, List, Option, S
 
 use crate::requests::{DONE, PUT_CLERK, PUT_RIDER};
 use jiff::Timestamp;
-use pt_base::Fault;
+use pt_app_serve::{Accepts, Answering, Connection, Waits, serve};
+use pt_base_values::Fault;
+use pt_desk_store::{Keeper, ListKeeper};
 use pt_http_request::desk_router;
-use pt_serve::{Accepts, Answering, Connection, Waits, serve};
-use pt_store::{Keeper, ListKeeper};
 use std::alloc::Global;
 use std::io::{ErrorKind, Read, Write};
 use std::process::Abort;
@@ -117,6 +117,8 @@ struct Clients<'b> {
     replies: Vec<Vec<u8>>,
     /// Whether there was no memory to keep a reply.
     is_lost: bool,
+    /// Whether the one that was left last had its whole reply.
+    last: Option<bool>,
     alloc: Global,
     ghost few: { length coming.now < 2 ^ 32 },
 }
@@ -128,6 +130,8 @@ impl Accepts for Clients<'_> {
 
     ghost replied = { λ clients. if clients.is_lost then None
         else Some (map (λ reply. reply.items) clients.replies.items) };
+
+    ghost ending = { λ clients. clients.last };
 
     fn accept(&mut self) -> Option<io::Result<Client>> {
         if self.coming.is_empty() {
@@ -144,7 +148,8 @@ impl Accepts for Clients<'_> {
         }))
     }
 
-    fn leave<C: Clock>(&mut self, _clock: &C, stream: Client, _is_whole: bool) {
+    fn leave<C: Clock>(&mut self, _clock: &C, stream: Client, is_whole: bool) {
+        self.last = Some(is_whole);
         if self.replies.push(stream.got).is_err() {
             self.is_lost = true;
         }
@@ -177,10 +182,12 @@ fn clients_get_their_own_replies(rt: HostRuntime) {
         ],
         replies: Vec::new(alloc),
         is_lost: false,
+        last: None,
         alloc,
     };
     let failed = serve(&rt, alloc, &router, &mut keeper, "UTC0", &mut clients);
     assert_eq!(rt; failed, Ok(1));
+    assert_eq!(rt; clients.last, Some(false));
     assert_eq!(rt; clients.replies.len(), 3);
     assert_eq!(rt; clients.replies[0].as_slice(), DONE.as_bytes());
     assert!(rt; clients.replies[1].starts_with(b"HTTP/1.1 400 "));

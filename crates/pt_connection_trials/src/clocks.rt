@@ -1,7 +1,7 @@
 //! What the clocks of zones show.
 use jiff::Timestamp;
-use pt_base::{Cause, Day, Fault, Minute, Moment};
-use pt_clock::{moment_of, now_in};
+use pt_base_clock::{moment_of, now_in};
+use pt_base_values::{Cause, Day, Fault, Minute};
 use std::test::Fail;
 
 const EASTERN: &str = "EST5EDT,M3.2.0,M11.1.0";
@@ -29,10 +29,7 @@ fn days_and_minutes_of_zones(rt: HostRuntime) -> Result<(), Fail> {
         ),
         ("<+0545>-5:45", "2024-02-29T23:30:00Z", "2024-03-01", 315),
     ] {
-        let expected = Moment {
-            day: Day::parse(day)?,
-            minute: Minute::of(minute).ok_or("minute")?,
-        };
+        let expected = (Day::parse(day)?, Minute::of(minute).ok_or("minute")?);
         let now = now_in(zone, instant.parse::<Timestamp>()?)?;
         assert!(rt; now == expected, "{instant} in {zone}");
     }
@@ -73,10 +70,7 @@ fn zones_and_instants_that_are_refused(rt: HostRuntime) -> Result<(), Fail> {
 #[test]
 fn clocks_that_are_read_and_one_that_cannot_be(rt: HostRuntime) -> Result<(), Fail> {
     let noon = "2025-03-09T16:00:00Z".parse::<Timestamp>()?;
-    let twelve = Moment {
-        day: Day::parse("2025-03-09")?,
-        minute: Minute::of(720).ok_or("minute")?,
-    };
+    let twelve = (Day::parse("2025-03-09")?, Minute::of(720).ok_or("minute")?);
     for (zone, clock, moment) in [
         (EASTERN, Some(noon), Ok(twelve)),
         (EASTERN, None, Err(Fault::of(Cause::DateOutOfRange))),

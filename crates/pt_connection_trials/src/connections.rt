@@ -1,9 +1,9 @@
 //! Connections with time limits.
 use crate::requests::{DONE, PUT_CLERK, eight_in_the_morning, has_clerk};
-use pt_base::{Cause, Fault};
+use pt_app_serve::{MOST_DROPPED, Waits, answer_in_time, drop_rest, serve_one_by};
+use pt_base_values::{Cause, Fault};
+use pt_desk_store::ListKeeper;
 use pt_http_request::desk_router;
-use pt_serve::{MOST_DROPPED, Waits, answer_in_time, drop_rest, serve_one};
-use pt_store::ListKeeper;
 use std::alloc::Global;
 use std::cell::{Cell, RefCell};
 use std::io;
@@ -99,7 +99,7 @@ struct Case {
     takes: usize,
     seconds: u64,
     calls: &'static [Call],
-    told: Result<(), Fault>,
+    told: Result<(), Cause>,
     is_put: bool,
     written: usize,
 }
@@ -143,10 +143,7 @@ const CASES: [Case; 3] = [
             Call::WaitToRead(5),
             Call::Read,
         ],
-        told: Err(Fault {
-            cause: Cause::ReadFailed,
-            row: 0,
-        }),
+        told: Err(Cause::ReadFailed),
         is_put: false,
         written: 0,
     },
@@ -163,10 +160,7 @@ const CASES: [Case; 3] = [
             Call::WaitToWrite(10),
             Call::Write,
         ],
-        told: Err(Fault {
-            cause: Cause::WriteFailed,
-            row: 0,
-        }),
+        told: Err(Cause::WriteFailed),
         is_put: true,
         written: 60,
     },
@@ -202,7 +196,7 @@ fn answered<'c>(
 /// Compares the result of a case and the bytes that its client has taken.
 fn compare_reply(rt: &impl Abort, case: &Case, told: Result<(), Fault>, out: &[u8]) {
     let reply = DONE.as_bytes();
-    assert_eq!(rt; told, case.told);
+    assert_eq!(rt; told, case.told.map_err(|cause| Fault::of(cause)));
     assert_eq!(rt; out, &reply[..case.written.min(reply.len())]);
 }
 
@@ -272,7 +266,7 @@ fn serve_client<R: Abort + Clock>(
     let mut keeper = ListKeeper::new(alloc, b"abc").expect(rt, "memory");
     let router = desk_router(alloc).expect(rt, "memory");
     let now = eight_in_the_morning(rt);
-    let told = serve_one(rt, alloc, &router, &mut keeper, now, stream);
+    let told = serve_one_by(rt, alloc, &router, &mut keeper, now, stream);
     (told, has_clerk(rt, &mut keeper))
 }
 

@@ -1,9 +1,9 @@
 //! Readers and writers that fail at each byte.
 use crate::requests::{DONE, PUT_CLERK, eight_in_the_morning, has_clerk};
-use pt_base::{Cause, Fault};
-use pt_http::answer_bytes;
+use pt_base_values::{Cause, Fault};
+use pt_desk_store::ListKeeper;
+use pt_http_exchange::answer_bytes;
 use pt_http_inbox::Inbox;
-use pt_store::ListKeeper;
 use std::alloc::Global;
 use std::io;
 use std::io::{ErrorKind, Read, Write};

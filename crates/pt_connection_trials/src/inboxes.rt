@@ -1,5 +1,5 @@
 //! Readers that give a byte a read, are interrupted, and fail.
-use pt_base::{Cause, Fault};
+use pt_base_values::{Cause, Fault};
 use pt_http_inbox::{Inbox, MOST_READS};
 use std::alloc::{AllocError, Global};
 use std::collections::VecDeque;

@@ -1,13 +1,13 @@
 //! Memory that is refused while a request is answered.
 use crate::requests::{COMPLETE, PUT_CLERK, PUT_RIDER, STANDING, eight_in_the_morning};
 use arrayvec::ArrayVec;
-use pt_base::{CallerId, Cause, Fault, Moment, TripId};
+use pt_base_values::{CallerId, Cause, Fault, Moment, TripId};
+use pt_desk_requests::Write;
 use pt_desk_rules::Arrival;
-use pt_http::answer_bytes;
+use pt_desk_spelling::spell;
+use pt_desk_store::{Keeper, ListKeeper};
+use pt_http_exchange::answer_bytes;
 use pt_http_inbox::Inbox;
-use pt_requests::Write;
-use pt_spelling::spell;
-use pt_store::{Keeper, ListKeeper};
 use std::alloc::{AllocError, Global};
 use std::process::Abort;
 
@@ -52,7 +52,7 @@ fn inbox_with<'b>(alloc: Global, request: &'b str) -> Result<Inbox<&'b [u8]>, Al
     Inbox::new(alloc, request.as_bytes()).or_else(|_| Inbox::new(alloc, request.as_bytes()))
 }
 
-fn least_desk(alloc: Global) -> Result<ListKeeper, AllocError> {
+fn least_desk(alloc: Global) -> Result<ListKeeper, Fault> {
     ListKeeper::new(alloc, b"abc").or_else(|_| ListKeeper::new(alloc, b"abc"))
 }
 

@@ -1,6 +1,6 @@
 //! A few requests, and their replies.
-use pt_base::{CallerId, Day, Minute, Moment};
-use pt_store::{Keeper, ListKeeper};
+use pt_base_values::{CallerId, Day, Minute, Moment};
+use pt_desk_store::{Keeper, ListKeeper};
 use std::process::Abort;
 
 /// The admin with the key `abc` puts the clerk with the key `hello`.
@@ -27,10 +27,7 @@ pub(crate) const DONE: &str =
 
 pub(crate) fn eight_in_the_morning(rt: &impl Abort) -> Moment {
     let day = Day::parse("2025-02-17").expect(rt, "a day");
-    Moment {
-        day,
-        minute: Minute::of(480).unwrap(),
-    }
+    (day, Minute::of(480).unwrap())
 }
 
 /// Whether the clerk has been put.

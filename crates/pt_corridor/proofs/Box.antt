@@ -4,7 +4,7 @@ use Rattle.std.proofs.Common.{pos, negsuc, ◌+ℤ◌, ◌-ℤ◌, ◌*ℤ◌, �
 use Rattle.std.proofs.Common.{to_z, of_z}
 use Rattle.std.proofs.lemmas.Int.{ints, fits_signed_from_abs, to_z-of_z}
 use Rattle.std.proofs.lemmas.Nat.{mul-le}
-use Rattle.pt_base.specs.declared.place.Point.{Point}
+use Rattle.pt_base_values.specs.declared.place.Point.{Point}
 use Rattle.pt_corridor.specs.Near.{IsNearSegment, squared_length}
 use Rattle.pt_corridor.specs.Box.{FallsShort, IsBeyond, IsOutsideBox}
 use Rattle.pt_corridor.proofs.Bridge.{length_is, length_of}

@@ -3,7 +3,7 @@
 use Rattle.std.proofs.Common.{◌≡◌, ℕ, ◌*◌, ◌<◌, ◌≤◌, ◌^◌, ◌↔◌, ap, subst, sym, ◌∙◌, IsTrue, true, false, arith, ℤ, pos, ◌-ℤ◌, ◌*ℤ◌, ◌≤ℤ◌, ◌<ℤ◌, unsigned_abs, FitsSigned}
 use Rattle.std.proofs.lemmas.Int.{ints, to_z-of_z, to_z_pos}
 use Rattle.std.proofs.lemmas.Nat.{mul-le}
-use Rattle.pt_base.specs.Place.{IsCoordinate}
+use Rattle.pt_base_values.specs.Place.{IsCoordinate}
 use Rattle.pt_corridor.specs.Near.{squared_length}
 use Rattle.pt_corridor.specs.Way.{IsWay, dot_product, cross_product}
 use Rattle.pt_corridor.proofs.Bridge.{IsNearParts, near_start, near_end, near_side}

@@ -1,6 +1,6 @@
 -- The box that reaches a distance in feet around a segment.
 use Rattle.std.specs.Prelude.{ℕ, ℤ, pos, ◌+ℤ◌, ◌<ℤ◌, ◌⊎◌}
-use Rattle.pt_base.specs.declared.place.Point.{Point}
+use Rattle.pt_base_values.specs.declared.place.Point.{Point}
 
 -- `to` is more than this many feet above `from`
 abbrev pub FallsShort : ℕ → ℤ → ℤ → Type 0

@@ -1,8 +1,8 @@
 -- Where and when service is owed.
 use Rattle.std.specs.Prelude.{ℕ, ◌≤◌, List, ◌⊎◌, IsTrue, Any}
-use Rattle.pt_base.specs.Day.{weekday_of}
-use Rattle.pt_base.specs.Weekday.{Includes}
-use Rattle.pt_base.specs.declared.place.Place.{Place}
+use Rattle.pt_base_values.specs.Day.{weekday_of}
+use Rattle.pt_base_values.specs.Weekday.{Includes}
+use Rattle.pt_base_values.specs.declared.place.Place.{Place}
 use Rattle.pt_corridor.specs.Near.{IsNearLine}
 use Rattle.pt_corridor.specs.Route.{FixedRoute}
 

@@ -1,6 +1,6 @@
 -- Distance in feet from a line of points, in whole numbers alone.
 use Rattle.std.specs.Prelude.{◌≡◌, ℕ, ◌+◌, ◌*◌, ◌<◌, ◌≤◌, ℤ, pos, ◌+ℤ◌, ◌-ℤ◌, ◌*ℤ◌, ◌≤ℤ◌, List, Some, slice_get}
-use Rattle.pt_base.specs.declared.place.Point.{Point}
+use Rattle.pt_base_values.specs.declared.place.Point.{Point}
 
 -- the squared length of a way this many feet east and north
 abbrev pub squared_length : ℤ → ℤ → ℤ

@@ -1,10 +1,11 @@
 -- Fixed routes, and the faults for which one is refused.
 use Rattle.std.specs.Prelude.{◌≡◌, ℕ, ◌≤◌, Bool, List, [], ◌∷◌, length, ◌⊎◌, All}
 use Rattle.std.specs.Int.{IsInRange}
-use Rattle.pt_base.specs.Place.{IsOnPlane}
-use Rattle.pt_base.specs.declared.place.Point.{Point}
-use Rattle.pt_base.specs.declared.fault.Cause.{Cause}
-use Rattle.pt_base.specs.declared.fault.Cause.TheVariants as cause
+use Rattle.pt_base_values.specs.Fault.{code_of}
+use Rattle.pt_base_values.specs.Place.{IsOnPlane}
+use Rattle.pt_base_values.specs.declared.place.Point.{Point}
+use Rattle.pt_base_values.specs.declared.fault.Cause.{Cause}
+use Rattle.pt_base_values.specs.declared.fault.Cause.TheVariants as cause
 
 -- A fixed route. `width` is how far its corridor reaches on each side, in feet. `days` says of each weekday, from
 -- Monday on, whether it runs. `first` and `last` are minutes of the day.
@@ -45,10 +46,10 @@ pub record IsFixedRoute (route : FixedRoute) : Type 0 where
   pub on_plane : IsRouteOnPlane route
   pub hours : HasHours route
 
--- the cause is the first of the list whose condition holds
-abbrev pub IsFirst : List (Cause × Type 0) → Cause → Type 0
-IsFirst [] why = ⊥
-IsFirst (f ∷ later) why = ((why ≡ f.0) × f.1) ⊎ (¬ f.1 × IsFirst later why)
+-- the code is that of the first cause of the list whose condition holds
+abbrev pub IsFirst : List (Cause × Type 0) → ℕ → Type 0
+IsFirst [] code = ⊥
+IsFirst (f ∷ later) code = ((code ≡ code_of f.0) × f.1) ⊎ (¬ f.1 × IsFirst later code)
 
 -- the faults of a fixed route in the order in which they are tried
 abbrev pub faults : FixedRoute → List (Cause × Type 0)

@@ -4,7 +4,7 @@ ghost use Rattle.pt_corridor.specs.Corridor.{LiesInCorridor, IsRunning, IsServed
 
 use crate::FixedRoute;
 use crate::near::is_near_line;
-use pt_base::{Day, Minute, Place, Point};
+use pt_base_values::{Day, Minute, Place, Point};
 
 /// Whether the point is within this many feet of the route's line, whatever the route's width is.
 pub fn within(route: &FixedRoute, point: Point, feet: u32) -> bool

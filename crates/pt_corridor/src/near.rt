@@ -1,10 +1,10 @@
 ghost use Rattle.std.specs.Prelude.{◌≡◌, ◌↔◌, ◌-ℤ◌, IsTrue, All};
-ghost use Rattle.pt_base.specs.Place.{IsOnPlane};
+ghost use Rattle.pt_base_values.specs.Place.{IsOnPlane};
 ghost use Rattle.pt_corridor.specs.Box.{FallsShort, IsBeyond, IsOutsideBox};
 ghost use Rattle.pt_corridor.specs.Near.{IsNearSegment, IsNearLine, squared_length};
 ghost use Rattle.pt_corridor.specs.Way.{IsWay, IsWayOnPlane, dot_product, cross_product};
 
-use pt_base::Point;
+use pt_base_values::Point;
 
 /// The way from one point to another, in feet east and north.
 #[derive(Clone, Copy)]

@@ -1,10 +1,10 @@
 ghost use Rattle.std.specs.Prelude.{◌≡◌, ◌≤◌, ◌↔◌, IsTrue, IsOk, IfOk, MatchResult, All};
-ghost use Rattle.pt_base.specs.Place.{IsCoordinate, IsOnPlane};
-ghost use Rattle.pt_base.specs.declared.fault.Fault.{Fault};
+ghost use Rattle.pt_base_values.specs.Place.{IsCoordinate, IsOnPlane};
+ghost use Rattle.pt_base_values.specs.declared.fault.Fault.{Fault};
 ghost use Rattle.pt_corridor.specs.Route.{route_of, IsFixedRoute, IsFirst, faults, HasPoints, HasWidth, IsRouteOnPlane};
 
-use pt_base::{Cause, Fault, Minute, Point, RouteId, Weekdays};
-use pt_records::{Key, Keyed};
+use pt_base_records::{Key, Keyed};
+use pt_base_values::{Cause, Fault, Minute, Point, RouteId, Weekdays};
 use std::alloc::AllocError;
 use std::marker::Model;
 
@@ -68,7 +68,7 @@ impl FixedRoute {
         // Exactly the first fault of the list that holds, in no row.
         ensures refused { (fault : Fault) → (result ≡ Err fault)
             ↔ ((fault.row ≡ 0)
-            × IsFirst (faults (route_of id width points.items accessible days first last)) fault.cause) }
+            × IsFirst (faults (route_of id width points.items accessible days first last)) fault.code) }
     {
         if points.len() < MIN_POINTS || points.len() > MAX_POINTS {
             return Err(Fault::of(Cause::RoutePoints));

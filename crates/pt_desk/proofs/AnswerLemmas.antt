@@ -3,11 +3,11 @@ use Rattle.std.proofs.Common.{◌≡◌, ◌∙◌, ◌<◌, ◌≤◌, inl, inr
 use Rattle.std.specs.Result.{IsErrAnd}
 use Rattle.pt_desk_rules.specs.State.{State}
 use Rattle.pt_desk_rules.specs.Step.{state_after}
-use Rattle.pt_store.specs.Store.{Store, Answers, ChangesNothing, Goes, IsDurable, Tells, TellsBy}
-use Rattle.pt_store.specs.declared.keeper.StoreFault.{StoreFault}
-use Rattle.pt_store.specs.declared.keeper.StoreFault.TheVariants.{Memory, Store as failed}
-use Rattle.pt_store.proofs.ReadLemmas.{fault_of, reads_map}
-use Rattle.pt_store.proofs.StoreLemmas.{found_still, reads_then, read_tells, leaves_nothing}
+use Rattle.pt_desk_store.specs.Store.{Store, Answers, ChangesNothing, Goes, IsDurable, Tells, TellsBy}
+use Rattle.pt_desk_store.specs.declared.keeper.StoreFault.{StoreFault}
+use Rattle.pt_desk_store.specs.declared.keeper.StoreFault.TheVariants.{Memory, Store as failed}
+use Rattle.pt_desk_store.proofs.ReadLemmas.{fault_of, reads_map}
+use Rattle.pt_desk_store.proofs.StoreLemmas.{found_still, reads_then, read_tells, leaves_nothing}
 
 abbrev Outcome : Type 0 → Type 1
 Outcome X = State → X → Option State → Type 0

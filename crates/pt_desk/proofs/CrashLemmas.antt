@@ -1,15 +1,15 @@
 -- What calls by the rules leave at a crash, one call after another.
 use Rattle.std.proofs.Common.{◌≡◌, ◌∙◌, ℕ, zero, suc, ◌<◌, ◌⊎◌, inl, inr, List, [], ◌∷◌, ◌++◌, Option, Some, None, Result, Ok, Err, arith, refl, sym, subst}
-use Rattle.pt_base.specs.declared.moment.Moment.{Moment}
+use Rattle.pt_base_values.specs.Moment.{Moment}
 use Rattle.pt_desk.specs.Crash.{FindsReached, Lasts, Reaches}
 use Rattle.pt_desk_laws.specs.Numbers.{AreCalls, Call}
 use Rattle.pt_desk_rules.specs.State.{State}
 use Rattle.pt_desk_rules.specs.Step.{IsOutcome, state_after}
-use Rattle.pt_requests.specs.declared.request.Answer.{Answer}
-use Rattle.pt_requests.specs.declared.request.Request.{Request}
-use Rattle.pt_store.specs.Store.{Answers, IsFault, IsLeft, Store, Tells}
-use Rattle.pt_store.specs.declared.keeper.StoreFault.{StoreFault}
-use Rattle.pt_store.specs.declared.keeper.StoreFault.TheVariants.{Memory, Store as failed}
+use Rattle.pt_desk_requests.specs.declared.request.Answer.{Answer}
+use Rattle.pt_desk_requests.specs.declared.request.Request.{Request}
+use Rattle.pt_desk_store.specs.Store.{Answers, IsFault, IsLeft, Store, Tells}
+use Rattle.pt_desk_store.specs.declared.keeper.StoreFault.{StoreFault}
+use Rattle.pt_desk_store.specs.declared.keeper.StoreFault.TheVariants.{Memory, Store as failed}
 
 more_calls : (a b c : State) (first next : List Call) → AreCalls a first b → AreCalls b next c → AreCalls a (first ++ next) c
 more_calls a b c [] next is then = subst (λ s. AreCalls s next c) is then

@@ -1,18 +1,18 @@
 -- A store is given no change that it does not take.
 use Rattle.std.proofs.Common.{◌≡◌, ◌≤◌, ◌∙◌, ℕ, inl, inr, Option, None, Result, Ok, arith, refl, sym, subst}
-use Rattle.pt_base.specs.declared.moment.Moment.{Moment}
+use Rattle.pt_base_values.specs.Moment.{Moment}
 use Rattle.pt_desk_rules.specs.Deciding.{IsDecision, PutsInRangeIf}
 use Rattle.pt_desk_rules.specs.Facts.{facts_of}
 use Rattle.pt_desk_rules.specs.State.{State}
 use Rattle.pt_desk_rules.specs.Step.{sent_with}
 use Rattle.pt_desk_rules.specs.declared.deciding.Decision.{Decision}
 use Rattle.pt_desk_rules.specs.declared.deciding.Decision.TheVariants.{Denied, Accepted}
-use Rattle.pt_requests.specs.declared.caller.Caller.{Caller}
-use Rattle.pt_requests.specs.declared.request.Write.{Write}
-use Rattle.pt_spelling.specs.Ranges.{IsRequest}
-use Rattle.pt_store.specs.Store.{Store, Answers, Fits, Goes}
-use Rattle.pt_store.specs.declared.keeper.StoreFault.{StoreFault}
-use Rattle.pt_store.proofs.StoreLemmas.{read_tells}
+use Rattle.pt_desk_requests.specs.declared.caller.Caller.{Caller}
+use Rattle.pt_desk_requests.specs.declared.request.Write.{Write}
+use Rattle.pt_desk_spelling.specs.Ranges.{IsRequest}
+use Rattle.pt_desk_store.specs.Store.{Store, Answers, Fits, Goes}
+use Rattle.pt_desk_store.specs.declared.keeper.StoreFault.{StoreFault}
+use Rattle.pt_desk_store.proofs.StoreLemmas.{read_tells}
 use Rattle.pt_desk.specs.Fitting.{ChangesByRules, IsNewBy}
 
 -- a read gives it none

@@ -2,7 +2,7 @@
 use Rattle.std.proofs.Common.{ℕ, ◌<◌, zero, suc, List, [], ◌∷◌, length, map, arith, add-one}
 use Rattle.std.specs.Prelude.{slice_index}
 use Rattle.std.specs.List.Sorted.{IsStrictlyIncreasing}
-use Rattle.pt_store.specs.Records.{IsInOrder}
+use Rattle.pt_desk_store.specs.Records.{IsInOrder}
 
 keys_rise-at : {A : Type 0} (key : A → ℕ) (xs : List A) → IsInOrder key xs → (k : ℕ)
     → suc k < length (map key xs) → slice_index (map key xs) k < slice_index (map key xs) (suc k)

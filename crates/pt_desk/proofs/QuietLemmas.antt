@@ -1,18 +1,18 @@
 -- Requests that change nothing.
 use Rattle.std.proofs.Common.{◌≡◌, ℕ, false, List, Option, Some, None, Result, Ok, IfOk, ap, sym}
-use Rattle.pt_base.specs.declared.trip.Wish.{Wish}
-use Rattle.pt_base.specs.declared.moment.Moment.{Moment}
+use Rattle.pt_base_values.specs.declared.trip.Wish.{Wish}
+use Rattle.pt_base_values.specs.Moment.{Moment}
 use Rattle.pt_desk_rules.specs.State.{State}
 use Rattle.pt_desk_rules.specs.Step.{sender, IsOutcome, IsOutcomeBy}
-use Rattle.pt_requests.specs.declared.caller.Caller.{Caller}
-use Rattle.pt_requests.specs.declared.request.Answer.{Answer}
-use Rattle.pt_requests.specs.declared.request.Answer.TheVariants.{Denied}
-use Rattle.pt_requests.specs.declared.request.Request.{Request}
-use Rattle.pt_requests.specs.declared.request.Request.TheVariants as request
+use Rattle.pt_desk_requests.specs.declared.caller.Caller.{Caller}
+use Rattle.pt_desk_requests.specs.declared.request.Answer.{Answer}
+use Rattle.pt_desk_requests.specs.declared.request.Answer.TheVariants.{Denied}
+use Rattle.pt_desk_requests.specs.declared.request.Request.{Request}
+use Rattle.pt_desk_requests.specs.declared.request.Request.TheVariants as request
 use Rattle.pt_desk_laws.proofs.OutcomeLemmas.{is_of_write, commits_nothing, read_commits_nothing}
 use Rattle.pt_desk.specs.Run.{IsDenial, IsRead}
-use Rattle.pt_store.specs.Store.{Store, Answers, ChangesNothing}
-use Rattle.pt_store.specs.declared.keeper.StoreFault.{StoreFault}
+use Rattle.pt_desk_store.specs.Store.{Store, Answers, ChangesNothing}
+use Rattle.pt_desk_store.specs.declared.keeper.StoreFault.{StoreFault}
 use Rattle.pt_desk.proofs.AnswerLemmas.{changes_nothing}
 
 abbrev Reply : Type 0

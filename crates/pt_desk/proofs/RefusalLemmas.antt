@@ -1,12 +1,12 @@
 -- What an audit of a refusal shows.
 use Rattle.std.proofs.Common.{◌≡◌, inl, inr, ℕ, List, Option, Some, None, Result, Ok, Err, IfOk, refl, sym, subst}
-use Rattle.pt_base.specs.declared.rule.Rule.TheVariants as rule
-use Rattle.pt_base.specs.declared.trip.Wish.{Wish}
-use Rattle.pt_base.specs.declared.moment.Moment.{Moment}
+use Rattle.pt_base_values.specs.declared.rule.Rule.TheVariants as rule
+use Rattle.pt_base_values.specs.declared.trip.Wish.{Wish}
+use Rattle.pt_base_values.specs.Moment.{Moment}
 use Rattle.pt_desk_laws.specs.Planning.{SomeVehicleCan}
-use Rattle.pt_desk.specs.Refusals.{IsFacts, IsInquiryBy, RefusalsAreTold}
-use Rattle.pt_store.specs.Store.{Answers, Store}
-use Rattle.pt_store.specs.declared.keeper.StoreFault.{StoreFault}
+use Rattle.pt_desk.specs.Refusals.{GivesFacts, IsFacts, IsGiven, IsInquired, IsInquiryBy, RefusalsAreTold}
+use Rattle.pt_desk_store.specs.Store.{Answers, Store}
+use Rattle.pt_desk_store.specs.declared.keeper.StoreFault.{StoreFault}
 use Rattle.pt_desk_laws.proofs.AgainLemmas.{denials_are_the_same_again}
 use Rattle.pt_desk_reads.proofs.ExplainLemmas.{refusals_are_shown}
 use Rattle.pt_desk_rules.specs.Booking.{AreTimes}
@@ -16,9 +16,11 @@ use Rattle.pt_desk_rules.specs.State.{State}
 use Rattle.pt_desk_rules.specs.Step.{sender, IsOutcomeBy}
 use Rattle.pt_desk_reads.specs.declared.explaining.Inquiry.{Inquiry}
 use Rattle.pt_desk_reads.specs.declared.explaining.Inquiry.TheVariants as inquiry
-use Rattle.pt_requests.specs.declared.caller.Caller.{Caller}
-use Rattle.pt_requests.specs.declared.request.Answer.TheVariants as answer
-use Rattle.pt_requests.specs.declared.request.Request.TheVariants as request
+use Rattle.pt_desk_requests.specs.declared.caller.Caller.{Caller}
+use Rattle.pt_desk_requests.specs.declared.request.Answer.TheVariants as answer
+use Rattle.pt_desk_requests.specs.declared.request.Answer.{Answer}
+use Rattle.pt_desk_requests.specs.declared.request.Request.{Request}
+use Rattle.pt_desk_requests.specs.declared.request.Request.TheVariants as request
 
 -- asking commits nothing
 pub inquiry_commits_nothing : (by : Option Caller) (now : Moment) (rider : ℕ) (wish : Wish) (s : State)
@@ -53,3 +55,12 @@ pub refusals_are_told : RefusalsAreTold
 refusals_are_told key now number rider wish s found left after minutes told sound is times never outcome =
     (denials_are_the_same_again key now number (request.Explain rider wish) s rule.NoVehicle told None after sound
     (shown_by (sender key s) now number rider wish s found left minutes is times never) outcome).0
+
+-- what the inquiry of a question gives
+pub gives : (key : List ℕ) (now : Moment) (asked : Request) (rider : ℕ) (wish : Wish) (a b : Store)
+    (r s : Result Inquiry StoreFault) (given : Result Refusal (Result Answer StoreFault))
+    → asked ≡ request.Explain rider wish → r ≡ s → IsGiven s given → IsInquired key now rider wish a b r
+    → GivesFacts key now asked a b given
+gives key now asked rider wish a b r s given is same told inquired =
+    subst (λ (it : Request). GivesFacts key now it a b given) (sym is)
+    (r, inquired, subst (λ (x : Result Inquiry StoreFault). IsGiven x given) (sym same) told)

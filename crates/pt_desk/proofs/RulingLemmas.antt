@@ -1,20 +1,20 @@
 -- A ruling on a write by the facts that were read.
 use Rattle.std.proofs.Common.{◌≡◌, None, Result, Ok, Err, subst}
 use Rattle.std.specs.Result.{IsErrAnd}
-use Rattle.pt_base.specs.declared.moment.Moment.{Moment}
-use Rattle.pt_base.specs.declared.rule.Rule.TheVariants as rule
+use Rattle.pt_base_values.specs.Moment.{Moment}
+use Rattle.pt_base_values.specs.declared.rule.Rule.TheVariants as rule
 use Rattle.pt_desk_rules.specs.Deciding.{IsRuling}
 use Rattle.pt_desk_rules.specs.Facts.{facts_of, FactsOf}
 use Rattle.pt_desk_rules.specs.State.{State}
 use Rattle.pt_desk_rules.specs.declared.deciding.Decision.{Decision}
 use Rattle.pt_desk_rules.specs.declared.deciding.Decision.TheVariants.{Denied}
-use Rattle.pt_requests.specs.declared.caller.Caller.{Caller}
-use Rattle.pt_requests.specs.declared.request.Write.{Write}
-use Rattle.pt_store.specs.Store.{Store, Goes, Reads, ReadsSome}
-use Rattle.pt_store.specs.Wished.{IsEnoughFor}
-use Rattle.pt_store.specs.declared.keeper.StoreFault.{StoreFault}
-use Rattle.pt_store.specs.declared.keeper.StoreFault.TheVariants.{Memory}
-use Rattle.pt_store.proofs.SomeLemmas.{some_fault_as, some_made, some_memory, some_unread}
+use Rattle.pt_desk_requests.specs.declared.caller.Caller.{Caller}
+use Rattle.pt_desk_requests.specs.declared.request.Write.{Write}
+use Rattle.pt_desk_store.specs.Store.{Store, Goes, Reads, ReadsSome}
+use Rattle.pt_desk_store.specs.Wished.{IsEnoughFor}
+use Rattle.pt_desk_store.specs.declared.keeper.StoreFault.{StoreFault}
+use Rattle.pt_desk_store.specs.declared.keeper.StoreFault.TheVariants.{Memory}
+use Rattle.pt_desk_store.proofs.SomeLemmas.{some_fault_as, some_made, some_memory, some_unread}
 
 -- calls that only read, and return the ruling on this write in the content
 abbrev pub ReadsRuling : Write → Caller → Moment → Store → Store → Result Decision StoreFault → Type 0
@@ -28,11 +28,11 @@ ruled asked me now a b facts made read by =
 
 -- by facts that are enough
 pub ruled_enough : (asked : Write) (me : Caller) (now : Moment) (a b : Store) (facts : FactsOf asked) (made : Decision)
-    → ReadsSome a b (IsEnoughFor asked) (Ok facts) → IsRuling asked me now facts made
+    → ReadsSome a b (IsEnoughFor asked me now) (Ok facts) → IsRuling asked me now facts made
     → ReadsRuling asked me now a b (Ok made)
 ruled_enough asked me now a b facts made read by =
     some_made a b read.goes.0 facts made (λ (s : State). IsRuling asked me now (facts_of asked s)) read.goes.1
-    (λ clean. read.is clean me now made by)
+    (λ clean. read.is clean made by)
 
 -- without a read, where the facts are empty
 pub ruled_unread : (asked : Write) (me : Caller) (now : Moment) (a : Store) (made : Decision)

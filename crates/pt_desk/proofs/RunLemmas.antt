@@ -4,10 +4,10 @@ use Rattle.std.proofs.Common.{length, drop, get_or, drop-cons, add-one, ◌+◌,
 use Rattle.std.proofs.Common.{inr}
 use Rattle.std.proofs.lemmas.List.{drop_all}
 use Rattle.pt_desk_rules.specs.State.{State}
-use Rattle.pt_store.specs.Store.{Store, ChangesNothing, Fails}
-use Rattle.pt_store.specs.declared.keeper.StoreFault.{StoreFault}
-use Rattle.pt_store.specs.declared.keeper.StoreFault.TheVariants.{Memory, Store as failed}
-use Rattle.pt_requests.specs.declared.request.Answer.{Answer}
+use Rattle.pt_desk_store.specs.Store.{Store, ChangesNothing, Fails}
+use Rattle.pt_desk_store.specs.declared.keeper.StoreFault.{StoreFault}
+use Rattle.pt_desk_store.specs.declared.keeper.StoreFault.TheVariants.{Memory, Store as failed}
+use Rattle.pt_desk_requests.specs.declared.request.Answer.{Answer}
 use Rattle.pt_desk.specs.declared.running.Call.{Call}
 use Rattle.pt_desk.specs.Run.{AnswersCall, IsOnlyTold, IsOutcomeOf, Runs, AreOnlyTold, AreRefused, GoesOn}
 use Rattle.pt_desk.specs.Run.{made, AreAnswered, IsToldAfterACrash, RunsAreCalls, RunsLeaveAcceptedWrites, TellOfFailure}

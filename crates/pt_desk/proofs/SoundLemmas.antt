@@ -1,15 +1,15 @@
 -- An answer in a sound state leaves a sound state.
 use Rattle.std.proofs.Common.{◌≡◌, ◌⊎◌, ℕ, List, Option, None, Result, Ok, Err, arith, refl, sym, subst, inl, inr}
-use Rattle.pt_base.specs.declared.moment.Moment.{Moment}
+use Rattle.pt_base_values.specs.Moment.{Moment}
 use Rattle.pt_desk_rules.specs.State.{State}
 use Rattle.pt_desk_rules.specs.Step.{state_after, IsOutcome}
 use Rattle.pt_desk_rules.specs.Sound.{IsSound}
-use Rattle.pt_requests.specs.declared.request.Answer.{Answer}
-use Rattle.pt_requests.specs.declared.request.Request.{Request}
+use Rattle.pt_desk_requests.specs.declared.request.Answer.{Answer}
+use Rattle.pt_desk_requests.specs.declared.request.Request.{Request}
 use Rattle.pt_desk_laws.proofs.SoundLemmas.{request_sound}
-use Rattle.pt_store.specs.Store.{Store, Answers, Tells, IsFault}
-use Rattle.pt_store.specs.declared.keeper.StoreFault.{StoreFault}
-use Rattle.pt_store.specs.declared.keeper.StoreFault.TheVariants.{Memory, Store as failed}
+use Rattle.pt_desk_store.specs.Store.{Store, Answers, Tells, IsFault}
+use Rattle.pt_desk_store.specs.declared.keeper.StoreFault.{StoreFault}
+use Rattle.pt_desk_store.specs.declared.keeper.StoreFault.TheVariants.{Memory, Store as failed}
 
 abbrev Reply : Type 0
 Reply = Result Answer StoreFault

@@ -3,10 +3,10 @@ use Rattle.std.specs.Prelude.{◌≡◌, ◌⊎◌, ℕ, ◌<◌, ◌≤◌, Lis
 use Rattle.pt_desk_laws.specs.Numbers.{AreCalls, Call as Made}
 use Rattle.pt_desk_rules.specs.State.{State}
 use Rattle.pt_desk_rules.specs.Step.{state_after}
-use Rattle.pt_requests.specs.declared.request.Answer.{Answer}
-use Rattle.pt_store.specs.Store.{FindsContent, IsLeft, Store}
-use Rattle.pt_store.specs.declared.keeper.StoreFault.{StoreFault}
-use Rattle.pt_store.specs.declared.keeper.StoreFault.TheVariants.{Memory, Store as failed}
+use Rattle.pt_desk_requests.specs.declared.request.Answer.{Answer}
+use Rattle.pt_desk_store.specs.Store.{FindsContent, IsLeft, Store}
+use Rattle.pt_desk_store.specs.declared.keeper.StoreFault.{StoreFault}
+use Rattle.pt_desk_store.specs.declared.keeper.StoreFault.TheVariants.{Memory, Store as failed}
 use Rattle.pt_desk.specs.Run.{IsOutcomeOf}
 use Rattle.pt_desk.specs.declared.running.Call.{Call}
 

@@ -6,9 +6,9 @@ use Rattle.pt_desk_rules.specs.Step.{arrival_in, sender}
 use Rattle.pt_desk_rules.specs.declared.deciding.Decision.{Decision}
 use Rattle.pt_desk_rules.specs.declared.deciding.Decision.TheVariants.{Denied, Accepted}
 use Rattle.pt_desk_rules.specs.declared.kept.Arrival.TheVariants.{New}
-use Rattle.pt_requests.specs.declared.caller.Caller.{Caller}
-use Rattle.pt_requests.specs.declared.request.Write.{Write}
-use Rattle.pt_store.specs.Store.{IsByRules}
+use Rattle.pt_desk_requests.specs.declared.caller.Caller.{Caller}
+use Rattle.pt_desk_requests.specs.declared.request.Write.{Write}
+use Rattle.pt_desk_store.specs.Store.{IsByRules}
 
 -- the change of the decision, if it has one, is one that the rules make in this state
 abbrev pub ChangesByRules : Decision → State → Type 0

@@ -1,19 +1,19 @@
 -- Requests, their replies, and whole runs.
 use Rattle.std.specs.Prelude.{◌≡◌, ◌≢◌, ◌⊎◌, ℕ, ◌<◌, List, [], ◌∷◌, Option, Some, None, Result, Ok, Err}
 use Rattle.std.specs.Prelude.{IsOk}
-use Rattle.pt_store.specs.Records.{Each}
+use Rattle.pt_desk_store.specs.Records.{Each}
 use Rattle.pt_desk_laws.specs.Again.{IsToldAgain}
 use Rattle.pt_desk_laws.specs.Numbers.{committed, AreCalls, AreMadeBy, Call as Made}
 use Rattle.pt_desk_rules.specs.Sound.{IsSound}
 use Rattle.pt_desk_rules.specs.State.{State}
 use Rattle.pt_desk_rules.specs.Step.{IsOutcome, state_after}
-use Rattle.pt_requests.specs.declared.request.Answer.{Answer}
-use Rattle.pt_requests.specs.declared.request.Answer.TheVariants.{Denied}
-use Rattle.pt_requests.specs.declared.request.Request.{Request}
-use Rattle.pt_requests.specs.declared.request.Request.TheVariants.{Explain, Read, Write}
-use Rattle.pt_store.specs.Store.{Answers, IsSettled, Store, TellsBy}
-use Rattle.pt_store.specs.declared.keeper.StoreFault.{StoreFault}
-use Rattle.pt_store.specs.declared.keeper.StoreFault.TheVariants.{Memory, Store as Failed}
+use Rattle.pt_desk_requests.specs.declared.request.Answer.{Answer}
+use Rattle.pt_desk_requests.specs.declared.request.Answer.TheVariants.{Denied}
+use Rattle.pt_desk_requests.specs.declared.request.Request.{Request}
+use Rattle.pt_desk_requests.specs.declared.request.Request.TheVariants.{Explain, Read, Write}
+use Rattle.pt_desk_store.specs.Store.{Answers, IsSettled, Store, TellsBy}
+use Rattle.pt_desk_store.specs.declared.keeper.StoreFault.{StoreFault}
+use Rattle.pt_desk_store.specs.declared.keeper.StoreFault.TheVariants.{Memory, Store as Failed}
 use Rattle.pt_desk.specs.declared.running.Call.{Call}
 
 -- a request that only reads

@@ -1,24 +1,24 @@
 ghost use Rattle.std.specs.Prelude.{◌≡◌, ◌<◌, ◌≤◌, ℕ, Option, None, Err};
-ghost use Rattle.pt_spelling.specs.Ranges.{IsRequest};
+ghost use Rattle.pt_desk_spelling.specs.Ranges.{IsRequest};
 ghost use Rattle.pt_desk_rules.specs.Sound.{IsSound};
 ghost use Rattle.pt_desk_rules.specs.State.{State};
 ghost use Rattle.pt_desk_rules.specs.Step.{sent_with, told_of, left_of};
 ghost use Rattle.pt_desk_rules.specs.Step.{IsExplainOutcome, IsReadOutcome, IsDecidedOutcome, IsWriteOutcome};
 ghost use Rattle.pt_desk_rules.specs.Step.{IsOutcome};
-ghost use Rattle.pt_requests.specs.declared.request.Answer.{Answer};
-ghost use Rattle.pt_store.specs.Store.{Store, Answers, ChangesNothing, Fits, FitsSound, Goes, Reads, Fails};
-ghost use Rattle.pt_store.specs.Store.{IsSoundKept};
+ghost use Rattle.pt_desk_requests.specs.declared.request.Answer.{Answer};
+ghost use Rattle.pt_desk_store.specs.Store.{Store, Answers, ChangesNothing, Fits, FitsSound, Goes, Reads, Fails};
+ghost use Rattle.pt_desk_store.specs.Store.{IsSoundKept};
 ghost use Rattle.pt_desk.specs.Crash.{Lasts};
 ghost use Rattle.pt_desk.specs.Fitting.{ChangesByRules, IsNewBy, IsSentBy};
 ghost use Rattle.pt_desk.specs.Run.{IsDenial, IsRead};
 
 use crate::ruling::rule_on;
-use pt_base::{Moment, RiderId, Rule, Wish};
+use pt_base_values::{Moment, RiderId, Rule, Wish};
 use pt_desk_reads::{explain, tell};
+use pt_desk_requests::{Answer, Caller, Digest, Read, Request, Write};
 use pt_desk_rules::{Arrival, Decision, Sent, decide};
-use pt_requests::{Answer, Caller, Digest, Read, Request, Write};
-use pt_spelling::spell;
-use pt_store::{Keeper, Reply, StoreFault, gather_read, gather_wish};
+use pt_desk_spelling::spell;
+use pt_desk_store::{Keeper, Reply, StoreFault, gather_read, gather_wish};
 use std::alloc::Global;
 
 /// Answers a read.

@@ -1,7 +1,7 @@
 ghost use Rattle.pt_desk.specs.Refusals.{RefusalsAreTold};
 ghost use Rattle.pt_desk.specs.Run.{IsToldAfterACrash, RunsAreCalls, RunsLeaveAcceptedWrites};
 
-use pt_store::Keeper;
+use pt_desk_store::Keeper;
 
 /// A law: the answered calls of a run are a list of calls by the rules, with the answers in their replies. If the store
 /// has not failed, they lead to the state that is left. So the laws over lists of calls, such as that numbers rise,

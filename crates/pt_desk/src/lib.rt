@@ -7,7 +7,11 @@ pub use laws::{
     answers_outlive_crashes, refusals_are_told, runs_are_calls, runs_leave_accepted_writes,
 };
 pub use places::place_ids;
-pub use refusals::facts;
+pub use pt_desk_reads::Facts;
+pub use pt_desk_requests::{Request, Role};
+pub use pt_desk_rules::Change;
+pub use pt_desk_store::{Keeper, ListKeeper, Reply, StoreFault};
+pub use refusals::{facts, inquire};
 pub use running::{Call, run};
 
 mod answering;

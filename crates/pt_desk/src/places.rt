@@ -2,10 +2,10 @@ ghost use Rattle.std.specs.Prelude.{◌≡◌, IfOk, map};
 ghost use Rattle.std.specs.List.Sorted.{IsStrictlyIncreasing};
 ghost use Rattle.pt_desk_rules.specs.State.{place_key};
 ghost use Rattle.pt_desk.specs.Places.{numbers_in};
-ghost use Rattle.pt_store.specs.Store.{Fails, Reads};
+ghost use Rattle.pt_desk_store.specs.Store.{Fails, Reads};
 
-use pt_base::{Place, PlaceId};
-use pt_store::{Keeper, StoreFault};
+use pt_base_values::{Place, PlaceId};
+use pt_desk_store::{Keeper, StoreFault};
 use std::alloc::{AllocError, Global};
 
 /// The numbers of these places. The error is out of memory.

@@ -1,15 +1,15 @@
 ghost use Rattle.std.specs.Prelude.{◌≡◌, IfOk, None, Some};
-ghost use Rattle.pt_desk.specs.Refusals.{IsFacts, IsInquiryBy};
-ghost use Rattle.pt_store.specs.Store.{Store, Answers, ChangesNothing, Fails};
+ghost use Rattle.pt_desk.specs.Refusals.{GivesFacts, IsFacts, IsInquiryBy, IsQuestion};
+ghost use Rattle.pt_desk_store.specs.Store.{Store, Answers, ChangesNothing, Fails};
 
-use pt_base::{Moment, RiderId, Rule, Wish};
-use pt_desk_reads::{Inquiry, refusal_facts};
-use pt_requests::{Caller, Digest};
-use pt_store::{Keeper, StoreFault, gather_wish};
+use pt_base_values::{Moment, RiderId, Rule, Wish};
+use pt_desk_reads::{Facts, Inquiry, refusal_facts};
+use pt_desk_requests::{Answer, Caller, Digest, Request};
+use pt_desk_store::{Keeper, Reply, StoreFault, gather_wish};
 use std::alloc::Global;
 
 /// The facts of a refusal of a rider's wish, by the current plans.
-fn inquire<K: Keeper>(
+fn inquire_as<K: Keeper>(
     alloc: Global,
     keeper: &mut K,
     me: &Caller,
@@ -38,7 +38,7 @@ fn inquire_by_key<K: Keeper>(
     let Some(me) = keeper.caller_with(&Digest::of_key(key))? else {
         return Ok(Inquiry::Denied(Rule::Key));
     };
-    inquire(alloc, keeper, &me, now, rider, wish)
+    inquire_as(alloc, keeper, &me, now, rider, wish)
 }
 
 /// The facts of a refusal of a rider's wish: the vehicles on duty that day with their routes, the trip that they are
@@ -46,7 +46,7 @@ fn inquire_by_key<K: Keeper>(
 /// vehicle is looked at.
 ///
 /// `now` is the moment of the question. The error is the store's, or out of memory. Nothing is ever changed.
-pub fn facts<K: Keeper>(
+pub fn inquire<K: Keeper>(
     alloc: Global,
     keeper: &mut K,
     now: Moment,
@@ -65,4 +65,30 @@ pub fn facts<K: Keeper>(
         return Err(StoreFault::Store);
     }
     inquire_by_key(alloc, keeper, now, key, rider, wish)
+}
+
+/// The facts of a refusal, as `inquire` gives them, for the caller with this key who asks why a wish cannot be booked.
+/// Otherwise the reply: the first rule that denies the question before any vehicle is looked at, or the store's fault.
+///
+/// `now` is the moment of the question. Nothing is ever changed.
+pub fn facts<K: Keeper>(
+    alloc: Global,
+    keeper: &mut K,
+    now: Moment,
+    key: &[u8],
+    request: &Request,
+) -> Result<Facts, Reply>
+    requires { IsQuestion request.now }
+    ensures { GivesFacts key.now now request.now (K.store keeper.old) (K.store keeper.new) result }
+{
+    match request {
+        Request::Explain { rider, wish } => {
+            match inquire(alloc, keeper, now, key, *rider, wish) {
+                Ok(Inquiry::Facts(found)) => Ok(found),
+                Ok(Inquiry::Denied(rule)) => Err(Ok(Answer::Denied(rule))),
+                Err(fault) => Err(Err(fault)),
+            }
+        }
+        _ => unreachable!(),
+    }
 }

@@ -1,14 +1,14 @@
 ghost use Rattle.pt_desk_rules.specs.Deciding.{IsRuling};
 ghost use Rattle.pt_desk_rules.specs.Facts.{facts_of};
-ghost use Rattle.pt_store.specs.Store.{Store, ReadsSome};
+ghost use Rattle.pt_desk_store.specs.Store.{Store, ReadsSome};
 
-use pt_base::Moment;
+use pt_base_values::Moment;
+use pt_desk_requests::{Caller, Write};
 use pt_desk_rules::{
     Decision, decide_booking, decide_cancel, decide_change, decide_outcome, enter, put_caller,
     put_place, put_policy, put_rider, put_route, put_travel, put_vehicle,
 };
-use pt_requests::{Caller, Write};
-use pt_store::{
+use pt_desk_store::{
     Keeper, StoreFault, gather_caller, gather_cancel, gather_change, gather_entry, gather_new_trip,
     gather_place, gather_rider, gather_route, gather_travel, gather_vehicle,
 };
@@ -44,11 +44,11 @@ pub(crate) fn rule_on<K: Keeper>(
             Ok(put_travel(alloc, &facts, me, *day, rows)?)
         }
         Write::Book { rider, wish } => {
-            let facts = gather_new_trip(alloc, keeper, *rider, wish)?;
+            let facts = gather_new_trip(alloc, keeper, me, now, *rider, wish)?;
             Ok(decide_booking(alloc, &facts, me, now, *rider, wish)?)
         }
         Write::Change { trip, wish } => {
-            let facts = gather_change(alloc, keeper, *trip, wish)?;
+            let facts = gather_change(alloc, keeper, me, now, *trip, wish)?;
             Ok(decide_change(alloc, &facts, me, now, wish)?)
         }
         Write::Cancel(trip) => {

@@ -1,14 +1,16 @@
-ghost use Rattle.std.specs.Prelude.{◌≡◌, ◌<◌, ◌≤◌, IfOk, OnErr};
-ghost use Rattle.pt_store.specs.Store.{Store, Answers, ChangesNothing, Fails, FindsContent, FitsSound, IsSettled};
-ghost use Rattle.pt_store.specs.Store.{IsSoundKept};
+ghost use Rattle.std.specs.Prelude.{◌≡◌, ◌<◌, ◌≤◌, IfOk, OnErr, IfErr};
+ghost use Rattle.pt_base_values.specs.Fault.{fault};
+ghost use Rattle.pt_base_values.specs.declared.fault.Cause.TheVariants as cause;
+ghost use Rattle.pt_desk_store.specs.Store.{Store, Answers, ChangesNothing, Fails, FindsContent, FitsSound, IsSettled};
+ghost use Rattle.pt_desk_store.specs.Store.{IsSoundKept};
 ghost use Rattle.pt_desk.specs.Crash.{FindsAfter, Lasts};
 ghost use Rattle.pt_desk.specs.Run.{AreOnlyTold, GoesOn, IsOnlyTold, IsOutcomeOf, TellOfFailure};
 
 use crate::answer;
-use pt_base::Moment;
-use pt_requests::Request;
-use pt_store::{Keeper, Reply};
-use std::alloc::{AllocError, Global};
+use pt_base_values::{Fault, Moment};
+use pt_desk_requests::Request;
+use pt_desk_store::{Keeper, Reply};
+use std::alloc::Global;
 
 /// A request as it comes: its moment, the caller's key, and the caller's number for it.
 #[derive(Drop)]
@@ -46,11 +48,7 @@ fn answer_call<K: Keeper>(alloc: Global, keeper: &mut K, call: &Call) -> Reply
 /// The list of replies is allocated first. If that fails, no call is answered. If the store is shut when the run ends,
 /// it has failed, or a reply is out of memory and the store serves no more. No program calls this; it states for a list
 /// what `answer` states for a request.
-pub fn run<K: Keeper>(
-    alloc: Global,
-    keeper: &mut K,
-    calls: &[Call],
-) -> Result<Vec<Reply>, AllocError>
+pub fn run<K: Keeper>(alloc: Global, keeper: &mut K, calls: &[Call]) -> Result<Vec<Reply>, Fault>
     ensures runs { (K.store keeper.new).doubt ≡ 0
         → IfOk result (λ replies. GoesOn (K.store keeper.old).failures (K.store keeper.old).content calls.now
         replies.items (K.store keeper.new).content) }
@@ -74,6 +72,7 @@ pub fn run<K: Keeper>(
     ensures sound { IsSoundKept (K.store keeper.old) (K.store keeper.new) }
     ensures fits { FitsSound (K.store keeper.old) (K.store keeper.new) }
     ensures err { OnErr result (keeper.new ≡ keeper.old) }
+    ensures memory { IfErr result (λ refused. refused ≡ fault cause.Memory) }
 {
     let mut replies = Vec::with_capacity(alloc, calls.len())?;
     for call in calls {

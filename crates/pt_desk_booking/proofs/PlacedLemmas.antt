@@ -4,33 +4,33 @@ use Rattle.std.proofs.Common.{Some, None, IsSome, IfNone, Result, Ok, Err, IsErr
 use Rattle.std.proofs.Common.{◌↔◌, arith}
 use Rattle.std.proofs.lemmas.Bool.{false≢true}
 use Rattle.std.proofs.lemmas.List.Elements.{All-map}
-use Rattle.pt_base.specs.declared.rule.Rule.{Rule}
-use Rattle.pt_base.specs.declared.rule.Rule.TheVariants.{NoVehicle}
-use Rattle.pt_base.specs.declared.trip.Trip.{Trip}
-use Rattle.pt_base.specs.declared.vehicle.Vehicle.{Vehicle}
+use Rattle.pt_base_values.specs.declared.rule.Rule.{Rule}
+use Rattle.pt_base_values.specs.declared.rule.Rule.TheVariants.{NoVehicle}
+use Rattle.pt_base_values.specs.declared.trip.Trip.{Trip}
+use Rattle.pt_base_values.specs.declared.vehicle.Vehicle.{Vehicle}
 use Rattle.pt_feasible.specs.Loads.{LoadsFit}
 use Rattle.pt_feasible.specs.Route.{stops_of}
 use Rattle.pt_feasible.specs.ServiceTimes.{IsLeastSchedule}
 use Rattle.pt_feasible.specs.Visit.{stop_visit}
 use Rattle.pt_feasible.specs.declared.stop.Stop.{Stop}
-use Rattle.pt_insertion.specs.Asked.{pickup_stop}
-use Rattle.pt_insertion.specs.Choice.{IsChosenIn, IsBestIn}
-use Rattle.pt_insertion.specs.Insertion.{with_trip}
-use Rattle.pt_insertion.specs.Possible.{IsPossible}
-use Rattle.pt_insertion.specs.declared.asked.Asked.{Asked}
-use Rattle.pt_insertion.specs.declared.chosen.Chosen.{Chosen}
-use Rattle.pt_insertion.specs.declared.duty.Duty.{Duty}
-use Rattle.pt_insertion.proofs.InsertionLemmas.{length-with_trip}
-use Rattle.pt_booking.specs.Booking.{promised_at, planned_pickup, IsAllowed, IsNewRoute, IsTripIn, IsTripOf}
-use Rattle.pt_booking.specs.Planning.{OnDuty, on_duty, asked_for, asked_of, SomeVehicleCan, IsBestPlace, booking_rules}
-use Rattle.pt_booking.specs.Request.{Request}
-use Rattle.pt_booking.specs.Rules.{IsFirstFailing, riders_rules}
-use Rattle.pt_booking.specs.declared.booking.BookingDecision.{BookingDecision}
-use Rattle.pt_booking.specs.declared.booking.BookingDecision.TheVariants.{Denied}
-use Rattle.pt_base.specs.declared.window.Window.{Window}
-use Rattle.pt_booking.proofs.DutyLemmas.{Any-map, no_any, same-duty}
-use Rattle.pt_booking.proofs.RuleLemmas.{first-unique, first-behind}
-use Rattle.pt_booking.proofs.WindowLemmas.{moved, pickup-visit, moved-loads, moved-least}
+use Rattle.pt_insertion_search.specs.Asked.{pickup_stop}
+use Rattle.pt_insertion_search.specs.Choice.{IsChosenIn, IsBestIn}
+use Rattle.pt_insertion_search.specs.Insertion.{with_trip}
+use Rattle.pt_insertion_search.specs.Possible.{IsPossible}
+use Rattle.pt_insertion_search.specs.declared.asked.Asked.{Asked}
+use Rattle.pt_insertion_search.specs.declared.chosen.Chosen.{Chosen}
+use Rattle.pt_insertion_search.specs.declared.duty.Duty.{Duty}
+use Rattle.pt_insertion_search.proofs.InsertionLemmas.{length-with_trip}
+use Rattle.pt_desk_booking.specs.Booking.{promised_at, planned_pickup, IsAllowed, IsNewRoute, IsTripIn, IsTripOf}
+use Rattle.pt_desk_booking.specs.Planning.{OnDuty, on_duty, asked_for, asked_of, SomeVehicleCan, IsBestPlace, booking_rules}
+use Rattle.pt_desk_booking.specs.Request.{Request}
+use Rattle.pt_desk_booking.specs.Rules.{IsFirstFailing, riders_rules}
+use Rattle.pt_desk_booking.specs.declared.booking.BookingDecision.{BookingDecision}
+use Rattle.pt_desk_booking.specs.declared.booking.BookingDecision.TheVariants.{Denied}
+use Rattle.pt_base_values.specs.declared.window.Window.{Window}
+use Rattle.pt_desk_booking.proofs.DutyLemmas.{Any-map, no_any, same-duty}
+use Rattle.pt_desk_booking.proofs.RuleLemmas.{first-unique, first-behind}
+use Rattle.pt_desk_booking.proofs.WindowLemmas.{moved, pickup-visit, moved-loads, moved-least}
 
 -- the vehicle and the route of a duty
 abbrev lent : Duty → OnDuty

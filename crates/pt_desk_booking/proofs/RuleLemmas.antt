@@ -1,9 +1,9 @@
 -- The first failing rule of a list: there is one answer, and tests of each rule find it.
 use Rattle.std.proofs.Common.{◌≡◌, Bool, true, false, List, [], ◌∷◌, ◌++◌, ◌↔◌, Option, Some, None, IsTrue, inl, inr, refl, ap, sym, ◌∙◌}
 use Rattle.std.proofs.lemmas.Bool.{false≢true}
-use Rattle.pt_base.specs.declared.rule.Rule.{Rule}
-use Rattle.pt_rights.specs.Rules.{first_failing}
-use Rattle.pt_booking.specs.Rules.{IsFirstFailing}
+use Rattle.pt_base_values.specs.declared.rule.Rule.{Rule}
+use Rattle.pt_rights_files.specs.Rules.{first_failing}
+use Rattle.pt_desk_booking.specs.Rules.{IsFirstFailing}
 
 -- a rule that fails is the first
 pub first-here : (rule : Rule) (P : Type 0) (rules : List (Rule × Type 0)) → ¬ P → IsFirstFailing ((rule, P) ∷ rules) (Some rule)

@@ -6,22 +6,22 @@ use Rattle.std.specs.Option.{option_map, IsSomeAnd}
 use Rattle.std.proofs.lemmas.Bool.{cases_eq, cases_lt, false≢true}
 use Rattle.std.proofs.lemmas.List.{length-map}
 use Rattle.std.proofs.lemmas.Option.{same_Some, slice_get-map}
-use Rattle.pt_base.specs.declared.vehicle.Vehicle.{Vehicle}
+use Rattle.pt_base_values.specs.declared.vehicle.Vehicle.{Vehicle}
 use Rattle.pt_feasible.specs.declared.stop.Stop.{Stop}
 use Rattle.pt_feasible.specs.declared.visit.Visit.{Visit}
-use Rattle.pt_base.specs.Load.{load_difference, FitsWithin}
-use Rattle.pt_base.specs.declared.load.Load.{Load}
+use Rattle.pt_base_values.specs.Load.{load_difference, FitsWithin}
+use Rattle.pt_base_values.specs.declared.load.Load.{Load}
 use Rattle.pt_feasible.specs.Loads.{total_load, load_aboard, LoadsFit}
 use Rattle.pt_feasible.specs.ServiceTimes.{TimesFit, IsLeastSchedule}
 use Rattle.pt_feasible.specs.Stop.{is_pickup, is_drop, takes_aboard, lets_leave}
 use Rattle.pt_feasible.specs.declared.stop.StopKind.{StopKind}
 use Rattle.pt_feasible.specs.Visit.{visits, depot_visit, stop_visit}
 use Rattle.pt_feasible.proofs.VisitLemmas.{visits-stop}
-use Rattle.pt_insertion.specs.Asked.{pickup_stop, drop_stop}
-use Rattle.pt_insertion.specs.Insertion.{with_trip}
-use Rattle.pt_insertion.specs.declared.asked.Asked.{Asked}
-use Rattle.pt_insertion.proofs.InsertionLemmas.{length-with_trip, with_trip_before, with_trip_pickup, with_trip_between, with_trip_drop, with_trip_after}
-use Rattle.pt_base.specs.declared.window.Window.{Window}
+use Rattle.pt_insertion_search.specs.Asked.{pickup_stop, drop_stop}
+use Rattle.pt_insertion_search.specs.Insertion.{with_trip}
+use Rattle.pt_insertion_search.specs.declared.asked.Asked.{Asked}
+use Rattle.pt_insertion_search.proofs.InsertionLemmas.{length-with_trip, with_trip_before, with_trip_pickup, with_trip_between, with_trip_drop, with_trip_after}
+use Rattle.pt_base_values.specs.declared.window.Window.{Window}
 
 -- the same trip with its pickup in this window
 abbrev pub moved : Asked → Window → Asked

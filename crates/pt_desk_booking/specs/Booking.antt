@@ -1,21 +1,21 @@
 -- A trip that is booked, and its vehicle's new route.
 use Rattle.std.specs.Prelude.{◌≡◌, ℕ, ◌+◌, ◌↔◌, Bool, IsTrue, List, Option, Result, Ok, Err, slice_index}
-use Rattle.pt_base.specs.declared.trip.Trip.{Trip}
-use Rattle.pt_base.specs.declared.trip_status.TripStatus.TheVariants as status
+use Rattle.pt_base_values.specs.declared.trip.Trip.{Trip}
+use Rattle.pt_base_values.specs.declared.trip_status.TripStatus.TheVariants as status
 use Rattle.pt_corridor.specs.Corridor.{HasOneRoute}
 use Rattle.pt_feasible.specs.Loads.{LoadsFit}
 use Rattle.pt_feasible.specs.ServiceTimes.{IsLeastSchedule}
 use Rattle.pt_feasible.specs.declared.stop.Stop.{Stop}
-use Rattle.pt_insertion.specs.Insertion.{with_trip}
-use Rattle.pt_insertion.specs.declared.chosen.Chosen.{Chosen}
+use Rattle.pt_insertion_search.specs.Insertion.{with_trip}
+use Rattle.pt_insertion_search.specs.declared.chosen.Chosen.{Chosen}
 use Rattle.pt_party.specs.Fare.{fare_of}
-use Rattle.pt_booking.specs.Planning.{OnDuty, asked_of, ride_limit}
-use Rattle.pt_booking.specs.Request.{Request}
-use Rattle.pt_booking.specs.Window.{wished_window, promised_window}
-use Rattle.pt_booking.specs.declared.booking.Booking.{Booking}
-use Rattle.pt_booking.specs.declared.booking.BookingDecision.{BookingDecision}
-use Rattle.pt_booking.specs.declared.booking.BookingDecision.TheVariants.{Booked, Denied}
-use Rattle.pt_base.specs.declared.window.Window.{Window}
+use Rattle.pt_desk_booking.specs.Planning.{OnDuty, asked_of, ride_limit}
+use Rattle.pt_desk_booking.specs.Request.{Request}
+use Rattle.pt_desk_booking.specs.Window.{wished_window, promised_window}
+use Rattle.pt_desk_booking.specs.declared.booking.Booking.{Booking}
+use Rattle.pt_desk_booking.specs.declared.booking.BookingDecision.{BookingDecision}
+use Rattle.pt_desk_booking.specs.declared.booking.BookingDecision.TheVariants.{Booked, Denied}
+use Rattle.pt_base_values.specs.declared.window.Window.{Window}
 
 -- the fare, by whether one route that runs at the day and the wished minute joins both ends (49 CFR 37.131(c)(1))
 abbrev pub IsFare : Request → ℕ → Type 0

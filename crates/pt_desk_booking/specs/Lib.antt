@@ -3,4 +3,4 @@ pub mod Window
 pub mod Rules
 pub mod Planning
 pub mod Booking
-pub use Rattle.pt_visitors.specs.Periods
+pub use Rattle.pt_rights_visitors.specs.Periods

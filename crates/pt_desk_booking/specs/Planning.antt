@@ -1,21 +1,21 @@
 -- Planning the trip of a request: the vehicles on duty, what is asked of them, and whether one can take it.
 use Rattle.std.specs.Prelude.{ℕ, ◌+◌, List, [], ◌∷◌, ◌++◌, map, Any, All, Option, unwrap_or}
-use Rattle.pt_base.specs.Ranges.{last_minute}
-use Rattle.pt_base.specs.declared.rule.Rule.{Rule}
-use Rattle.pt_base.specs.declared.rule.Rule.TheVariants.{NoVehicle}
-use Rattle.pt_base.specs.declared.trip.Trip.{Trip}
-use Rattle.pt_base.specs.declared.vehicle.Vehicle.{Vehicle}
+use Rattle.pt_base_values.specs.Ranges.{last_minute}
+use Rattle.pt_base_values.specs.declared.rule.Rule.{Rule}
+use Rattle.pt_base_values.specs.declared.rule.Rule.TheVariants.{NoVehicle}
+use Rattle.pt_base_values.specs.declared.trip.Trip.{Trip}
+use Rattle.pt_base_values.specs.declared.vehicle.Vehicle.{Vehicle}
 use Rattle.pt_feasible.specs.Route.{stops_of}
 use Rattle.pt_feasible.specs.declared.stop.Stop.{Stop}
-use Rattle.pt_insertion.specs.Choice.{IsChosenIn, IsBestIn}
-use Rattle.pt_insertion.specs.Possible.{IsPossible}
-use Rattle.pt_insertion.specs.declared.asked.Asked.{Asked}
-use Rattle.pt_insertion.specs.declared.chosen.Chosen.{Chosen}
-use Rattle.pt_insertion.specs.declared.duty.Duty.{Duty}
+use Rattle.pt_insertion_search.specs.Choice.{IsChosenIn, IsBestIn}
+use Rattle.pt_insertion_search.specs.Possible.{IsPossible}
+use Rattle.pt_insertion_search.specs.declared.asked.Asked.{Asked}
+use Rattle.pt_insertion_search.specs.declared.chosen.Chosen.{Chosen}
+use Rattle.pt_insertion_search.specs.declared.duty.Duty.{Duty}
 use Rattle.pt_party.specs.Party.{load_of}
-use Rattle.pt_booking.specs.Request.{Request, party_of}
-use Rattle.pt_booking.specs.Rules.{riders_rules}
-use Rattle.pt_booking.specs.Window.{wished_window}
+use Rattle.pt_desk_booking.specs.Request.{Request, party_of}
+use Rattle.pt_desk_booking.specs.Rules.{riders_rules}
+use Rattle.pt_desk_booking.specs.Window.{wished_window}
 
 -- a vehicle on duty on the trip's day, and the stops of its route of that day
 pub record OnDuty : Type 0 where

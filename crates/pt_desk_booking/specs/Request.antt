@@ -1,13 +1,13 @@
 -- A requested trip, with all that its rules use except vehicles and driving times.
 use Rattle.std.specs.Prelude.{ℕ, List}
-use Rattle.pt_base.specs.declared.place.Place.{Place}
-use Rattle.pt_base.specs.declared.policy.Policy.{Policy}
-use Rattle.pt_base.specs.declared.rider.Rider.{Rider}
-use Rattle.pt_base.specs.declared.trip.Wish.{Wish}
+use Rattle.pt_base_values.specs.declared.place.Place.{Place}
+use Rattle.pt_base_values.specs.declared.policy.Policy.{Policy}
+use Rattle.pt_base_values.specs.declared.rider.Rider.{Rider}
+use Rattle.pt_base_values.specs.declared.trip.Wish.{Wish}
 use Rattle.pt_corridor.specs.Route.{FixedRoute}
 use Rattle.pt_party.specs.declared.party.Party.{Party}
-use Rattle.pt_rights.specs.declared.entry.Entered.{Entered}
-use Rattle.pt_booking.specs.declared.request.TripRequest.{TripRequest}
+use Rattle.pt_rights_files.specs.declared.entry.Entered.{Entered}
+use Rattle.pt_desk_booking.specs.declared.request.TripRequest.{TripRequest}
 
 -- A request: the number that the trip is to have, the rider's record, case file and days of use, and the agency's
 -- policy and fixed routes. It also has the places of the trip's two ends, the day today, and the wish.

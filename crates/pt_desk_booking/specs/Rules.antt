@@ -1,19 +1,19 @@
 -- The rules of a booking by riders, days and places, in the order in which they are tried.
 use Rattle.std.specs.Prelude.{◌≡◌, ◌≢◌, false, List, [], ◌∷◌, ◌⊎◌, Option, Some, None}
-use Rattle.pt_base.specs.Day.{IsBookable}
-use Rattle.pt_base.specs.declared.rider.Residence.{Residence}
-use Rattle.pt_base.specs.declared.rider.Residence.TheVariants.{Resident, Visitor}
-use Rattle.pt_base.specs.declared.rule.Rule.{Rule}
-use Rattle.pt_base.specs.declared.rule.Rule.TheVariants as rule
-use Rattle.pt_conditions.specs.Trips.{Qualifies}
+use Rattle.pt_base_values.specs.Day.{IsBookable}
+use Rattle.pt_base_values.specs.declared.rider.Residence.{Residence}
+use Rattle.pt_base_values.specs.declared.rider.Residence.TheVariants.{Resident, Visitor}
+use Rattle.pt_base_values.specs.declared.rule.Rule.{Rule}
+use Rattle.pt_base_values.specs.declared.rule.Rule.TheVariants as rule
+use Rattle.pt_rights_conditions.specs.Trips.{Qualifies}
 use Rattle.pt_corridor.specs.Corridor.{IsServed, IsServedAt}
 use Rattle.pt_party.specs.Party.{MayTravel}
-use Rattle.pt_rights.specs.Standing.{standing_of}
-use Rattle.pt_rights.specs.Suspension.{is_suspended}
-use Rattle.pt_rights.specs.declared.case_file.Standing.{Standing}
-use Rattle.pt_rights.specs.declared.case_file.Standing.TheVariants as standing
-use Rattle.pt_visitors.specs.Periods.{MayUse}
-use Rattle.pt_booking.specs.Request.{Request, party_of}
+use Rattle.pt_rights_files.specs.Standing.{standing_of}
+use Rattle.pt_rights_files.specs.Suspension.{is_suspended}
+use Rattle.pt_rights_files.specs.declared.case_file.Standing.{Standing}
+use Rattle.pt_rights_files.specs.declared.case_file.Standing.TheVariants as standing
+use Rattle.pt_rights_visitors.specs.Periods.{MayUse}
+use Rattle.pt_desk_booking.specs.Request.{Request, party_of}
 
 -- the first rule that does not hold, of an ordered list of rules, each with its condition; None if all hold
 abbrev pub IsFirstFailing : List (Rule × Type 0) → Option Rule → Type 0

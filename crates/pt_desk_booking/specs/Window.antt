@@ -1,7 +1,7 @@
 -- Windows of a pickup, in minutes of the day.
 use Rattle.std.specs.Prelude.{ℕ, ◌+◌, ◌-◌, max, min}
-use Rattle.pt_base.specs.Ranges.{last_minute}
-use Rattle.pt_base.specs.declared.window.Window.{Window}
+use Rattle.pt_base_values.specs.Ranges.{last_minute}
+use Rattle.pt_base_values.specs.declared.window.Window.{Window}
 
 -- How far from the wished minute a pickup may be planned: one hour, the most that 49 CFR 37.131(b)(2) allows an agency.
 -- The desk uses all of it by our choice.

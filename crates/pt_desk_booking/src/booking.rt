@@ -1,23 +1,23 @@
 ghost use Rattle.std.specs.Prelude.{◌≡◌, ◌≢◌, ◌+◌, ◌<◌, ◌≤◌, ◌↔◌, All, AllPairs, Any, Contains, IfSome, IfNone};
 ghost use Rattle.std.specs.Prelude.{IfOk, None, Some, length, slice_index};
 ghost use Rattle.std.specs.List.Sorted.{IsStrictlyIncreasing};
-ghost use Rattle.pt_base.specs.Ranges.{highest_fare, last_minute};
-ghost use Rattle.pt_base.specs.declared.rule.Rule.{Rule};
+ghost use Rattle.pt_base_values.specs.Ranges.{highest_fare, last_minute};
+ghost use Rattle.pt_base_values.specs.declared.rule.Rule.{Rule};
 ghost use Rattle.pt_feasible.specs.Route.{stops_of};
-ghost use Rattle.pt_insertion.specs.Choice.{IsChosenIn};
-ghost use Rattle.pt_insertion.specs.Insertion.{IsWithout};
+ghost use Rattle.pt_insertion_search.specs.Choice.{IsChosenIn};
+ghost use Rattle.pt_insertion_search.specs.Insertion.{IsWithout};
 ghost use Rattle.pt_party.specs.Party.{MayTravel};
-ghost use Rattle.pt_booking.specs.Booking as spec;
-ghost use Rattle.pt_booking.specs.Planning.{asked_for, booking_rules, on_duty, IsBestPlace};
-ghost use Rattle.pt_booking.specs.Request.{party_of, request_of};
-ghost use Rattle.pt_booking.specs.Rules.{IsFirstFailing};
+ghost use Rattle.pt_desk_booking.specs.Booking as spec;
+ghost use Rattle.pt_desk_booking.specs.Planning.{asked_for, booking_rules, on_duty, IsBestPlace};
+ghost use Rattle.pt_desk_booking.specs.Request.{party_of, request_of};
+ghost use Rattle.pt_desk_booking.specs.Rules.{IsFirstFailing};
 
 use crate::planning::ride_limit;
 use crate::{TripRequest, asked_for, asked_of, promised_window, riders_denial, wished_window};
-use pt_base::{Minute, Rule, Trip, TripStatus, VehicleId, Window};
+use pt_base_values::{Minute, Rule, Trip, TripStatus, VehicleId, Window};
 use pt_corridor::one_route;
 use pt_feasible::Route;
-use pt_insertion::{Chosen, Duty, RouteEdits, best};
+use pt_insertion_search::{Chosen, Duty, RouteEdits, best};
 use pt_party::fare;
 use pt_travel::Times;
 use std::alloc::{AllocError, Global};
@@ -105,7 +105,9 @@ fn placed_at<T: Times>(
     let duty = duty_of(duties, chosen.vehicle).unwrap();
     let promised = promised_at(request, chosen);
     let trip = trip_at(request, times, chosen.vehicle, &promised);
-    let route = duty.route.inserted(alloc, &asked_of(&trip), chosen)?;
+    let Ok(route) = duty.route.inserted(alloc, &asked_of(&trip), chosen) else {
+        return Err(AllocError);
+    };
     Ok((trip, route))
 }
 

@@ -1,11 +1,11 @@
 ghost use Rattle.std.specs.Prelude.{◌≡◌, ◌≤◌, unwrap_or};
-ghost use Rattle.pt_base.specs.Ranges.{last_minute};
-ghost use Rattle.pt_booking.specs.Request.{request_of};
-ghost use Rattle.pt_booking.specs.Planning as spec;
+ghost use Rattle.pt_base_values.specs.Ranges.{last_minute};
+ghost use Rattle.pt_desk_booking.specs.Request.{request_of};
+ghost use Rattle.pt_desk_booking.specs.Planning as spec;
 
 use crate::{TripRequest, party_of, wished_window};
-use pt_base::{LAST_MINUTE, Minute, Trip, Wish};
-use pt_insertion::Asked;
+use pt_base_values::{LAST_MINUTE, Minute, Trip, Wish};
+use pt_insertion_search::Asked;
 use pt_party::load;
 use pt_travel::Times;
 

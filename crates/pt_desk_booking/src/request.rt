@@ -1,10 +1,10 @@
 ghost use Rattle.std.specs.Prelude.{◌≡◌};
-ghost use Rattle.pt_booking.specs.Request.{party_of};
+ghost use Rattle.pt_desk_booking.specs.Request.{party_of};
 
-use pt_base::{Day, Place, Policy, Rider, TripId, Wish};
+use pt_base_values::{Day, Place, Policy, Rider, TripId, Wish};
 use pt_corridor::FixedRoute;
 use pt_party::Party;
-use pt_rights::CaseFile;
+use pt_rights_files::CaseFile;
 
 /// A requested trip, with all that its rules use except vehicles and driving times.
 #[derive(Clone, Copy)]

@@ -1,17 +1,17 @@
 ghost use Rattle.std.specs.Prelude.{◌≡◌, ◌↔◌, IsTrue};
 ghost use Rattle.std.specs.List.Sorted.{IsStrictlyIncreasing};
 ghost use Rattle.pt_corridor.specs.Corridor.{IsServed, IsServedAt};
-ghost use Rattle.pt_rights.specs.Rules as tested;
-ghost use Rattle.pt_booking.specs.Request.{request_of};
-ghost use Rattle.pt_booking.specs.Rules as spec;
+ghost use Rattle.pt_rights_files.specs.Rules as tested;
+ghost use Rattle.pt_desk_booking.specs.Request.{request_of};
+ghost use Rattle.pt_desk_booking.specs.Rules as spec;
 
 use crate::{TripRequest, party_of};
-use pt_base::{Residence, Rule, bookable};
-use pt_conditions::qualifies;
+use pt_base_values::{Residence, Rule, bookable};
 use pt_corridor::{runs, served};
 use pt_party::party_rule;
-use pt_rights::Standing;
-use pt_visitors::visitor_may;
+use pt_rights_conditions::qualifies;
+use pt_rights_files::Standing;
+use pt_rights_visitors::visitor_may;
 
 /// The first rule that a request fails, of those that need no vehicle; `None` if it fails none of them.
 ///

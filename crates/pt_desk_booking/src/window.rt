@@ -1,8 +1,8 @@
 ghost use Rattle.std.specs.Prelude.{◌≡◌, ◌+◌, ◌-◌, min};
-ghost use Rattle.pt_base.specs.Ranges.{last_minute};
-ghost use Rattle.pt_booking.specs.Window as spec;
+ghost use Rattle.pt_base_values.specs.Ranges.{last_minute};
+ghost use Rattle.pt_desk_booking.specs.Window as spec;
 
-use pt_base::{LAST_MINUTE, Minute, Window};
+use pt_base_values::{LAST_MINUTE, Minute, Window};
 
 /// The most minutes between the wished and the planned pickup.
 const WISHED_LEEWAY: u16 = 60;

@@ -5,13 +5,13 @@ use Rattle.std.specs.List.{list_any}
 use Rattle.std.proofs.lemmas.Bool.{and_parts, or_left, or_right}
 use Rattle.std.proofs.lemmas.Bool.Decides.{nat_tests}
 use Rattle.pt_desk_rules.specs.Vehicle.{Vehicle}
-use Rattle.pt_records.specs.Keys.{pair_key}
-use Rattle.pt_records.specs.Records.{Each, IsInOrder}
-use Rattle.pt_records.proofs.OrderLemmas.{Each-weaker}
-use Rattle.pt_records.proofs.SplitLemmas.{later_key}
-use Rattle.pt_records.proofs.TableLemmas.{Each-filter, IsInOrder-filter}
-use Rattle.pt_scheduling.specs.Plan.{IsRoutePlan}
-use Rattle.pt_scheduling.proofs.RouteLemmas.{are_routes}
+use Rattle.pt_base_records.specs.Keys.{pair_key}
+use Rattle.pt_base_records.specs.Records.{Each, IsInOrder}
+use Rattle.pt_base_records.proofs.OrderLemmas.{Each-weaker}
+use Rattle.pt_base_records.proofs.SplitLemmas.{later_key}
+use Rattle.pt_base_records.proofs.TableLemmas.{Each-filter, IsInOrder-filter}
+use Rattle.pt_desk_scheduling.specs.Plan.{IsRoutePlan}
+use Rattle.pt_desk_scheduling.proofs.RouteLemmas.{are_routes}
 use Rattle.pt_desk_rules.specs.Booking.{HasRoutes}
 use Rattle.pt_desk_rules.specs.Fleet.{has_weekday, in_force, is_in_force, is_newer, on_duty}
 use Rattle.pt_desk_rules.specs.Planned.{planned_on, trips_on}

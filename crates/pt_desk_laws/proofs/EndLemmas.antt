@@ -5,19 +5,19 @@ use Rattle.pt_desk_rules.specs.TripStatuses.{stands}
 use Rattle.pt_desk_rules.specs.Trip.{Trip}
 use Rattle.pt_desk_rules.specs.TripStatus.{TripStatus}
 use Rattle.pt_desk_rules.specs.TripStatus.TheVariants.{Booked}
-use Rattle.pt_records.specs.Keys.{pair_key}
-use Rattle.pt_records.specs.Records.{put, record_at, Each}
-use Rattle.pt_records.proofs.OrderLemmas.{record_at-put_other, record_at-put_same, Each-put, Each-weaker, IsInOrder-put}
-use Rattle.pt_records.proofs.TableLemmas.{same_or_other}
+use Rattle.pt_base_records.specs.Keys.{pair_key}
+use Rattle.pt_base_records.specs.Records.{put, record_at, Each}
+use Rattle.pt_base_records.proofs.OrderLemmas.{record_at-put_other, record_at-put_same, Each-put, Each-weaker, IsInOrder-put}
+use Rattle.pt_base_records.proofs.TableLemmas.{same_or_other}
 use Rattle.pt_desk_rules.specs.Outcome.{Outcome}
 use Rattle.pt_desk_rules.specs.Outcome.TheVariants as outcome
 use Rattle.pt_desk_rules.specs.Stop.{Stop}
 use Rattle.pt_desk_rules.specs.StopKind.{StopKind}
 use Rattle.pt_desk_rules.specs.StopKind.TheVariants.{Pickup, Drop}
-use Rattle.pt_scheduling.specs.Plan.{Plan, after_stop, plan_key, stops_among, trip_stop}
-use Rattle.pt_scheduling.specs.declared.planned.PlannedStop.{PlannedStop}
-use Rattle.pt_scheduling.proofs.PlanLemmas.{found_key}
-use Rattle.pt_scheduling.proofs.RouteLemmas.{Each-found}
+use Rattle.pt_desk_scheduling.specs.Plan.{Plan, after_stop, plan_key, stops_among, trip_stop}
+use Rattle.pt_desk_scheduling.specs.declared.planned.PlannedStop.{PlannedStop}
+use Rattle.pt_desk_scheduling.proofs.PlanLemmas.{found_key}
+use Rattle.pt_desk_scheduling.proofs.RouteLemmas.{Each-found}
 use Rattle.pt_desk_rules.specs.Outcomes.{ended, status_of}
 use Rattle.pt_desk_rules.specs.Sound.{IsSound, IsNumberedTo, HasPlaces, HasStandingTrips, IsOfRider, IsPlanned, StandsIn}
 use Rattle.pt_desk_rules.specs.State.{State, trip_key, trip_of}

@@ -7,20 +7,20 @@ use Rattle.pt_desk_rules.specs.Day.{IsDay}
 use Rattle.pt_desk_rules.specs.TripStatuses.{stands}
 use Rattle.pt_desk_rules.specs.Trip.{Trip}
 use Rattle.pt_desk_rules.specs.Vehicle.{Vehicle}
-use Rattle.pt_booking.specs.Request as request_of
+use Rattle.pt_desk_booking.specs.Request as request_of
 use Rattle.pt_desk_rules.specs.Loads.{LoadsFit}
 use Rattle.pt_desk_rules.specs.Stop.{Stop}
-use Rattle.pt_records.specs.Keys.{pair_key}
-use Rattle.pt_records.specs.Records.{is_within, put, record_at, take_away, Each, IsInOrder}
-use Rattle.pt_records.proofs.OrderLemmas.{record_at-put_other, record_at-put_same, Each-both, Each-weaker}
-use Rattle.pt_records.proofs.SplitLemmas.{Each-at}
-use Rattle.pt_records.proofs.TableLemmas.{same_or_other, Each-filter}
-use Rattle.pt_scheduling.specs.Plan.{Plan, plan_key, planned_stops, stops_among, stops_of_plan, without, IsRoutePlan}
-use Rattle.pt_scheduling.specs.Scheduling.{IsBookedIn}
-use Rattle.pt_scheduling.specs.declared.planned.PlannedStop.{PlannedStop}
-use Rattle.pt_scheduling.proofs.FeasibleLemmas.{among_put, booked_feasible, feasible_without, IsInBoth}
-use Rattle.pt_scheduling.proofs.PlanLemmas.{found_key}
-use Rattle.pt_scheduling.proofs.RouteLemmas.{booked_plan, has_trip, Each-found}
+use Rattle.pt_base_records.specs.Keys.{pair_key}
+use Rattle.pt_base_records.specs.Records.{is_within, put, record_at, take_away, Each, IsInOrder}
+use Rattle.pt_base_records.proofs.OrderLemmas.{record_at-put_other, record_at-put_same, Each-both, Each-weaker}
+use Rattle.pt_base_records.proofs.SplitLemmas.{Each-at}
+use Rattle.pt_base_records.proofs.TableLemmas.{same_or_other, Each-filter}
+use Rattle.pt_desk_scheduling.specs.Plan.{Plan, plan_key, planned_stops, stops_among, stops_of_plan, without, IsRoutePlan}
+use Rattle.pt_desk_scheduling.specs.Scheduling.{IsBookedIn}
+use Rattle.pt_desk_scheduling.specs.declared.planned.PlannedStop.{PlannedStop}
+use Rattle.pt_desk_scheduling.proofs.FeasibleLemmas.{among_put, booked_feasible, feasible_without, IsInBoth}
+use Rattle.pt_desk_scheduling.proofs.PlanLemmas.{found_key}
+use Rattle.pt_desk_scheduling.proofs.RouteLemmas.{booked_plan, has_trip, Each-found}
 use Rattle.pt_desk_rules.specs.Booking.{routes_on, rows_of, AreTimes}
 use Rattle.pt_desk_rules.specs.Fleet.{has_weekday, in_force, is_in_force, is_newer, on_duty, ClosesInDay}
 use Rattle.pt_desk_rules.specs.Planned.{is_booked_from, is_standing_from, planned_on, trips_on}

@@ -7,13 +7,13 @@ use Rattle.pt_desk_rules.specs.Vehicle.{Vehicle}
 use Rattle.pt_desk_rules.specs.Stop.{Stop}
 use Rattle.pt_desk_rules.specs.Tour.{Tour}
 use Rattle.pt_desk_rules.specs.VehicleSheet.{VehicleSheet}
-use Rattle.pt_records.specs.Keys.{pair_key}
-use Rattle.pt_records.specs.Records.{record_at, Each, IsInOrder}
-use Rattle.pt_scheduling.specs.Plan.{Plan, after_stop, plan_key, planned_stops, stops_among, stops_of_plan, IsRoutePlan}
-use Rattle.pt_scheduling.specs.Routes.{stops_on}
-use Rattle.pt_scheduling.specs.declared.planned.PlannedStop.{PlannedStop}
-use Rattle.pt_scheduling.proofs.PlanLemmas.{found_key}
-use Rattle.pt_scheduling.proofs.RouteLemmas.{among_route, Each-found}
+use Rattle.pt_base_records.specs.Keys.{pair_key}
+use Rattle.pt_base_records.specs.Records.{record_at, Each, IsInOrder}
+use Rattle.pt_desk_scheduling.specs.Plan.{Plan, after_stop, plan_key, planned_stops, stops_among, stops_of_plan, IsRoutePlan}
+use Rattle.pt_desk_scheduling.specs.Routes.{stops_on}
+use Rattle.pt_desk_scheduling.specs.declared.planned.PlannedStop.{PlannedStop}
+use Rattle.pt_desk_scheduling.proofs.PlanLemmas.{found_key}
+use Rattle.pt_desk_scheduling.proofs.RouteLemmas.{among_route, Each-found}
 use Rattle.pt_desk_rules.specs.Chain.{Row}
 use Rattle.pt_desk_rules.specs.Booking.{rows_of}
 use Rattle.pt_desk_rules.specs.Facts.{day_of}

@@ -8,10 +8,10 @@ use Rattle.std.proofs.lemmas.Option.{same_Some}
 use Rattle.std.proofs.lemmas.Slice.Eq.{bytes_eq-Decides}
 use Rattle.pt_desk_rules.specs.Moment.{Moment}
 use Rattle.pt_desk_rules.specs.Sha256.{sha256}
-use Rattle.pt_records.specs.Records.{put, Each, IsInOrder}
-use Rattle.pt_records.proofs.OrderLemmas.{compared, record_at-put_same, Each-weaker}
-use Rattle.pt_records.proofs.RecordLemmas.{put_past, put_over, put_before}
-use Rattle.pt_scheduling.proofs.RouteLemmas.{Each-found}
+use Rattle.pt_base_records.specs.Records.{put, Each, IsInOrder}
+use Rattle.pt_base_records.proofs.OrderLemmas.{compared, record_at-put_same, Each-weaker}
+use Rattle.pt_base_records.proofs.RecordLemmas.{put_past, put_over, put_before}
+use Rattle.pt_desk_scheduling.proofs.RouteLemmas.{Each-found}
 use Rattle.pt_desk_laws.specs.Again.{holder_of, GivesAnotherKey}
 use Rattle.pt_desk_rules.specs.Sound.{HasOneHolder, IsSound}
 use Rattle.pt_desk_rules.specs.State.{caller_key, State}

@@ -7,10 +7,10 @@ mod HasTourLemmas
 pub mod OutcomeLemmas
 pub mod NumberLemmas
 pub mod SoundLemmas
-mod PrivacyLemmas
 mod ShownLemmas
 mod KeyLemmas
 mod ReadLemmas
+mod PrivacyLemmas
 mod OneLemmas
 pub mod AgainLemmas
 mod RightLemmas

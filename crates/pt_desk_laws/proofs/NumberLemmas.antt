@@ -12,17 +12,17 @@ use Rattle.pt_desk_rules.specs.Rule.{Rule}
 use Rattle.pt_desk_rules.specs.Trip.{Trip}
 use Rattle.pt_desk_rules.specs.Wish.{Wish}
 use Rattle.pt_desk_rules.specs.Moment.{Moment}
-use Rattle.pt_records.specs.Records.{edited, put, record_at, Edit}
-use Rattle.pt_records.proofs.OrderLemmas.{record_at-put_same, record_at-put_other}
-use Rattle.pt_records.proofs.TableLemmas.{below_is}
+use Rattle.pt_base_records.specs.Records.{edited, put, record_at, Edit}
+use Rattle.pt_base_records.proofs.OrderLemmas.{record_at-put_same, record_at-put_other}
+use Rattle.pt_base_records.proofs.TableLemmas.{below_is}
 use Rattle.pt_desk_rules.specs.FailingRules.{first_failing}
 use Rattle.pt_desk_rules.specs.Outcome.{Outcome}
-use Rattle.pt_scheduling.specs.Plan.{Plan}
-use Rattle.pt_scheduling.specs.declared.scheduling.Scheduled.TheVariants as scheduled
-use Rattle.pt_spelling.specs.Replies.{answer_of, reply_of}
-use Rattle.pt_spelling.specs.Requests.{spelling}
-use Rattle.pt_spelling.specs.declared.replies.KeptReply.{KeptReply}
-use Rattle.pt_spelling.specs.declared.replies.KeptReply.TheVariants as reply
+use Rattle.pt_desk_scheduling.specs.Plan.{Plan}
+use Rattle.pt_desk_scheduling.specs.declared.scheduling.Scheduled.TheVariants as scheduled
+use Rattle.pt_desk_spelling.specs.Replies.{answer_of, reply_of}
+use Rattle.pt_desk_spelling.specs.Requests.{spelling}
+use Rattle.pt_desk_spelling.specs.declared.replies.KeptReply.{KeptReply}
+use Rattle.pt_desk_spelling.specs.declared.replies.KeptReply.TheVariants as reply
 use Rattle.pt_desk_rules.specs.Arrival.{arrival_of}
 use Rattle.pt_desk_rules.specs.Booking.{IsBooking}
 use Rattle.pt_desk_rules.specs.Deciding.{booked, changed, kept_by, with_kept, IsCancelDecided, IsChangeDecided}
@@ -119,7 +119,7 @@ decision_keeps : (first : Option Rule) (asked : Write) (me : Caller) (now : Mome
 decision_keeps (Some first) asked me now sent facts decided is = subst (Keeps (callers_by asked) me.id sent) (sym is) tt
 decision_keeps None asked me now sent facts decided (made, is, keeps) =
     subst (Keeps (callers_by asked) me.id sent) (sym keeps)
-    (made_keeps (callers_by asked) me.id sent made (decided_makes asked me.id now.day facts made is))
+    (made_keeps (callers_by asked) me.id sent made (decided_makes asked me.id now.0 facts made is))
 
 -- the answer to an accepted write can be stored
 told_again : (told : Answer) → is_of_write told ≡ true → told ≡ answer_of (unwrap_or (reply_of told) reply.Done)

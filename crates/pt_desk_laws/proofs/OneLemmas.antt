@@ -11,24 +11,24 @@ use Rattle.pt_desk_rules.specs.Rule.{Rule}
 use Rattle.pt_desk_rules.specs.Trip.{Trip}
 use Rattle.pt_desk_rules.specs.Wish.{Wish}
 use Rattle.pt_desk_rules.specs.Window.{Window}
-use Rattle.pt_booking.specs.Booking.{planned_pickup, promised_at, IsFare, IsTripIn}
-use Rattle.pt_booking.specs.Planning.{OnDuty, asked_for, asked_of, IsBestPlace}
-use Rattle.pt_booking.specs.Request.{Request}
-use Rattle.pt_booking.specs.Window.{promised_window, wished_window}
+use Rattle.pt_desk_booking.specs.Booking.{planned_pickup, promised_at, IsFare, IsTripIn}
+use Rattle.pt_desk_booking.specs.Planning.{OnDuty, asked_for, asked_of, IsBestPlace}
+use Rattle.pt_desk_booking.specs.Request.{Request}
+use Rattle.pt_desk_booking.specs.Window.{promised_window, wished_window}
 use Rattle.pt_desk_rules.specs.ServiceTimes.{IsLeastSchedule}
 use Rattle.pt_desk_rules.specs.Stop.{Stop}
-use Rattle.pt_scheduling.specs.Choice.{IsBestIn, IsNoWorseThan}
-use Rattle.pt_scheduling.specs.Insertion.{with_trip}
-use Rattle.pt_scheduling.specs.Asked.{Asked}
-use Rattle.pt_scheduling.specs.Chosen.{Chosen}
+use Rattle.pt_desk_scheduling.specs.Choice.{IsBestIn, IsNoWorseThan}
+use Rattle.pt_desk_scheduling.specs.Insertion.{with_trip}
+use Rattle.pt_desk_scheduling.specs.Asked.{Asked}
+use Rattle.pt_desk_scheduling.specs.Chosen.{Chosen}
 use Rattle.pt_desk_rules.specs.Fare.{fare_of}
 use Rattle.pt_desk_rules.specs.FailingRules.{first_failing}
 use Rattle.pt_desk_rules.specs.Outcome.{Outcome}
-use Rattle.pt_scheduling.specs.Plan.{planned_stop, Plan}
-use Rattle.pt_scheduling.specs.Scheduling.{AreRoutes, IsBookedIn, IsPlanWith, IsScheduled}
-use Rattle.pt_scheduling.specs.declared.scheduling.Scheduled.{Scheduled}
-use Rattle.pt_scheduling.specs.declared.scheduling.Scheduled.TheVariants as scheduled
-use Rattle.pt_spelling.proofs.ReplyLemmas.{told-same}
+use Rattle.pt_desk_scheduling.specs.Plan.{planned_stop, Plan}
+use Rattle.pt_desk_scheduling.specs.Scheduling.{AreRoutes, IsBookedIn, IsPlanWith, IsScheduled}
+use Rattle.pt_desk_scheduling.specs.declared.scheduling.Scheduled.{Scheduled}
+use Rattle.pt_desk_scheduling.specs.declared.scheduling.Scheduled.TheVariants as scheduled
+use Rattle.pt_desk_spelling.proofs.ReplyLemmas.{told-same}
 use Rattle.pt_desk_rules.specs.Booking.{routes_for, rows_of, HasRoutes, IsAnswered, IsBooking, IsToldOf}
 use Rattle.pt_desk_rules.specs.Deciding.{booked, changed, with_kept}
 use Rattle.pt_desk_rules.specs.Deciding.{IsCancelDecided, IsChangeDecided, IsDecidedBy, IsDecisionAfter, IsEndDecided}
@@ -60,39 +60,13 @@ use Rattle.pt_desk_rules.specs.Request.TheVariants as request
 use Rattle.pt_desk_rules.specs.Write.{Write}
 use Rattle.pt_desk_rules.specs.Write.TheVariants as write
 use Rattle.std.proofs.lemmas.Option.{same_Some}
-use Rattle.pt_booking.specs.Planning.{booking_rules}
-use Rattle.pt_booking.specs.Rules.{IsFirstFailing}
+use Rattle.pt_desk_booking.specs.Planning.{booking_rules}
+use Rattle.pt_desk_booking.specs.Rules.{IsFirstFailing}
 use Rattle.pt_desk_rules.specs.Booking.{IsRequestBy}
-use Rattle.pt_booking.proofs.RuleLemmas.{first-unique}
+use Rattle.pt_desk_booking.proofs.RuleLemmas.{first-unique}
 use Rattle.pt_desk_rules.specs.Explaining.{next_trip, IsExplainedAfter, IsToldPossible}
-use Rattle.pt_desk_laws.proofs.ReadLemmas.{bool_one, least_one, like, read_one, uses_one}
-
--- the facts determine the request of a wish
-request_one : (facts : WishFacts) (number : ℕ) (left_out : Option ℕ) (today : ℕ) (wish : Wish) (a b : Request)
-    → IsRequestBy facts number left_out today wish a → IsRequestBy facts number left_out today wish b → a ≡ b
-request_one facts number left_out today wish a b one two =
-    let trip = one.trip ∙ sym two.trip in
-    let rider = same_Some a.rider b.rider (sym one.rider ∙ two.rider) in
-    let file = one.file ∙ sym two.file in
-    let uses = uses_one left_out facts.booking.trips a.uses b.uses one.uses two.uses in
-    let policy = one.policy ∙ sym two.policy in
-    let routes = one.routes ∙ sym two.routes in
-    let from = same_Some a.from b.from (sym one.from ∙ two.from) in
-    let to = same_Some a.to b.to (sym one.to ∙ two.to) in
-    let today = one.day ∙ sym two.day in
-    let wish = one.wished ∙ sym two.wished in
-    λ i. record {
-      trip = trip i;
-      rider = rider i;
-      file = file i;
-      uses = uses i;
-      policy = policy i;
-      routes = routes i;
-      from = from i;
-      to = to i;
-      today = today i;
-      wish = wish i;
-    }
+use Rattle.pt_desk_rules.proofs.RequestLemmas.{request_one}
+use Rattle.pt_desk_laws.proofs.ReadLemmas.{bool_one, least_one, like, read_one}
 
 -- if numbers rise, a number determines its element
 numbered_one : {A : Type 0} (number : A → ℕ) (xs : List A) → AllPairs (λ x y. number x < number y) xs → (x y : A)
@@ -356,7 +330,7 @@ decision_one : (first : Option Rule) (asked : Write) (me : Caller) (now : Moment
     → IsDecisionAfter first asked me now sent (facts_of asked s) e → d ≡ e
 decision_one (Some first) asked me now sent s d e routes one two = one ∙ sym two
 decision_one None asked me now sent s d e routes (made, one, keeps) (other, two, keep) =
-    keeps ∙ ap (with_kept me.id sent) (decided_one asked me.id now.day s made other routes one two) ∙ sym keep
+    keeps ∙ ap (with_kept me.id sent) (decided_one asked me.id now.0 s made other routes one two) ∙ sym keep
 
 write_one : (arrival : Arrival) (asked : Write) (me : Caller) (now : Moment) (number : ℕ) (s : State)
     (told other : Answer) (left also : Option State) → HasRoutes s
@@ -399,7 +373,7 @@ outcome_one (Some me) now number (request.Read asked) s told other left also rou
     (same.0, one.1 ∙ sym two.1)
 outcome_one (Some me) now number (request.Explain rider wish) s told other left also routes one two =
     let first = first_failing (explain_rules wish me (wish_facts rider wish None s)) in
-    (like told other (explained_one first rider wish now.day s told other routes one.0 two.0), one.1 ∙ sym two.1)
+    (like told other (explained_one first rider wish now.0 s told other routes one.0 two.0), one.1 ∙ sym two.1)
 outcome_one (Some me) now number (request.Write asked) s told other left also routes one two =
     let same = write_one (arrival_in s asked me number) asked me now number s told other left also routes one two in
     (like told other same.0, same.1)

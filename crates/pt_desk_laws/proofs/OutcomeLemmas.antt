@@ -5,8 +5,8 @@ use Rattle.pt_desk_rules.specs.Trip.{Trip}
 use Rattle.pt_desk_rules.specs.Wish.{Wish}
 use Rattle.pt_desk_rules.specs.Moment.{Moment}
 use Rattle.pt_desk_rules.specs.FailingRules.{first_failing}
-use Rattle.pt_scheduling.specs.Plan.{Plan}
-use Rattle.pt_scheduling.specs.declared.scheduling.Scheduled.TheVariants as scheduled
+use Rattle.pt_desk_scheduling.specs.Plan.{Plan}
+use Rattle.pt_desk_scheduling.specs.declared.scheduling.Scheduled.TheVariants as scheduled
 use Rattle.pt_desk_rules.specs.Booking.{IsBooking}
 use Rattle.pt_desk_rules.specs.Outcome.{Outcome}
 use Rattle.pt_desk_rules.specs.Deciding.{booked, changed, with_kept, IsCancelDecided, IsChangeDecided, IsEndDecided, IsDecidedBy, IsDecisionAfter}
@@ -76,7 +76,7 @@ pub decision_is : (first : Option Rule) (asked : Write) (me : Caller) (now : Mom
     → IsDecisionAfter first asked me now sent facts decided → IsOfWrite decided
 decision_is (Some first) asked me now sent facts decided is = subst IsOfWrite (sym is) tt
 decision_is None asked me now sent facts decided (made, is, keeps) =
-    subst IsOfWrite (sym keeps) (kept_is me.id sent made (decided_is asked me.id now.day facts made is))
+    subst IsOfWrite (sym keeps) (kept_is me.id sent made (decided_is asked me.id now.0 facts made is))
 
 denial_changes_nothing : (decided : Decision) (s : State) → IsOfWrite decided → is_of_write (told_of decided) ≡ false → left_of decided s ≡ None
 denial_changes_nothing (decision.Denied first) s is other = refl

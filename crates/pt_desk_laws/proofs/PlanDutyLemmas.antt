@@ -7,13 +7,13 @@ use Rattle.pt_desk_rules.specs.Wish.{Wish}
 use Rattle.pt_desk_rules.specs.Moment.{Moment}
 use Rattle.pt_desk_rules.specs.Outcome.{Outcome}
 use Rattle.pt_desk_rules.specs.FailingRules.{first_failing}
-use Rattle.pt_records.specs.Records.{is_within, take_away, Each}
-use Rattle.pt_records.proofs.OrderLemmas.{Each-put}
-use Rattle.pt_records.proofs.TableLemmas.{Each-filter}
-use Rattle.pt_spelling.specs.Ranges.{IsRequest}
-use Rattle.pt_scheduling.specs.Plan.{plan_key, stops_of_plan, without}
-use Rattle.pt_scheduling.specs.declared.scheduling.Scheduled.TheVariants as scheduled
-use Rattle.pt_scheduling.proofs.RouteLemmas.{Each-found}
+use Rattle.pt_base_records.specs.Records.{is_within, take_away, Each}
+use Rattle.pt_base_records.proofs.OrderLemmas.{Each-put}
+use Rattle.pt_base_records.proofs.TableLemmas.{Each-filter}
+use Rattle.pt_desk_spelling.specs.Ranges.{IsRequest}
+use Rattle.pt_desk_scheduling.specs.Plan.{plan_key, stops_of_plan, without}
+use Rattle.pt_desk_scheduling.specs.declared.scheduling.Scheduled.TheVariants as scheduled
+use Rattle.pt_desk_scheduling.proofs.RouteLemmas.{Each-found}
 use Rattle.pt_desk_rules.specs.Booking.{IsBooking}
 use Rattle.pt_desk_rules.specs.Deciding.{booked, with_kept, IsCancelDecided, IsChangeDecided, IsEndDecided}
 use Rattle.pt_desk_rules.specs.Deciding.{IsDecidedBy, IsDecisionAfter}
@@ -109,16 +109,16 @@ outcome_duty outcome (Some trip) s decided duties is = accepted_duty s decided _
 -- an accepted write leaves plans of vehicles on duty
 decided_duty : (asked : Write) (me : Caller) (now : Moment) (s : State) (made : Decision) → IsSound s
     → PlansAreOnDuty s → AllHold (rules_of asked me now (facts_of asked s))
-    → IsDecidedBy asked me.id now.day (facts_of asked s) made → IsRequest asked → DutyAfter made s
+    → IsDecidedBy asked me.id now.0 (facts_of asked s) made → IsRequest asked → DutyAfter made s
 decided_duty (write.PutVehicle new) me now s made sound duties hold is asked =
     accepted_duty s made _ _ is
     (vehicle_duties new s sound asked.from_day
     (not_true (is_booked_from (Some new.id) new.from_day s.trips) hold.1.1.0) duties)
 decided_duty (write.Book rider wish) me now s made sound duties hold is asked =
-    booking_duty now.day rider wish s made sound duties asked.1.day is
+    booking_duty now.0 rider wish s made sound duties asked.1.day is
 decided_duty (write.Change trip wish) me now s made sound duties hold is asked =
-    change_duty now.day (trip_of trip s) trip wish s made sound duties asked.1.day refl
-    (subst (λ f. IsChangeDecided f wish now.day (facts_of (write.Change trip wish) s) made)
+    change_duty now.0 (trip_of trip s) trip wish s made sound duties asked.1.day refl
+    (subst (λ f. IsChangeDecided f wish now.0 (facts_of (write.Change trip wish) s) made)
     (change_trip (trip_of trip s) wish s) is)
 decided_duty (write.Cancel trip) me now s made sound duties hold is asked =
     cancel_duty (trip_of trip s) trip s made sound duties refl is

@@ -5,13 +5,13 @@ use Rattle.std.proofs.lemmas.Bool.Decides.{nat_tests}
 use Rattle.std.proofs.lemmas.Option.{same_Some}
 use Rattle.pt_desk_rules.specs.TripStatuses.{stands}
 use Rattle.pt_desk_rules.specs.Trip.{Trip}
-use Rattle.pt_records.specs.Keys.{pair_key}
-use Rattle.pt_records.specs.Records.{is_within, put, record_at, take_away, Each}
-use Rattle.pt_records.proofs.OrderLemmas.{Each-weaker, record_at-put_other, record_at-put_same}
-use Rattle.pt_scheduling.specs.Plan.{Plan, plan_key, planned_stops, stops_of_plan, without}
-use Rattle.pt_scheduling.specs.declared.planned.PlannedStop.{PlannedStop}
-use Rattle.pt_scheduling.proofs.PlanLemmas.{found_key}
-use Rattle.pt_scheduling.proofs.RouteLemmas.{Each-found}
+use Rattle.pt_base_records.specs.Keys.{pair_key}
+use Rattle.pt_base_records.specs.Records.{is_within, put, record_at, take_away, Each}
+use Rattle.pt_base_records.proofs.OrderLemmas.{Each-weaker, record_at-put_other, record_at-put_same}
+use Rattle.pt_desk_scheduling.specs.Plan.{Plan, plan_key, planned_stops, stops_of_plan, without}
+use Rattle.pt_desk_scheduling.specs.declared.planned.PlannedStop.{PlannedStop}
+use Rattle.pt_desk_scheduling.proofs.PlanLemmas.{found_key}
+use Rattle.pt_desk_scheduling.proofs.RouteLemmas.{Each-found}
 use Rattle.pt_desk_rules.specs.Sound.{HasStandingTrips, IsNumberedTo, StandsIn}
 use Rattle.pt_desk_rules.specs.State.{trip_key}
 use Rattle.pt_desk_rules.specs.Trips.{plan_of_stops, plan_span}

@@ -19,7 +19,7 @@ use Rattle.pt_desk_rules.specs.DaySheet.{DaySheet}
 use Rattle.pt_desk_rules.specs.Tour.{Tour}
 use Rattle.pt_desk_rules.specs.TourStop.{TourStop}
 use Rattle.pt_desk_rules.specs.VehicleSheet.{VehicleSheet}
-use Rattle.pt_records.specs.Records.{record_at}
+use Rattle.pt_base_records.specs.Records.{record_at}
 use Rattle.pt_desk_rules.specs.FailingRules.{first_failing}
 use Rattle.pt_desk_rules.specs.Entered.{Entered}
 use Rattle.pt_desk_rules.specs.Chain.{Row}
@@ -36,6 +36,7 @@ use Rattle.pt_desk_rules.specs.State.{trip_key, State}
 use Rattle.pt_desk_rules.specs.Step.{IsOutcomeBy}
 use Rattle.pt_desk_rules.specs.Tours.{tour_stop, IsDaySheet, IsManifestOf, IsSheetOf, IsShownAt, IsTour}
 use Rattle.pt_desk_rules.specs.Tours.{AreShown, IsTourOrNone}
+use Rattle.pt_desk_rules.proofs.RequestLemmas.{uses_one}
 use Rattle.pt_desk_rules.proofs.TourLemmas.{minutes_one}
 use Rattle.pt_desk_rules.specs.declared.facts.DayFacts.{DayFacts}
 use Rattle.pt_desk_rules.specs.declared.facts.ReadFacts.{ReadFacts}
@@ -50,74 +51,7 @@ use Rattle.std.specs.Prelude.{◌==◌}
 use Rattle.std.specs.List.{list_any}
 use Rattle.std.specs.List.Sorted.{IsStrictlyIncreasing}
 use Rattle.std.proofs.lemmas.Bool.Decides.{eqb_tells, nat_tests}
-use Rattle.pt_scheduling.specs.Uses.{AreUses}
-
--- two rising lists with the same members are the same
-abbrev has : ℕ → List ℕ → Bool
-has d xs = list_any (λ u. u == d) xs
-
-has_first : (x : ℕ) (xs : List ℕ) → has x (x ∷ xs) ≡ true
-has_first x xs = let itself : (x == x) ≡ true = grind (arith, nat_tests) in ap (λ b. b || has x xs) itself
-
-has_either : (d x : ℕ) (xs : List ℕ) → has d (x ∷ xs) ≡ true → (x ≡ d) ⊎ (has d xs ≡ true)
-has_either d x xs is = elim (eqb_tells x d) [
-  | inl (tells, same) ↦ inl same
-  | inr (tells, other) ↦ inr (sym (ap (λ b. b || has d xs) tells) ∙ is)
-]
-
-tail_rises : (x : ℕ) (xs : List ℕ) → IsStrictlyIncreasing (x ∷ xs) → IsStrictlyIncreasing xs
-tail_rises x xs rises k within =
-    let next : suc k + 1 ≡ suc (k + 1) = omega arith in
-    subst (λ i. slice_index xs k < slice_index (x ∷ xs) i) next (rises (suc k) (omega arith))
-
-above_first : (x d : ℕ) (xs : List ℕ) → IsStrictlyIncreasing (x ∷ xs) → has d xs ≡ true → x < d
-above_first x d [] rises is = absurd (cc)
-above_first x d (y ∷ ys) rises is =
-    let below : x < y = rises zero (omega arith) in
-    elim (has_either d y ys is) [
-      | inl same ↦ omega arith
-      | inr later ↦ (let above = above_first y d ys (tail_rises x (y ∷ ys) rises) later in omega arith)
-    ]
-
-not_above : (x : ℕ) (xs : List ℕ) (b : Bool) → has x xs ≡ b → IsStrictlyIncreasing (x ∷ xs) → b ≡ false
-not_above x xs true is rises = absurd (let above = above_first x x xs rises is in omega arith)
-not_above x xs false is rises = refl
-
-first_same : (x y : ℕ) (xs ys : List ℕ) → IsStrictlyIncreasing (x ∷ xs) → IsStrictlyIncreasing (y ∷ ys)
-    → has x (y ∷ ys) ≡ true → has y (x ∷ xs) ≡ true → x ≡ y
-first_same x y xs ys rises also one two = elim (has_either x y ys one) [
-  | inl same ↦ sym same
-  | inr later ↦ elim (has_either y x xs two) [
-    | inl same ↦ same
-    | inr after ↦ (let a = above_first x y xs rises after in let b = above_first y x ys also later in omega arith)
-  ]
-]
-
-tails_same : (x d : ℕ) (xs ys : List ℕ) → IsStrictlyIncreasing (x ∷ xs) → IsStrictlyIncreasing (x ∷ ys)
-    → has d (x ∷ xs) ≡ has d (x ∷ ys) → has d xs ≡ has d ys
-tails_same x d xs ys rises also same = elim (eqb_tells x d) [
-  | inl (tells, is) ↦
-      subst (λ n. has n xs ≡ has n ys) is
-      (not_above x xs (has x xs) refl rises ∙ sym (not_above x ys (has x ys) refl also))
-  | inr (tells, other) ↦ sym (ap (λ b. b || has d xs) tells) ∙ same ∙ ap (λ b. b || has d ys) tells
-]
-
-rising_one : (xs ys : List ℕ) → IsStrictlyIncreasing xs → IsStrictlyIncreasing ys
-    → ((d : ℕ) → has d xs ≡ has d ys) → xs ≡ ys
-rising_one [] [] rises also same = refl
-rising_one [] (y ∷ ys) rises also same = absurd (let first = same y ∙ has_first y ys in cc)
-rising_one (x ∷ xs) [] rises also same = absurd (let first = sym (same x) ∙ has_first x xs in cc)
-rising_one (x ∷ xs) (y ∷ ys) rises also same =
-    let first = first_same x y xs ys rises also (sym (same x) ∙ has_first x xs) (same y ∙ has_first y ys) in
-    let rest = subst (λ n. IsStrictlyIncreasing (n ∷ ys)) (sym first) also in
-    let members = λ (d : ℕ). tails_same x d xs ys rises rest (same d ∙ ap (λ n. has d (n ∷ ys)) (sym first)) in
-    let tails = rising_one xs ys (tail_rises x xs rises) (tail_rises y ys also) members in
-    ap (λ n. n ∷ xs) first ∙ ap (λ l. y ∷ l) tails
-
-pub uses_one : (left_out : Option ℕ) (trips : List Trip) (a b : List ℕ) → AreUses left_out trips a
-    → AreUses left_out trips b → a ≡ b
-uses_one left_out trips a b one two =
-    rising_one a b one.rising two.rising (λ d. one.members d ∙ sym (two.members d))
+use Rattle.pt_desk_scheduling.specs.Uses.{AreUses}
 
 -- lists that agree at each place are the same
 same_list : {A : Type 0} (xs ys : List A) → length xs ≡ length ys
@@ -247,13 +181,13 @@ kind_one Visitor file trips today day told again (uses, are, may, tells, is) (ot
     (bool_one may might (λ yes. moved.1 (tells.0 yes)) (λ yes. tells.1 (moved.0 yes))) ∙ sym it
 kind_one Resident file trips today day told again one two = one ∙ sym two
 
-standing_one : (found : Option Rider) (file : List Entered) (trips : List Trip) (today day : ℕ) (told again : Answer)
+pub standing_one : (found : Option Rider) (file : List Entered) (trips : List Trip) (today day : ℕ) (told again : Answer)
     → IsToldStanding found file trips today day told → IsToldStanding found file trips today day again → told ≡ again
 standing_one None file trips today day told again one two = absurd one
 standing_one (Some there) file trips today day told again one two =
     kind_one there.kind file trips today day told again one two
 
-letter_one : (found : Option Letter) (told again : Answer) → IsToldLetter found told → IsToldLetter found again
+pub letter_one : (found : Option Letter) (told again : Answer) → IsToldLetter found told → IsToldLetter found again
     → told ≡ again
 letter_one None told again one two = absurd one
 letter_one (Some letter) told again one two = one ∙ sym two
@@ -284,4 +218,4 @@ pub read_one : (found : Option Caller) (now : Moment) (number other : ℕ) (aske
 read_one None now number other asked s told again left after one two = (like told again (one.0 ∙ sym two.0), two.1)
 read_one (Some me) now number other asked s told again left after one two =
     let facts = read_facts_of asked s in
-    (after_one (first_failing (read_rules asked me facts)) asked now.day facts told again one.0 two.0, two.1)
+    (after_one (first_failing (read_rules asked me facts)) asked now.0 facts told again one.0 two.0, two.1)

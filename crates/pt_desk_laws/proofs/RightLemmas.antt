@@ -4,14 +4,14 @@ use Rattle.pt_desk_rules.specs.Rule.{Rule}
 use Rattle.pt_desk_rules.specs.Trip.{Trip}
 use Rattle.pt_desk_rules.specs.Wish.{Wish}
 use Rattle.pt_desk_rules.specs.Moment.{Moment}
-use Rattle.pt_booking.specs.Planning.{booking_rules}
-use Rattle.pt_booking.specs.Rules.{IsFirstFailing}
+use Rattle.pt_desk_booking.specs.Planning.{booking_rules}
+use Rattle.pt_desk_booking.specs.Rules.{IsFirstFailing}
 use Rattle.pt_desk_rules.specs.FailingRules.{first_failing}
 use Rattle.pt_desk_rules.specs.Outcome.{Outcome}
-use Rattle.pt_scheduling.specs.Plan.{Plan}
-use Rattle.pt_scheduling.specs.Scheduling.{AreRoutes}
-use Rattle.pt_scheduling.specs.declared.scheduling.Scheduled.TheVariants as scheduled
-use Rattle.pt_scheduling.proofs.PlanLemmas.{found_key}
+use Rattle.pt_desk_scheduling.specs.Plan.{Plan}
+use Rattle.pt_desk_scheduling.specs.Scheduling.{AreRoutes}
+use Rattle.pt_desk_scheduling.specs.declared.scheduling.Scheduled.TheVariants as scheduled
+use Rattle.pt_desk_scheduling.proofs.PlanLemmas.{found_key}
 use Rattle.pt_desk_rules.specs.Booking.{routes_for, HasRoutes, IsBooking}
 use Rattle.pt_desk_rules.specs.Deciding.{booked, changed, with_kept, IsChangeDecided, IsDecidedBy, IsDecisionAfter}
 use Rattle.pt_desk_rules.specs.Facts.{change_facts, facts_of}
@@ -117,7 +117,7 @@ first_of_all (Some first) asked me now sent s rule decided routes fails denied i
 first_of_all None asked me now sent s rule decided routes fails denied (made, is, keeps) =
     inr (
       fails,
-      first_of_trip asked me.id now.day s rule made routes
+      first_of_trip asked me.id now.0 s rule made routes
           (denied_made me.id sent rule made (sym keeps ∙ denied)) is,
     )
 

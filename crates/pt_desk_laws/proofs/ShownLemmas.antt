@@ -9,14 +9,14 @@ use Rattle.pt_desk_rules.specs.Stop.{Stop}
 use Rattle.pt_desk_rules.specs.Tour.{Tour}
 use Rattle.pt_desk_rules.specs.TourStop.{TourStop}
 use Rattle.pt_desk_rules.specs.VehicleSheet.{VehicleSheet}
-use Rattle.pt_records.specs.Keys.{pair_key}
-use Rattle.pt_records.specs.Records.{record_at, Each}
-use Rattle.pt_records.proofs.TableLemmas.{Each-filter}
-use Rattle.pt_scheduling.specs.Plan.{Plan, after_stop, planned_stops, stops_among}
-use Rattle.pt_scheduling.specs.Routes.{stops_on}
-use Rattle.pt_scheduling.specs.declared.planned.PlannedStop.{PlannedStop}
-use Rattle.pt_scheduling.proofs.PlanLemmas.{found_key, stop_trip}
-use Rattle.pt_scheduling.proofs.RouteLemmas.{Each-found}
+use Rattle.pt_base_records.specs.Keys.{pair_key}
+use Rattle.pt_base_records.specs.Records.{record_at, Each}
+use Rattle.pt_base_records.proofs.TableLemmas.{Each-filter}
+use Rattle.pt_desk_scheduling.specs.Plan.{Plan, after_stop, planned_stops, stops_among}
+use Rattle.pt_desk_scheduling.specs.Routes.{stops_on}
+use Rattle.pt_desk_scheduling.specs.declared.planned.PlannedStop.{PlannedStop}
+use Rattle.pt_desk_scheduling.proofs.PlanLemmas.{found_key, stop_trip}
+use Rattle.pt_desk_scheduling.proofs.RouteLemmas.{Each-found}
 use Rattle.pt_desk_rules.specs.Booking.{rows_of}
 use Rattle.pt_desk_rules.specs.Facts.{day_of}
 use Rattle.pt_desk_rules.specs.Fleet.{duty_of, is_on_duty, on_duty}

@@ -16,19 +16,19 @@ use Rattle.pt_desk_rules.specs.Rider.{Rider}
 use Rattle.pt_desk_rules.specs.Vehicle.{Vehicle}
 use Rattle.pt_desk_rules.specs.Rule.{Rule}
 use Rattle.pt_desk_rules.specs.Route.{FixedRoute}
-use Rattle.pt_records.specs.Keys.{pair_key}
-use Rattle.pt_records.specs.Records.{edited, put, put_all, take_away, is_within, record_at, Each, IsInOrder}
-use Rattle.pt_records.proofs.OrderLemmas.{Each-put, Each-weaker, Each-both, IsInOrder-put}
-use Rattle.pt_records.proofs.TableLemmas.{same_or_other, stays_there, found_by_key, below_is, IsTable-put, IsTable-add, IsTable-replace, Each-filter, IsInOrder-filter}
-use Rattle.pt_records.proofs.WithinLemmas.{within-put_other, within-put_last, Each-within}
+use Rattle.pt_base_records.specs.Keys.{pair_key}
+use Rattle.pt_base_records.specs.Records.{edited, put, put_all, take_away, is_within, record_at, Each, IsInOrder}
+use Rattle.pt_base_records.proofs.OrderLemmas.{Each-put, Each-weaker, Each-both, IsInOrder-put}
+use Rattle.pt_base_records.proofs.TableLemmas.{same_or_other, stays_there, found_by_key, below_is, IsTable-put, IsTable-add, IsTable-replace, Each-filter, IsInOrder-filter}
+use Rattle.pt_base_records.proofs.WithinLemmas.{within-put_other, within-put_last, Each-within}
 use Rattle.pt_desk_rules.specs.FailingRules.{first_failing}
 use Rattle.pt_desk_rules.specs.Entry.{Entry}
 use Rattle.pt_desk_rules.specs.State.{most_callers, most_places, most_routes, most_riders, most_tables}
 use Rattle.std.specs.Option.{unwrap_or}
-use Rattle.pt_spelling.specs.Replies.{reply_of}
-use Rattle.pt_spelling.specs.Requests.{spelling}
-use Rattle.pt_spelling.specs.declared.replies.KeptReply.{KeptReply}
-use Rattle.pt_spelling.specs.declared.replies.KeptReply.TheVariants as reply
+use Rattle.pt_desk_spelling.specs.Replies.{reply_of}
+use Rattle.pt_desk_spelling.specs.Requests.{spelling}
+use Rattle.pt_desk_spelling.specs.declared.replies.KeptReply.{KeptReply}
+use Rattle.pt_desk_spelling.specs.declared.replies.KeptReply.TheVariants as reply
 use Rattle.pt_desk_rules.specs.State.{State, caller_with, kept_of, rider_of, trip_of, file_of, caller_key, kept_key}
 use Rattle.pt_desk_rules.specs.State.{place_key, route_key, rider_key, entry_key, vehicle_key, travel_key, trip_key}
 use Rattle.pt_desk_rules.specs.State.{span_of, versions_from, tables_from, tables_before, entries_of, applied}
@@ -46,13 +46,13 @@ use Rattle.pt_desk_rules.specs.Outcomes.{awaits_outcome}
 use Rattle.pt_desk_laws.proofs.EndLemmas.{end_sound}
 use Rattle.pt_desk_rules.specs.Deciding.{booked, kept_by, with_kept, IsCancelDecided, IsChangeDecided, IsEndDecided, IsDecidedBy, IsDecisionAfter, PutsInRangeIf}
 use Rattle.pt_desk_rules.specs.Trips.{cancelled, plan_of_stops, plan_span}
-use Rattle.pt_booking.specs.Request as request_of
-use Rattle.pt_scheduling.specs.Plan.{Plan, plan_key, planned_stops, stops_of_plan, without, IsPlannedRoute, IsRoutePlan}
-use Rattle.pt_scheduling.specs.Scheduling.{IsBookedIn}
-use Rattle.pt_scheduling.specs.declared.planned.PlannedStop.{PlannedStop}
-use Rattle.pt_scheduling.proofs.PlanLemmas.{found_key}
-use Rattle.pt_scheduling.proofs.RouteLemmas.{booked_has, booked_keeps, booked_plan, booked_route, booked_trips, has_trip, left_has, left_route, planned_route, Each-found}
-use Rattle.pt_spelling.specs.Ranges.{IsRequest}
+use Rattle.pt_desk_booking.specs.Request as request_of
+use Rattle.pt_desk_scheduling.specs.Plan.{Plan, plan_key, planned_stops, stops_of_plan, without, IsPlannedRoute, IsRoutePlan}
+use Rattle.pt_desk_scheduling.specs.Scheduling.{IsBookedIn}
+use Rattle.pt_desk_scheduling.specs.declared.planned.PlannedStop.{PlannedStop}
+use Rattle.pt_desk_scheduling.proofs.PlanLemmas.{found_key}
+use Rattle.pt_desk_scheduling.proofs.RouteLemmas.{booked_has, booked_keeps, booked_plan, booked_route, booked_trips, has_trip, left_has, left_route, planned_route, Each-found}
+use Rattle.pt_desk_spelling.specs.Ranges.{IsRequest}
 use Rattle.pt_desk_rules.specs.Parts as part
 use Rattle.pt_desk_rules.specs.Ranges.{FitsKept, KeepsRanges}
 use Rattle.pt_desk_rules.specs.Sound.{HasStops}
@@ -60,11 +60,11 @@ use Rattle.pt_desk_rules.proofs.RangeLemmas.{Each-more, each-put, first_days, ke
 use Rattle.pt_desk_laws.proofs.FitLemmas.{booked_fits, each_drive, each_load, fit_after, fit_beside, has_stops, left_fits, left_has_stops, travel_fits, vehicle_fits, FitsIn}
 use Rattle.pt_desk_laws.proofs.StandingLemmas.{each_found, has_on, plans_left, put_planned, same_place, stays_beside, stays_planned, trip_on, Each-put_over}
 use Rattle.pt_desk_laws.proofs.PlannedLemmas.{left_standing, plans_after, plans_beside, put_stands, standing_without}
-use Rattle.pt_scheduling.specs.declared.scheduling.Scheduled.TheVariants as scheduled
+use Rattle.pt_desk_scheduling.specs.declared.scheduling.Scheduled.TheVariants as scheduled
 use Rattle.pt_desk_rules.specs.Trip.{Trip}
 use Rattle.pt_desk_rules.specs.Wish.{Wish}
 use Rattle.pt_desk_rules.specs.Moment.{Moment}
-use Rattle.pt_records.specs.declared.span.Span.{Span}
+use Rattle.pt_base_records.specs.declared.span.Span.{Span}
 use Rattle.pt_desk_rules.specs.Step.{state_after, arrival_in, sent_with, left_of, sender, IsOutcome, IsOutcomeBy, IsOutcomeAs}
 use Rattle.pt_desk_rules.specs.Sound.{IsSound, IsNumberedTo, IsSoundFile, IsIn, HasOneHolder, HasSubject, IsOfCaller}
 use Rattle.pt_desk_rules.specs.Sound.{IsKeptWrite, HasFiledRider, HasAuthor, HasFirstDay, HasDepot, HasDay, HasPlaces}
@@ -285,12 +285,12 @@ all_hold (first ∷ rest) none = let here = holds_first first.0 first.1 rest non
 enter_sound : (rider : ℕ) (entry : Entry) (me : Caller) (now : Moment) (s : State) → IsSound s
     → IsIn caller_key s.callers me.id → AllHold (rules_of (write.Enter rider entry) me now
     (facts_of (write.Enter rider entry) s))
-    → KeepsRanges (record s { entries = put entry_key (record { rider = rider; position = length (file_of rider s); entered = record { entry = entry; day = now.day; author = me.id } }) s.entries })
-    → IsSound (record s { entries = put entry_key (record { rider = rider; position = length (file_of rider s); entered = record { entry = entry; day = now.day; author = me.id } }) s.entries })
+    → KeepsRanges (record s { entries = put entry_key (record { rider = rider; position = length (file_of rider s); entered = record { entry = entry; day = now.0; author = me.id } }) s.entries })
+    → IsSound (record s { entries = put entry_key (record { rider = rider; position = length (file_of rider s); entered = record { entry = entry; day = now.0; author = me.id } }) s.entries })
 enter_sound rider entry me now s sound there hold ranges =
     let room = below_is (length (file_of rider s)) 200 hold.1.1.0 in
     let whole = whole_file rider s room in
-    put_entry_sound (record { rider = rider; position = length (file_of rider s); entered = record { entry = entry; day = now.day; author = me.id } }) s sound
+    put_entry_sound (record { rider = rider; position = length (file_of rider s); entered = record { entry = entry; day = now.0; author = me.id } }) s sound
     hold.1.0 there whole (omega arith) ranges
 
 driver_stays : (new : Vehicle) (riders : List Rider) (vehicles : List Vehicle) (role : Role) → HasFirstDay new → Each HasFirstDay vehicles → IsTrue (has_subject role riders vehicles)
@@ -621,7 +621,7 @@ change_trip (Some trip) wish s = refl
 
 -- an accepted write leaves a sound state
 decided_sound : (asked : Write) (me : Caller) (now : Moment) (s : State) (made : Decision) → IsSound s → IsIn caller_key s.callers me.id → AllHold (rules_of asked me now (facts_of asked s))
-    → IsDecidedBy asked me.id now.day (facts_of asked s) made → IsRequest asked → PutsInRangeIf made → IsSound (state_after (left_of made s) s)
+    → IsDecidedBy asked me.id now.0 (facts_of asked s) made → IsRequest asked → PutsInRangeIf made → IsSound (state_after (left_of made s) s)
 decided_sound (write.PutCaller new) me now s made sound there hold is asked puts =
     accepted_sound s made _ _ sound is puts (λ ranges. put_caller_sound new s sound hold.1.0 hold.1.1.0 hold.1.1.1.0 ranges)
 decided_sound (write.PutPolicy new) me now s made sound there hold is asked puts =
@@ -643,10 +643,10 @@ decided_sound (write.Travel day rows) me now s made sound there hold is asked pu
     (λ ranges. put_travel_sound (record { from_day = day; rows = rows }) s sound
     hold.1.0 (not_true (is_booked_from None day s.trips) hold.1.1.0) hold.1.1.1.0 ranges)
 decided_sound (write.Book rider wish) me now s made sound there hold is asked puts =
-    booking_sound now.day rider wish s made sound asked.1.day puts is
+    booking_sound now.0 rider wish s made sound asked.1.day puts is
 decided_sound (write.Change trip wish) me now s made sound there hold is asked puts =
-    change_trip_sound now.day (trip_of trip s) trip wish s made sound asked.1.day puts refl
-    (subst (λ f. IsChangeDecided f wish now.day (facts_of (write.Change trip wish) s) made) (change_trip (trip_of trip s) wish s) is)
+    change_trip_sound now.0 (trip_of trip s) trip wish s made sound asked.1.day puts refl
+    (subst (λ f. IsChangeDecided f wish now.0 (facts_of (write.Change trip wish) s) made) (change_trip (trip_of trip s) wish s) is)
 decided_sound (write.Cancel trip) me now s made sound there hold is asked puts =
     cancel_sound (trip_of trip s) trip s made sound puts refl is
 decided_sound (write.Outcome trip outcome) me now s made sound there hold is asked puts =
@@ -679,7 +679,7 @@ after_sound : (asked : Write) (me : Caller) (now : Moment) (sent : Sent) (s : St
     → IsSound (state_after (left_of decided s) s)
 after_sound asked me now sent s (Some rule) decided sound there write first is request puts = subst (λ d. IsSound (state_after (left_of d s) s)) (sym is) sound
 after_sound asked me now sent s None decided sound there write first (made, is, keeps) request puts =
-    let makes = decided_makes asked me.id now.day (facts_of asked s) made is in
+    let makes = decided_makes asked me.id now.0 (facts_of asked s) made is in
     let kept_puts = subst PutsInRangeIf keeps puts in
     subst (λ d. IsSound (state_after (left_of d s) s)) (sym keeps)
     (kept_sound asked me.id sent s made there write makes kept_puts

@@ -4,15 +4,15 @@ use Rattle.std.specs.Prelude.{◌==◌, filter}
 use Rattle.std.proofs.lemmas.Bool.Decides.{nat_tests}
 use Rattle.pt_desk_rules.specs.Day.{IsDay}
 use Rattle.pt_desk_rules.specs.Trip.{Trip}
-use Rattle.pt_records.specs.Keys.{pair_key}
-use Rattle.pt_records.specs.Records.{is_within, put, put_all, record_at, take_away, Each, IsInOrder}
-use Rattle.pt_records.proofs.OrderLemmas.{compared, record_at-here, record_at-past, record_at-put_other, record_at-put_same, Each-both}
-use Rattle.pt_records.proofs.RecordLemmas.{put_past, put_over, put_before}
-use Rattle.pt_records.proofs.TableLemmas.{record_at-take_other, same_or_other}
-use Rattle.pt_scheduling.specs.Plan.{Plan, plan_key, planned_stops, stops_of_plan, without}
-use Rattle.pt_scheduling.specs.declared.planned.PlannedStop.{PlannedStop}
-use Rattle.pt_scheduling.proofs.PlanLemmas.{found_key}
-use Rattle.pt_scheduling.proofs.RouteLemmas.{has_trip, left_has, Each-found}
+use Rattle.pt_base_records.specs.Keys.{pair_key}
+use Rattle.pt_base_records.specs.Records.{is_within, put, put_all, record_at, take_away, Each, IsInOrder}
+use Rattle.pt_base_records.proofs.OrderLemmas.{compared, record_at-here, record_at-past, record_at-put_other, record_at-put_same, Each-both}
+use Rattle.pt_base_records.proofs.RecordLemmas.{put_past, put_over, put_before}
+use Rattle.pt_base_records.proofs.TableLemmas.{record_at-take_other, same_or_other}
+use Rattle.pt_desk_scheduling.specs.Plan.{Plan, plan_key, planned_stops, stops_of_plan, without}
+use Rattle.pt_desk_scheduling.specs.declared.planned.PlannedStop.{PlannedStop}
+use Rattle.pt_desk_scheduling.proofs.PlanLemmas.{found_key}
+use Rattle.pt_desk_scheduling.proofs.RouteLemmas.{has_trip, left_has, Each-found}
 use Rattle.pt_desk_rules.specs.Planned.{planned_on, trips_on}
 use Rattle.pt_desk_rules.specs.Sound.{HasDay, IsOnDay}
 use Rattle.pt_desk_rules.specs.State.{trip_key}

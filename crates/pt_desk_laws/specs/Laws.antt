@@ -3,9 +3,9 @@ use Rattle.std.specs.Prelude.{◌≡◌, ◌⊎◌, ℕ, ◌+◌, List, [], Opti
 use Rattle.pt_desk_rules.specs.Rule.{Rule}
 use Rattle.pt_desk_rules.specs.Wish.{Wish}
 use Rattle.pt_desk_rules.specs.Moment.{Moment}
-use Rattle.pt_booking.specs.Planning.{booking_rules}
-use Rattle.pt_booking.specs.Request.{Request as TripRequest}
-use Rattle.pt_booking.specs.Rules.{IsFirstFailing}
+use Rattle.pt_desk_booking.specs.Planning.{booking_rules}
+use Rattle.pt_desk_booking.specs.Request.{Request as TripRequest}
+use Rattle.pt_desk_booking.specs.Rules.{IsFirstFailing}
 use Rattle.pt_desk_rules.specs.FailingRules.{first_failing}
 use Rattle.pt_desk_rules.specs.Booking.{routes_for, rows_of, AreTimes, IsRequestBy}
 use Rattle.pt_desk_rules.specs.Facts.{facts_of, FactsOf}
@@ -63,7 +63,7 @@ abbrev pub IsFirstOfAll : Write → Caller → Moment → State → Rule → Typ
 IsFirstOfAll asked me now s rule =
     (first_failing (rules_of asked me now (facts_of asked s)) ≡ Some rule)
     ⊎ ((first_failing (rules_of asked me now (facts_of asked s)) ≡ None)
-    × IsFirstOfTrip asked now.day (facts_of asked s) rule)
+    × IsFirstOfTrip asked now.0 (facts_of asked s) rule)
 
 -- a new write that is denied is denied by the first of all its rules to fail
 abbrev pub DenialsAreRight : Type 0

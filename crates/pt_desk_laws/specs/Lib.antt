@@ -3,8 +3,8 @@ pub mod Privacy
 pub mod Numbers
 pub mod Again
 pub mod One
-pub use Rattle.pt_booking.specs.Planning
-pub use Rattle.pt_booking.specs.Request
-pub use Rattle.pt_booking.specs.Rules
-pub use Rattle.pt_scheduling.specs.Scheduling
-pub use Rattle.pt_scheduling.specs.declared.scheduling.Scheduled
+pub use Rattle.pt_desk_booking.specs.Planning
+pub use Rattle.pt_desk_booking.specs.Request
+pub use Rattle.pt_desk_booking.specs.Rules
+pub use Rattle.pt_desk_scheduling.specs.Scheduling
+pub use Rattle.pt_desk_scheduling.specs.declared.scheduling.Scheduled

@@ -6,16 +6,16 @@ use Rattle.std.specs.List.{cons_option, last_or}
 use Rattle.std.specs.List.Sorted.{IsStrictlyIncreasing}
 use Rattle.pt_desk_rules.specs.Rule.{Rule}
 use Rattle.pt_desk_rules.specs.Moment.{Moment}
-use Rattle.pt_records.specs.Records.{Each}
-use Rattle.pt_spelling.specs.Replies.{answer_of, reply_of}
-use Rattle.pt_spelling.specs.Requests.{spelling}
+use Rattle.pt_base_records.specs.Records.{Each}
+use Rattle.pt_desk_spelling.specs.Replies.{answer_of, reply_of}
+use Rattle.pt_desk_spelling.specs.Requests.{spelling}
 use Rattle.pt_desk_rules.specs.Deciding.{kept_by}
 use Rattle.pt_desk_rules.specs.Sound.{IsSound}
 use Rattle.pt_desk_rules.specs.State.{State, kept_of}
 use Rattle.pt_desk_rules.specs.Step.{sender, sent_with, state_after, IsOutcome}
 use Rattle.pt_desk_rules.specs.declared.kept.Kept.{Kept}
-use Rattle.pt_spelling.specs.declared.replies.KeptReply.{KeptReply}
-use Rattle.pt_spelling.specs.declared.replies.KeptReply.TheVariants.{Done}
+use Rattle.pt_desk_spelling.specs.declared.replies.KeptReply.{KeptReply}
+use Rattle.pt_desk_spelling.specs.declared.replies.KeptReply.TheVariants.{Done}
 use Rattle.pt_desk_rules.specs.Caller.{Caller}
 use Rattle.pt_desk_rules.specs.Answer.{Answer}
 use Rattle.pt_desk_rules.specs.Answer.TheVariants as answer

@@ -10,7 +10,7 @@ ghost use Rattle.pt_desk_laws.specs.Numbers.{AcceptedNumbersRise, AcceptedWrites
 ghost use Rattle.pt_desk_laws.specs.Numbers.{AcceptedWritesMakeTheState};
 ghost use Rattle.pt_desk_laws.specs.Numbers.{DenialsAreTheSameAgain, RepeatsAreToldTheSame, WritesMayBeSentAgain};
 ghost use Rattle.pt_desk_laws.specs.One.{OutcomesAreOne, RequestsOutliveCrashes};
-ghost use Rattle.pt_desk_laws.specs.Privacy.{TripsArePrivate};
+ghost use Rattle.pt_desk_laws.specs.Privacy.{LettersArePrivate, StandingsArePrivate, TripsArePrivate};
 ghost use Rattle.pt_desk_rules.specs.Sound.{IsSound};
 ghost use Rattle.pt_desk_rules.specs.State.{State};
 ghost use Rattle.pt_desk_rules.specs.Tours.{HasTours, PlansAreOnDuty, ShowStandingTrips};
@@ -56,6 +56,17 @@ pub fn manifests_show_standing_trips()
 /// A law: the answer about a rider's trips depends only on the caller, the rider's record and the rider's trips.
 pub fn trips_are_private()
     ensures { TripsArePrivate }
+{}
+
+/// A law: a letter to a rider depends only on the caller, the rider's record and the rider's case file.
+pub fn letters_are_private()
+    ensures { LettersArePrivate }
+{}
+
+/// A law: what a rider's standing is depends only on the caller, the rider's record and case file, and the days that a
+/// visitor has used.
+pub fn standings_are_private()
+    ensures { StandingsArePrivate }
 {}
 
 /// A law: an accepted write is stored as its caller's last one, and its number is above the earlier one's.

@@ -1,8 +1,8 @@
 -- In a sound state, the rule that a denied wish names is the first of all its rules to fail.
 use Rattle.std.proofs.Common.{◌≡◌, ◌∙◌, ℕ, List, Option, Some, None, ap, inl, inr, refl, subst, sym}
-use Rattle.pt_base.specs.declared.moment.Moment.{Moment}
-use Rattle.pt_base.specs.declared.rule.Rule.{Rule}
-use Rattle.pt_base.specs.declared.trip.Wish.{Wish}
+use Rattle.pt_base_values.specs.Moment.{Moment}
+use Rattle.pt_base_values.specs.declared.rule.Rule.{Rule}
+use Rattle.pt_base_values.specs.declared.trip.Wish.{Wish}
 use Rattle.pt_desk_laws.specs.Planning.{OnDuty, booking_rules}
 use Rattle.pt_desk_laws.specs.Request.{Request}
 use Rattle.pt_desk_laws.specs.Rules.{IsFirstFailing}
@@ -14,7 +14,7 @@ use Rattle.pt_desk_rules.specs.Facts.{wish_facts}
 use Rattle.pt_desk_rules.specs.Rules.{explain_rules}
 use Rattle.pt_desk_rules.specs.Step.{IsOutcomeBy}
 use Rattle.pt_desk_rules.specs.declared.facts.WishFacts.{WishFacts}
-use Rattle.pt_laws.specs.Explanations.{ExplanationsAreRight, IsFirstOfWish}
+use Rattle.pt_desk_planning_laws.specs.Explanations.{ExplanationsAreRight, IsFirstOfWish}
 use Rattle.pt_desk_rules.specs.Caller.{Caller}
 use Rattle.pt_desk_rules.specs.Answer.TheVariants as answer
 use Rattle.pt_desk_rules.specs.Request.TheVariants as request
@@ -50,11 +50,11 @@ first_of_booking wish today facts rule (scheduled.Denied first) routes (asked, b
 first_of_wish : (first : Option Rule) (wish : Wish) (me : Caller) (now : Moment) (facts : WishFacts) (rule : Rule)
     → AreRoutes (next_trip facts) (routes_for (next_trip facts) wish facts)
     → first_failing (explain_rules wish me facts) ≡ first
-    → IsExplainedAfter first wish now.day facts (answer.Denied rule) → IsFirstOfWish wish me now facts rule
+    → IsExplainedAfter first wish now.0 facts (answer.Denied rule) → IsFirstOfWish wish me now facts rule
 first_of_wish (Some first) wish me now facts rule routes fails told =
     let same : first ≡ rule = cc in inl (fails ∙ ap (λ r. Some r) same)
 first_of_wish None wish me now facts rule routes fails (found, answered, told) =
-    inr (fails, first_of_booking wish now.day facts rule found routes answered told)
+    inr (fails, first_of_booking wish now.0 facts rule found routes answered told)
 
 pub explanations_are_right : ExplanationsAreRight
 explanations_are_right key now number rider wish me s rule left sound by outcome =

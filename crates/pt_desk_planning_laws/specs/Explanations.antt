@@ -1,8 +1,8 @@
 -- The answer to a dispatcher who asks whether a wish could be booked.
 use Rattle.std.specs.Prelude.{◌≡◌, ◌⊎◌, ℕ, List, Option, Some, None}
-use Rattle.pt_base.specs.declared.moment.Moment.{Moment}
-use Rattle.pt_base.specs.declared.rule.Rule.{Rule}
-use Rattle.pt_base.specs.declared.trip.Wish.{Wish}
+use Rattle.pt_base_values.specs.Moment.{Moment}
+use Rattle.pt_base_values.specs.declared.rule.Rule.{Rule}
+use Rattle.pt_base_values.specs.declared.trip.Wish.{Wish}
 use Rattle.pt_desk_laws.specs.Laws.{IsFirstOfBooking}
 use Rattle.pt_desk_rules.specs.Explaining.{next_trip}
 use Rattle.pt_desk_rules.specs.Facts.{wish_facts}
@@ -21,7 +21,7 @@ abbrev pub IsFirstOfWish : Wish → Caller → Moment → WishFacts → Rule →
 IsFirstOfWish wish me now facts rule =
     (first_failing (explain_rules wish me facts) ≡ Some rule)
     ⊎ ((first_failing (explain_rules wish me facts) ≡ None)
-    × IsFirstOfBooking facts (next_trip facts) None now.day wish rule)
+    × IsFirstOfBooking facts (next_trip facts) None now.0 wish rule)
 
 -- if a wish is denied, this rule is the first to fail
 abbrev pub ExplanationsAreRight : Type 0

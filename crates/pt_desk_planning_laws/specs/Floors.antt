@@ -1,13 +1,13 @@
 -- Service times of an old route are lower bounds for those of the route with one more trip.
 use Rattle.std.specs.Prelude.{◌≤◌, ℕ, List, Option}
-use Rattle.pt_base.specs.Ranges.{last_minute}
-use Rattle.pt_base.specs.declared.vehicle.Vehicle.{Vehicle}
+use Rattle.pt_base_values.specs.Ranges.{last_minute}
+use Rattle.pt_base_values.specs.declared.vehicle.Vehicle.{Vehicle}
 use Rattle.pt_desk_rules.specs.ServiceTimes.{IsLeastSchedule, IsNeverLater, TimesFit}
 use Rattle.pt_desk_rules.specs.Stop.{Stop}
-use Rattle.pt_insertion.specs.Insertion.{IsWithout, with_trip}
-use Rattle.pt_insertion.specs.Removal.{times_without_trip}
-use Rattle.pt_insertion.specs.TravelTimes.{KeepsTriangleLaw}
-use Rattle.pt_insertion.specs.declared.asked.Asked.{Asked}
+use Rattle.pt_insertion_search.specs.Insertion.{IsWithout, with_trip}
+use Rattle.pt_insertion_search.specs.Removal.{times_without_trip}
+use Rattle.pt_insertion_search.specs.TravelTimes.{KeepsTriangleLaw}
+use Rattle.pt_insertion_search.specs.declared.asked.Asked.{Asked}
 
 -- Times that fit a route with an added trip are, at the old stops, never earlier than the least schedule without the
 -- trip.

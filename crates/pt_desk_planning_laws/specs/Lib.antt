@@ -1,2 +1,3 @@
 pub mod Explanations
 pub mod Floors
+pub mod Logs

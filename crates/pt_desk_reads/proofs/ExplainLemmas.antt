@@ -5,28 +5,28 @@ use Rattle.std.specs.Prelude.{◌≢◌, ◌&&◌, nat_lt, is_some, IfOk, IfSome
 use Rattle.std.specs.declared.alloc.Global.{Global}
 use Rattle.std.proofs.lemmas.List.Elements.{All-map}
 use Rattle.std.proofs.lemmas.Option.{same_Some}
-use Rattle.pt_base.specs.declared.rider.Residence.{Residence}
-use Rattle.pt_base.specs.declared.rider.Residence.TheVariants.{Resident, Visitor}
-use Rattle.pt_base.specs.declared.rule.Rule.{Rule}
-use Rattle.pt_base.specs.declared.rule.Rule.TheVariants as rule
-use Rattle.pt_base.specs.declared.trip.Wish.{Wish}
-use Rattle.pt_base.specs.declared.vehicle.Vehicle.{Vehicle}
-use Rattle.pt_base.specs.declared.moment.Moment.{Moment}
-use Rattle.pt_booking.proofs.RuleLemmas.{first-behind, first-in-front}
-use Rattle.pt_booking.specs.Planning.{OnDuty, SomeVehicleCan, asked_for, on_duty}
-use Rattle.pt_booking.specs.Request.{Request}
-use Rattle.pt_booking.specs.Rules.{IsFirstFailing, entitlement, riders_rules}
+use Rattle.pt_base_values.specs.declared.rider.Residence.{Residence}
+use Rattle.pt_base_values.specs.declared.rider.Residence.TheVariants.{Resident, Visitor}
+use Rattle.pt_base_values.specs.declared.rule.Rule.{Rule}
+use Rattle.pt_base_values.specs.declared.rule.Rule.TheVariants as rule
+use Rattle.pt_base_values.specs.declared.trip.Wish.{Wish}
+use Rattle.pt_base_values.specs.declared.vehicle.Vehicle.{Vehicle}
+use Rattle.pt_base_values.specs.Moment.{Moment}
+use Rattle.pt_desk_booking.proofs.RuleLemmas.{first-behind, first-in-front}
+use Rattle.pt_desk_booking.specs.Planning.{OnDuty, SomeVehicleCan, asked_for, on_duty}
+use Rattle.pt_desk_booking.specs.Request.{Request}
+use Rattle.pt_desk_booking.specs.Rules.{IsFirstFailing, entitlement, riders_rules}
 use Rattle.pt_feasible.specs.Route.{stops_of}
-use Rattle.pt_insertion.specs.Insertion.{IsWithout}
-use Rattle.pt_insertion.specs.declared.asked.Asked.{Asked}
-use Rattle.pt_insertion.specs.declared.duty.Duty.{Duty}
-use Rattle.pt_rights.specs.Rules.{first_failing}
-use Rattle.pt_scheduling.proofs.ListLemmas.{All-unmap, AllPairs-map, AllPairs-unmap}
-use Rattle.pt_scheduling.specs.Routes.{day_route, routes_without, IsRoute}
-use Rattle.pt_scheduling.specs.Scheduling.{AreRoutes}
-use Rattle.pt_scheduling.specs.declared.routes.DayRoute.{DayRoute}
-use Rattle.pt_scheduling.specs.declared.scheduling.Scheduled.{Scheduled}
-use Rattle.pt_scheduling.specs.declared.scheduling.Scheduled.TheVariants as scheduled
+use Rattle.pt_insertion_search.specs.Insertion.{IsWithout}
+use Rattle.pt_insertion_search.specs.declared.asked.Asked.{Asked}
+use Rattle.pt_insertion_search.specs.declared.duty.Duty.{Duty}
+use Rattle.pt_rights_files.specs.Rules.{first_failing}
+use Rattle.pt_desk_scheduling.proofs.ListLemmas.{All-unmap, AllPairs-map, AllPairs-unmap}
+use Rattle.pt_desk_scheduling.specs.Routes.{day_route, routes_without, IsRoute}
+use Rattle.pt_desk_scheduling.specs.Scheduling.{AreRoutes}
+use Rattle.pt_desk_scheduling.specs.declared.routes.DayRoute.{DayRoute}
+use Rattle.pt_desk_scheduling.specs.declared.scheduling.Scheduled.{Scheduled}
+use Rattle.pt_desk_scheduling.specs.declared.scheduling.Scheduled.TheVariants as scheduled
 use Rattle.pt_travel.specs.Chain.{Row}
 use Rattle.pt_desk_rules.proofs.TourLemmas.{minutes_one}
 use Rattle.pt_desk_rules.specs.Booking.{AreTimes, IsAnswered, IsRequestBy, routes_for, rows_of}
@@ -43,9 +43,9 @@ use Rattle.pt_desk_rules.specs.Trips.{has_ends}
 use Rattle.pt_desk_reads.specs.declared.explaining.Inquiry.{Inquiry}
 use Rattle.pt_desk_reads.specs.declared.explaining.Inquiry.TheVariants as inquiry
 use Rattle.pt_desk_rules.specs.declared.facts.WishFacts.{WishFacts}
-use Rattle.pt_requests.specs.declared.caller.Caller.{Caller}
-use Rattle.pt_requests.specs.declared.request.Answer.{Answer}
-use Rattle.pt_requests.specs.declared.request.Answer.TheVariants as answer
+use Rattle.pt_desk_requests.specs.declared.caller.Caller.{Caller}
+use Rattle.pt_desk_requests.specs.declared.request.Answer.{Answer}
+use Rattle.pt_desk_requests.specs.declared.request.Answer.TheVariants as answer
 
 -- a rider's rules come before vehicles
 entitled : (kind : Residence) (request : Request) (first : Rule) → Some first ≡ Some (entitlement kind request).0
@@ -82,19 +82,19 @@ limits_first true true true first is = absurd (cc)
 pub limited : (wish : Wish) (me : Caller) (now : Moment) (facts : WishFacts) (first : Rule)
     → first_failing (explain_rules wish me facts) ≡ Some first → IsInquiry wish me now facts (inquiry.Denied first)
 limited wish me now facts first is = (
-  subst (λ o. IsExplainedAfter o wish now.day facts (answer.Denied first)) (sym is) refl,
+  subst (λ o. IsExplainedAfter o wish now.0 facts (answer.Denied first)) (sym is) refl,
   λ routes. limits_first (is_dispatcher me.role) (is_some facts.rider && has_ends wish facts.places)
       (nat_lt facts.booking.last_trip last_trip_number) first is,
 )
 
 pub explained : (wish : Wish) (me : Caller) (now : Moment) (facts : WishFacts) (told : Answer) (found : Option Rule)
-    → first_failing (explain_rules wish me facts) ≡ found → IsExplainedAfter found wish now.day facts told
+    → first_failing (explain_rules wish me facts) ≡ found → IsExplainedAfter found wish now.0 facts told
     → IsExplained wish me now facts told
 explained wish me now facts told found is after =
-    subst (λ o. IsExplainedAfter o wish now.day facts told) (sym is) after
+    subst (λ o. IsExplainedAfter o wish now.0 facts told) (sym is) after
 
 pub inquired : (wish : Wish) (me : Caller) (now : Moment) (facts : WishFacts) (found : Inquiry)
-    → first_failing (explain_rules wish me facts) ≡ None → IsInquiryAfter wish now.day facts found
+    → first_failing (explain_rules wish me facts) ≡ None → IsInquiryAfter wish now.0 facts found
     → IsInquiry wish me now facts found
 inquired wish me now facts (inquiry.Facts found) none is = (none, is)
 inquired wish me now facts (inquiry.Denied first) none is =
@@ -255,7 +255,7 @@ none_found facts trip wish found is are = subst (λ o. AreRoutesOf facts trip wi
 
 -- the result of the whole question
 pub inquired_by : {E : Type 0} (wish : Wish) (me : Caller) (now : Moment) (facts : WishFacts) (r : Result Inquiry E)
-    → first_failing (explain_rules wish me facts) ≡ None → IfOk r (λ found. IsInquiryAfter wish now.day facts found)
+    → first_failing (explain_rules wish me facts) ≡ None → IfOk r (λ found. IsInquiryAfter wish now.0 facts found)
     → IfOk r (λ found. IsInquiry wish me now facts found)
 inquired_by wish me now facts (Ok found) none is = inquired wish me now facts found none is
 inquired_by wish me now facts (Err e) none is = tt

@@ -1,19 +1,19 @@
 -- The result of asking for the facts behind a denial `no vehicle`.
 use Rattle.std.specs.Prelude.{◌≡◌, ◌≢◌, ℕ, Vec, map, Option, Some, None}
 use Rattle.std.specs.declared.alloc.Global.{Global}
-use Rattle.pt_base.specs.declared.rule.Rule.{Rule}
-use Rattle.pt_base.specs.declared.rule.Rule.TheVariants as rule
-use Rattle.pt_base.specs.declared.trip.Wish.{Wish}
-use Rattle.pt_base.specs.declared.moment.Moment.{Moment}
-use Rattle.pt_booking.specs.Planning.{SomeVehicleCan, asked_for}
-use Rattle.pt_booking.specs.Request.{Request}
-use Rattle.pt_booking.specs.Rules.{IsFirstFailing, riders_rules}
-use Rattle.pt_rights.specs.Rules.{first_failing}
-use Rattle.pt_scheduling.specs.Routes.{day_route}
-use Rattle.pt_scheduling.specs.Scheduling.{AreRoutes}
-use Rattle.pt_scheduling.specs.declared.routes.DayRoute.{DayRoute}
-use Rattle.pt_requests.specs.declared.caller.Caller.{Caller}
-use Rattle.pt_requests.specs.declared.request.Answer.TheVariants as answer
+use Rattle.pt_base_values.specs.declared.rule.Rule.{Rule}
+use Rattle.pt_base_values.specs.declared.rule.Rule.TheVariants as rule
+use Rattle.pt_base_values.specs.declared.trip.Wish.{Wish}
+use Rattle.pt_base_values.specs.Moment.{Moment}
+use Rattle.pt_desk_booking.specs.Planning.{SomeVehicleCan, asked_for}
+use Rattle.pt_desk_booking.specs.Request.{Request}
+use Rattle.pt_desk_booking.specs.Rules.{IsFirstFailing, riders_rules}
+use Rattle.pt_rights_files.specs.Rules.{first_failing}
+use Rattle.pt_desk_scheduling.specs.Routes.{day_route}
+use Rattle.pt_desk_scheduling.specs.Scheduling.{AreRoutes}
+use Rattle.pt_desk_scheduling.specs.declared.routes.DayRoute.{DayRoute}
+use Rattle.pt_desk_requests.specs.declared.caller.Caller.{Caller}
+use Rattle.pt_desk_requests.specs.declared.request.Answer.TheVariants as answer
 use Rattle.pt_desk_rules.specs.Booking.{AreTimes, IsRequestBy, routes_for, rows_of}
 use Rattle.pt_desk_rules.specs.Explaining.{next_trip, IsExplained, IsExplainedAfter}
 use Rattle.pt_desk_rules.specs.Rules.{explain_rules}
@@ -52,7 +52,7 @@ IsInquiryAfter wish today facts (inquiry.Denied first) =
 -- The result of asking for the facts of a refusal: the facts, or the first rule that denies the wish.
 abbrev pub IsInquiry : Wish → Caller → Moment → WishFacts → Inquiry → Type 0
 IsInquiry wish me now facts (inquiry.Facts found) =
-    (first_failing (explain_rules wish me facts) ≡ None) × AreFactsOf wish now.day facts found
+    (first_failing (explain_rules wish me facts) ≡ None) × AreFactsOf wish now.0 facts found
 IsInquiry wish me now facts (inquiry.Denied first) =
     IsExplained wish me now facts (answer.Denied first) × IsBeforeVehicles wish facts first
 

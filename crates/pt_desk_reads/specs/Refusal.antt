@@ -1,8 +1,8 @@
 -- The facts behind a denial `no vehicle`: a refusal.
 use Rattle.std.specs.Prelude.{ℕ, ◌<◌, List, All, AllPairs}
-use Rattle.pt_booking.specs.Planning.{OnDuty}
-use Rattle.pt_insertion.specs.Insertion.{IsWithout}
-use Rattle.pt_insertion.specs.declared.asked.Asked.{Asked}
+use Rattle.pt_desk_booking.specs.Planning.{OnDuty}
+use Rattle.pt_insertion_search.specs.Insertion.{IsWithout}
+use Rattle.pt_insertion_search.specs.declared.asked.Asked.{Asked}
 use Rattle.pt_travel.specs.Chain.{Row}
 
 -- the vehicles on duty on the day with their stops, the trip that they are asked for, and the rows of driving times

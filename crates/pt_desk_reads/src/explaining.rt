@@ -1,22 +1,26 @@
 ghost use Rattle.std.specs.Prelude.{◌≡◌, ◌<◌, All, AllPairs, None, Some, IfErr, IfOk};
-ghost use Rattle.pt_booking.specs.Planning.{on_duty};
+ghost use Rattle.pt_base_values.specs.Fault.{fault};
+ghost use Rattle.pt_base_values.specs.declared.fault.Cause.TheVariants as cause;
+ghost use Rattle.pt_desk_booking.specs.Planning.{on_duty};
 ghost use Rattle.pt_feasible.specs.Route.{stops_of};
-ghost use Rattle.pt_insertion.specs.Insertion.{IsWithout};
-ghost use Rattle.pt_rights.specs.Rules.{first_failing};
+ghost use Rattle.pt_insertion_search.specs.Insertion.{IsWithout};
+ghost use Rattle.pt_rights_files.specs.Rules.{first_failing};
 ghost use Rattle.pt_travel.specs.Times.{time_in};
 ghost use Rattle.pt_desk_rules.specs.Booking.{AreTimes, IsAsking, rows_of};
 ghost use Rattle.pt_desk_rules.specs.Explaining.{next_trip, IsExplained, IsToldPossible};
 ghost use Rattle.pt_desk_reads.specs.Inquiry.{AreRoutesOf, IsInquiry, IsInquiryAfter};
 ghost use Rattle.pt_desk_rules.specs.Rules.{explain_rules};
 
-use pt_base::{Day, Moment, Rule, TripId, Wish};
-use pt_booking::{asked_for, riders_denial};
+use pt_base_values::{Day, Fault, Moment, Rule, TripId, Wish};
+use pt_desk_booking::{asked_for, riders_denial};
+use pt_desk_requests::{Answer, Caller};
 use pt_desk_rules::{
     Asking, TravelTable, WishFacts, answer_wish, is_dispatcher, new_trip, on_duty, uses_of,
 };
-use pt_insertion::{Asked, Duty};
-use pt_requests::{Answer, Caller};
-use pt_scheduling::{DayPlans, DayRoute, Scheduled, are_without_trip, duties_of, routes_without};
+use pt_desk_scheduling::{
+    DayPlans, DayRoute, Scheduled, are_without_trip, duties_of, routes_without,
+};
+use pt_insertion_search::{Asked, Duty};
 use pt_travel::Closed;
 use std::alloc::{AllocError, Global};
 use std::marker::Model;
@@ -26,16 +30,16 @@ use std::marker::Model;
 /// A contract sees the vehicles on duty on the wish's day, by rising number, with their stops; the trip that they are
 /// asked for; and the rows of driving times for the day.
 #[derive(Drop)]
-pub struct RefusalFacts {
+pub struct Facts {
     routes: Vec<DayRoute>,
     asked: Asked,
     table: TravelTable,
 }
 
-impl Model for RefusalFacts {
+impl Model for Facts {
     ghost use Rattle.std.specs.Prelude.{map};
     ghost use Rattle.pt_desk_reads.specs.Refusal.{AreWithout, Refusal};
-    ghost use Rattle.pt_scheduling.specs.Routes.{day_route};
+    ghost use Rattle.pt_desk_scheduling.specs.Routes.{day_route};
 
     ghost Value = { Refusal };
 
@@ -48,21 +52,22 @@ impl Model for RefusalFacts {
     ghost invariant = { λ found. AreWithout found.asked.trip (map day_route found.routes.items) };
 }
 
-impl RefusalFacts {
-    /// The vehicles on duty with their routes, by rising number. No route has a stop of the asked trip. The error is
+impl Facts {
+    /// The vehicles on duty with their routes, by rising number. No route has a stop of the asked trip. The fault is
     /// out of memory.
-    pub fn duties(&self, alloc: Global) -> Result<Vec<Duty<'_>>, AllocError>
+    pub fn duties(&self, alloc: Global) -> Result<Vec<Duty<'_>>, Fault>
         ensures vehicles { IfOk result (λ duties. on_duty duties.items ≡ self.now.vehicles) }
         ensures rising { IfOk result (λ duties.
             AllPairs (λ first second. first.vehicle.now.id < second.vehicle.now.id) duties.items) }
         ensures new_trip { IfOk result (λ duties.
             All (λ duty. IsWithout self.now.asked.trip (stops_of duty.route.now)) duties.items) }
+        ensures memory { IfErr result (λ refused. refused ≡ fault cause.Memory) }
     {
-        duties_of(alloc, &self.routes)
+        Ok(duties_of(alloc, &self.routes)?)
     }
 
     /// The trip that the vehicles are asked for, under the number that it would get.
-    pub fn requested_trip(&self) -> &Asked
+    pub fn asked(&self) -> &Asked
         ensures value { result.now ≡ self.now.asked }
     {
         &self.asked
@@ -80,7 +85,7 @@ impl RefusalFacts {
 #[derive(Drop)]
 pub enum Inquiry {
     /// The facts, if the wish is refused because no vehicle can serve it.
-    Facts(RefusalFacts),
+    Facts(Facts),
     /// The first rule to fail before any vehicle is looked at.
     Denied(Rule),
 }
@@ -122,7 +127,7 @@ pub fn explain(
 {
     match trip_to_explain(facts, me, wish) {
         Ok((asking, trip)) => {
-            let found = answer_wish(alloc, facts, &asking, trip, &None, now.day, wish)?;
+            let found = answer_wish(alloc, facts, &asking, trip, &None, now.0, wish)?;
             Ok(told_of(&found))
         }
         Err(rule) => Ok(Answer::Denied(rule)),
@@ -185,7 +190,7 @@ fn inquire(
     }
     let asked = asked_for(&request, times);
     match routes_of(alloc, facts, trip, wish)? {
-        Some(routes) => Ok(Inquiry::Facts(RefusalFacts {
+        Some(routes) => Ok(Inquiry::Facts(Facts {
             routes,
             asked,
             table,
@@ -206,7 +211,7 @@ pub fn refusal_facts(
     ensures value { IfOk result (λ found. IsInquiry wish.now me.now now facts.now found) }
 {
     match trip_to_explain(facts, me, wish) {
-        Ok((asking, trip)) => inquire(alloc, facts, &asking, trip, now.day, wish),
+        Ok((asking, trip)) => inquire(alloc, facts, &asking, trip, now.0, wish),
         Err(rule) => Ok(Inquiry::Denied(rule)),
     }
 }

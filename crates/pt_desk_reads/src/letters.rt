@@ -1,13 +1,13 @@
 ghost use Rattle.std.specs.Prelude.{◌≡◌, ℕ, IfOk};
-ghost use Rattle.pt_base.specs.declared.moment.Moment.{Moment};
+ghost use Rattle.pt_base_values.specs.Moment.{Moment};
 ghost use Rattle.pt_desk_rules.specs.Deciding.{IsTold};
 ghost use Rattle.pt_desk_rules.specs.Letters.{letter_at, letter_of};
-ghost use Rattle.pt_requests.specs.declared.request.Read.TheVariants.{Letter as ReadLetter};
+ghost use Rattle.pt_desk_requests.specs.declared.request.Read.TheVariants.{Letter as ReadLetter};
 
-use pt_base::{Rider, RiderId, Rule};
+use pt_base_values::{Rider, RiderId, Rule};
+use pt_desk_requests::{Answer, Caller, Determination, Letter};
 use pt_desk_rules::{ReadFacts, may_see_standing};
-use pt_requests::{Answer, Caller, Determination, Letter};
-use pt_rights::{CaseFile, Entered, Position};
+use pt_rights_files::{CaseFile, Entered, Position};
 use std::alloc::AllocError;
 
 /// The letter of an entry; `None` if its kind has none. The error is out of memory.

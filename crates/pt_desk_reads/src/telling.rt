@@ -1,17 +1,17 @@
 ghost use Rattle.std.specs.Prelude.{◌↔◌, ℕ, IsTrue, List, None, IfOk};
-ghost use Rattle.pt_base.specs.declared.moment.Moment.{Moment};
-ghost use Rattle.pt_scheduling.specs.Uses.{AreUses};
-ghost use Rattle.pt_visitors.specs.Periods.{MayUse};
-ghost use Rattle.pt_requests.specs.declared.request.Read.TheVariants.{Export, Standing, Trips};
+ghost use Rattle.pt_base_values.specs.Moment.{Moment};
+ghost use Rattle.pt_desk_scheduling.specs.Uses.{AreUses};
+ghost use Rattle.pt_rights_visitors.specs.Periods.{MayUse};
+ghost use Rattle.pt_desk_requests.specs.declared.request.Read.TheVariants.{Export, Standing, Trips};
 ghost use Rattle.pt_desk_rules.specs.Deciding.{IsToldOfKind, IsTold};
 
 use crate::letters::tell_letter;
 use crate::tours::{tell_day_sheet, tell_manifest};
-use pt_base::{Day, Moment, Residence, RiderId, Rule, Trip};
+use pt_base_values::{Day, Moment, Residence, RiderId, Rule, Trip};
+use pt_desk_requests::{Answer, Caller, Read};
 use pt_desk_rules::{ReadFacts, is_dispatcher, may_book, may_see_standing};
-use pt_requests::{Answer, Caller, Read};
-use pt_scheduling::days_of_use;
-use pt_visitors::visitor_may;
+use pt_desk_scheduling::days_of_use;
+use pt_rights_visitors::visitor_may;
 use std::alloc::{AllocError, Global};
 
 /// Whether a visitor with these trips may use the day.
@@ -59,7 +59,7 @@ fn tell_standing(
         return Ok(Answer::Denied(Rule::Caller));
     }
     match &facts.rider {
-        Some(there) => told_of_kind(alloc, there.kind, facts, now.day, day),
+        Some(there) => told_of_kind(alloc, there.kind, facts, now.0, day),
         None => Ok(Answer::Denied(Rule::Unknown)),
     }
 }

@@ -1,14 +1,14 @@
 ghost use Rattle.std.specs.Prelude.{◌≡◌, ℕ, ◌+◌, ◌<◌, ◌≤◌, length, IfOk, Some};
 ghost use Rattle.std.specs.List.{AllZip};
-ghost use Rattle.pt_base.specs.declared.moment.Moment.{Moment};
+ghost use Rattle.pt_base_values.specs.Moment.{Moment};
 ghost use Rattle.pt_feasible.specs.Loads.{LoadsFit};
 ghost use Rattle.pt_feasible.specs.Route.{stops_of};
 ghost use Rattle.pt_feasible.specs.ServiceTimes.{KeepsTimeWindows};
 ghost use Rattle.pt_feasible.specs.Visit.{visits};
-ghost use Rattle.pt_records.specs.Records.{record_at, Each};
-ghost use Rattle.pt_scheduling.specs.Routes.{stops_on};
+ghost use Rattle.pt_base_records.specs.Records.{record_at, Each};
+ghost use Rattle.pt_desk_scheduling.specs.Routes.{stops_on};
 ghost use Rattle.pt_desk_rules.specs.Booking.{rows_of};
-ghost use Rattle.pt_requests.specs.declared.request.Read.TheVariants as read;
+ghost use Rattle.pt_desk_requests.specs.declared.request.Read.TheVariants as read;
 ghost use Rattle.pt_desk_rules.specs.Deciding.{IsTold};
 ghost use Rattle.pt_desk_rules.specs.Fleet as fleet;
 ghost use Rattle.pt_desk_rules.specs.Sound.{IsIn};
@@ -16,14 +16,14 @@ ghost use Rattle.pt_desk_rules.specs.State.{trip_key};
 ghost use Rattle.pt_desk_rules.specs.Tours.{place_of, standing_count, window_of, AreShown, IsTourAt, IsTourOrNone};
 ghost use Rattle.pt_desk_rules.specs.Tours.{IsDaySheet, IsManifestOf, IsSheetOf};
 
-use pt_base::{Day, Load, Minute, PlaceId, Rule, Trip, TripId, Vehicle, VehicleId, Window};
+use pt_base_records::{Key, Rows};
+use pt_base_values::{Day, Load, Minute, PlaceId, Rule, Trip, TripId, Vehicle, VehicleId, Window};
+use pt_desk_requests::{Answer, Caller, DaySheet, Tour, TourStop, VehicleSheet};
 use pt_desk_rules::{
     DayFacts, ReadFacts, TravelTable, duty_of, has_version, is_dispatcher, may_run, on_duty,
 };
+use pt_desk_scheduling::route_on;
 use pt_feasible::{Route, Schedule, StopKind, Stops, aboard_after, loads_fit, settle};
-use pt_records::{Key, Rows};
-use pt_requests::{Answer, Caller, DaySheet, Tour, TourStop, VehicleSheet};
-use pt_scheduling::route_on;
 use std::alloc::{AllocError, Global};
 
 /// The promised window of a pickup; `None` at a drop.

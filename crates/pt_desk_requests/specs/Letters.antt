@@ -1,9 +1,9 @@
 -- The decisions that riders get by letter (49 CFR 37.125(d), (e), (g), (h)).
 use Rattle.std.specs.Prelude.{Option, None, Some}
-use Rattle.pt_rights.specs.declared.entry.Entry.{Entry}
-use Rattle.pt_rights.specs.declared.entry.Entry.TheVariants as entry
-use Rattle.pt_requests.specs.declared.letters.Determination.{Determination}
-use Rattle.pt_requests.specs.declared.letters.Determination.TheVariants as decision
+use Rattle.pt_rights_files.specs.declared.entry.Entry.{Entry}
+use Rattle.pt_rights_files.specs.declared.entry.Entry.TheVariants as entry
+use Rattle.pt_desk_requests.specs.declared.letters.Determination.{Determination}
+use Rattle.pt_desk_requests.specs.declared.letters.Determination.TheVariants as decision
 
 -- the decision that an entry of a case file makes; None for the kinds that have no letter
 abbrev pub decision_of : Entry → Option Determination

@@ -1,8 +1,8 @@
 ghost use Rattle.std.specs.Prelude.{◌≡◌, ℕ, List, length};
 ghost use Rattle.sha2.specs.Sha256.{sha256};
 
-use pt_base::{CallerId, RiderId, VehicleId};
-use pt_records::{Key, Keyed};
+use pt_base_records::{Key, Keyed};
+use pt_base_values::{CallerId, RiderId, VehicleId};
 use sha2::{Digest as _, Sha256};
 use std::marker::Model;
 

@@ -1,8 +1,8 @@
 ghost use Rattle.std.specs.Prelude.{◌≡◌};
-ghost use Rattle.pt_requests.specs.Letters.{decision_of};
+ghost use Rattle.pt_desk_requests.specs.Letters.{decision_of};
 
-use pt_base::{Day, Rider};
-use pt_rights::{Entry, Grant, Reasons};
+use pt_base_values::{Day, Rider};
+use pt_rights_files::{Entry, Grant, Reasons};
 
 /// A decision on a rider's application, appeal or suspension that the rider gets by letter.
 #[derive(Drop)]

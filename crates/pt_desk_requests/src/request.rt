@@ -1,13 +1,13 @@
 ghost use Rattle.std.specs.Prelude.{◌*◌, ◌≤◌};
-ghost use Rattle.pt_base.specs.Ranges.{highest_fare};
+ghost use Rattle.pt_base_values.specs.Ranges.{highest_fare};
 
 use crate::{Caller, DaySheet, Letter, VehicleSheet};
-use pt_base::{
+use pt_base_records::Rows;
+use pt_base_values::{
     Day, Minute, Place, Policy, Rider, RiderId, Rule, Trip, TripId, Vehicle, VehicleId, Wish,
 };
 use pt_corridor::FixedRoute;
-use pt_records::Rows;
-use pt_rights::{Entry, Outcome, Position, Standing};
+use pt_rights_files::{Entry, Outcome, Position, Standing};
 use pt_travel::Raw;
 
 /// What a caller asks of the desk.

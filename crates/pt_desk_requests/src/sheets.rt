@@ -1,6 +1,6 @@
 ghost use Rattle.std.specs.Prelude.{◌<◌, vec_len};
 
-use pt_base::{Day, Load, Minute, PlaceId, RiderId, TripId, VehicleId, Window};
+use pt_base_values::{Day, Load, Minute, PlaceId, RiderId, TripId, VehicleId, Window};
 
 /// A stop of a tour.
 #[derive(Clone, Copy)]

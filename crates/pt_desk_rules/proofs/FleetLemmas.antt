@@ -2,12 +2,12 @@
 use Rattle.std.proofs.Common.{drop, ◌≡◌, ℕ, ◌+◌, ◌<◌, ◌≤◌, Bool, true, false, not, List, [], ◌∷◌, length, arith, cond, refl, sym, ap, ◌∙◌, subst, inl, inr}
 use Rattle.std.specs.Prelude.{◌==◌, ◌&&◌, ◌||◌, nat_lt, filter}
 use Rattle.std.proofs.lemmas.Bool.Decides.{nat_tests}
-use Rattle.pt_base.specs.declared.vehicle.Vehicle.{Vehicle}
-use Rattle.pt_records.specs.Keys.{pair_key}
-use Rattle.pt_records.specs.Records.{put, take_away, is_within, Each}
-use Rattle.pt_records.proofs.OrderLemmas.{compared}
-use Rattle.pt_records.proofs.RecordLemmas.{put_past, put_over, put_before}
-use Rattle.pt_records.proofs.TableLemmas.{same_or_other}
+use Rattle.pt_base_values.specs.declared.vehicle.Vehicle.{Vehicle}
+use Rattle.pt_base_records.specs.Keys.{pair_key}
+use Rattle.pt_base_records.specs.Records.{put, take_away, is_within, Each}
+use Rattle.pt_base_records.proofs.OrderLemmas.{compared}
+use Rattle.pt_base_records.proofs.RecordLemmas.{put_past, put_over, put_before}
+use Rattle.pt_base_records.proofs.TableLemmas.{same_or_other}
 use Rattle.pt_desk_rules.specs.Fleet.{has_version, vehicle_count, versions_of, versions_before, versions_of_others}
 use Rattle.pt_desk_rules.specs.Sound.{HasFirstDay, IsFleet}
 use Rattle.pt_desk_rules.specs.State.{vehicle_key, versions_from}

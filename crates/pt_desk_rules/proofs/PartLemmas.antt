@@ -1,6 +1,6 @@
 -- A change edits each table by itself, and two states with the same tables, policy and last number are the same.
 use Rattle.std.proofs.Common.{◌≡◌, refl}
-use Rattle.pt_records.specs.Records.{edited}
+use Rattle.pt_base_records.specs.Records.{edited}
 use Rattle.pt_desk_rules.specs.Parts.{Part, edit_of, key_in, records_of}
 use Rattle.pt_desk_rules.specs.Parts as part
 use Rattle.pt_desk_rules.specs.State.{State, applied}

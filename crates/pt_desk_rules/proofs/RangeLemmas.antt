@@ -2,11 +2,11 @@
 use Rattle.std.proofs.Common.{◌≡◌, ℕ, not, List, [], ◌∷◌, ◌++◌, Option, None, Some, sym, subst}
 use Rattle.std.specs.Option.{unwrap_or}
 use Rattle.std.specs.Prelude.{IfSome}
-use Rattle.pt_records.specs.Records.{Each, Edit, edited, is_within, put, put_all, take_all, take_away}
-use Rattle.pt_records.specs.declared.span.Span.{Span}
-use Rattle.pt_records.proofs.OrderLemmas.{Each-put, Each-weaker}
-use Rattle.pt_records.proofs.TableLemmas.{Each-filter}
-use Rattle.pt_spelling.specs.Ranges.{IsVehicle, IsWord}
+use Rattle.pt_base_records.specs.Records.{Each, Edit, edited, is_within, put, put_all, take_all, take_away}
+use Rattle.pt_base_records.specs.declared.span.Span.{Span}
+use Rattle.pt_base_records.proofs.OrderLemmas.{Each-put, Each-weaker}
+use Rattle.pt_base_records.proofs.TableLemmas.{Each-filter}
+use Rattle.pt_desk_spelling.specs.Ranges.{IsVehicle, IsWord}
 use Rattle.pt_desk_rules.specs.Fleet.{ClosesInDay}
 use Rattle.pt_desk_rules.specs.Parts.{Part, edit_of, key_in, records_of}
 use Rattle.pt_desk_rules.specs.Parts as part

@@ -4,19 +4,19 @@ use Rattle.std.proofs.Common.{take, map, Option, Some, None, refl, sym, ap, â—Œâ
 use Rattle.std.specs.List.{AllZip}
 use Rattle.std.specs.Prelude.{slice_get, slice_index}
 use Rattle.std.proofs.lemmas.Option.{same_Some}
-use Rattle.pt_base.specs.declared.trip.Trip.{Trip}
-use Rattle.pt_base.specs.declared.vehicle.Vehicle.{Vehicle}
+use Rattle.pt_base_values.specs.declared.trip.Trip.{Trip}
+use Rattle.pt_base_values.specs.declared.vehicle.Vehicle.{Vehicle}
 use Rattle.pt_feasible.specs.declared.stop.Stop.{Stop}
 use Rattle.pt_feasible.specs.Loads.{load_aboard}
 use Rattle.pt_feasible.specs.ServiceTimes.{KeepsTimeWindows}
 use Rattle.pt_feasible.specs.Visit.{depot_visit, stop_visit, visits}
 use Rattle.pt_feasible.proofs.VisitLemmas.{visits-stop}
-use Rattle.pt_requests.specs.declared.sheets.TourStop.{TourStop}
-use Rattle.pt_records.specs.Records.{record_at, Each}
-use Rattle.pt_records.proofs.TableLemmas.{found_is_some}
-use Rattle.pt_scheduling.specs.Plan.{after_stop, stops_among, trip_stop}
-use Rattle.pt_scheduling.specs.declared.planned.PlannedStop.{PlannedStop}
-use Rattle.pt_scheduling.proofs.PlanLemmas.{found_key, stop_trip}
+use Rattle.pt_desk_requests.specs.declared.sheets.TourStop.{TourStop}
+use Rattle.pt_base_records.specs.Records.{record_at, Each}
+use Rattle.pt_base_records.proofs.TableLemmas.{found_is_some}
+use Rattle.pt_desk_scheduling.specs.Plan.{after_stop, stops_among, trip_stop}
+use Rattle.pt_desk_scheduling.specs.declared.planned.PlannedStop.{PlannedStop}
+use Rattle.pt_desk_scheduling.proofs.PlanLemmas.{found_key, stop_trip}
 use Rattle.pt_travel.specs.Chain.{Row, IsTime}
 use Rattle.pt_desk_rules.specs.Booking.{AreTimes}
 use Rattle.pt_desk_rules.specs.Sound.{IsIn}

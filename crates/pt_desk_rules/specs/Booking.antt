@@ -1,16 +1,16 @@
 -- The decision on a trip that is asked for, from the facts alone.
 use Rattle.std.specs.Prelude.{◌≡◌, ℕ, List, [], Option, Some, None}
-use Rattle.pt_base.specs.declared.trip.Trip.{Trip}
-use Rattle.pt_base.specs.declared.trip.Wish.{Wish}
-use Rattle.pt_booking.specs.Planning.{OnDuty}
-use Rattle.pt_booking.specs.Request.{Request}
-use Rattle.pt_records.specs.Records.{record_at}
-use Rattle.pt_scheduling.specs.Plan.{Plan}
-use Rattle.pt_scheduling.specs.Routes.{routes_without}
-use Rattle.pt_scheduling.specs.Scheduling.{AreRoutes, IsScheduled}
-use Rattle.pt_scheduling.specs.Uses.{AreUses}
-use Rattle.pt_scheduling.specs.declared.scheduling.Scheduled.{Scheduled}
-use Rattle.pt_scheduling.specs.declared.scheduling.Scheduled.TheVariants as scheduled
+use Rattle.pt_base_values.specs.declared.trip.Trip.{Trip}
+use Rattle.pt_base_values.specs.declared.trip.Wish.{Wish}
+use Rattle.pt_desk_booking.specs.Planning.{OnDuty}
+use Rattle.pt_desk_booking.specs.Request.{Request}
+use Rattle.pt_base_records.specs.Records.{record_at}
+use Rattle.pt_desk_scheduling.specs.Plan.{Plan}
+use Rattle.pt_desk_scheduling.specs.Routes.{routes_without}
+use Rattle.pt_desk_scheduling.specs.Scheduling.{AreRoutes, IsScheduled}
+use Rattle.pt_desk_scheduling.specs.Uses.{AreUses}
+use Rattle.pt_desk_scheduling.specs.declared.scheduling.Scheduled.{Scheduled}
+use Rattle.pt_desk_scheduling.specs.declared.scheduling.Scheduled.TheVariants as scheduled
 use Rattle.pt_travel.specs.Chain.{Row, IsTime}
 use Rattle.pt_desk_rules.specs.Fleet.{on_duty}
 use Rattle.pt_desk_rules.specs.Planned.{planned_on, trips_on}
@@ -22,8 +22,8 @@ use Rattle.pt_desk_rules.specs.declared.change.Change.{Change}
 use Rattle.pt_desk_rules.specs.declared.deciding.Decision.{Decision}
 use Rattle.pt_desk_rules.specs.declared.deciding.Decision.TheVariants.{Denied, Accepted}
 use Rattle.pt_desk_rules.specs.declared.facts.WishFacts.{WishFacts}
-use Rattle.pt_requests.specs.declared.request.Answer.TheVariants as answer
-use Rattle.pt_requests.specs.declared.request.Confirmation.{Confirmation}
+use Rattle.pt_desk_requests.specs.declared.request.Answer.TheVariants as answer
+use Rattle.pt_desk_requests.specs.declared.request.Confirmation.{Confirmation}
 
 -- The request that the facts make of a wish, for a trip of this number. If it changes an old trip, that trip is left
 -- out of a visitor's days of use.

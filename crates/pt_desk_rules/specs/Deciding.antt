@@ -1,52 +1,52 @@
 -- The decision on a request, from the facts alone.
 use Rattle.std.specs.Prelude.{◌≡◌, ℕ, ◌+◌, ◌↔◌, Bool, IsTrue, List, length, Option, Some, None}
 use Rattle.std.specs.Option.{unwrap_or}
-use Rattle.pt_base.specs.declared.rider.Residence.{Residence}
-use Rattle.pt_base.specs.declared.rider.Residence.TheVariants.{Resident, Visitor}
-use Rattle.pt_base.specs.declared.rider.Rider.{Rider}
-use Rattle.pt_base.specs.declared.rule.Rule.{Rule}
-use Rattle.pt_base.specs.declared.trip.Trip.{Trip}
-use Rattle.pt_base.specs.declared.trip.Wish.{Wish}
-use Rattle.pt_base.specs.declared.moment.Moment.{Moment}
-use Rattle.pt_requests.specs.declared.sheets.DaySheet.{DaySheet}
-use Rattle.pt_requests.specs.declared.sheets.VehicleSheet.{VehicleSheet}
-use Rattle.pt_records.specs.Records.{Edit}
-use Rattle.pt_rights.specs.Rules.{first_failing}
-use Rattle.pt_rights.specs.Standing.{standing_of}
-use Rattle.pt_rights.specs.Suspension.{is_suspended}
-use Rattle.pt_rights.specs.declared.entry.Entered.{Entered}
-use Rattle.pt_scheduling.specs.Plan.{Plan}
-use Rattle.pt_scheduling.specs.Uses.{AreUses}
-use Rattle.pt_booking.specs.Periods.{MayUse}
+use Rattle.pt_base_values.specs.declared.rider.Residence.{Residence}
+use Rattle.pt_base_values.specs.declared.rider.Residence.TheVariants.{Resident, Visitor}
+use Rattle.pt_base_values.specs.declared.rider.Rider.{Rider}
+use Rattle.pt_base_values.specs.declared.rule.Rule.{Rule}
+use Rattle.pt_base_values.specs.declared.trip.Trip.{Trip}
+use Rattle.pt_base_values.specs.declared.trip.Wish.{Wish}
+use Rattle.pt_base_values.specs.Moment.{Moment}
+use Rattle.pt_desk_requests.specs.declared.sheets.DaySheet.{DaySheet}
+use Rattle.pt_desk_requests.specs.declared.sheets.VehicleSheet.{VehicleSheet}
+use Rattle.pt_base_records.specs.Records.{Edit}
+use Rattle.pt_rights_files.specs.Rules.{first_failing}
+use Rattle.pt_rights_files.specs.Standing.{standing_of}
+use Rattle.pt_rights_files.specs.Suspension.{is_suspended}
+use Rattle.pt_rights_files.specs.declared.entry.Entered.{Entered}
+use Rattle.pt_desk_scheduling.specs.Plan.{Plan}
+use Rattle.pt_desk_scheduling.specs.Uses.{AreUses}
+use Rattle.pt_desk_booking.specs.Periods.{MayUse}
 use Rattle.pt_desk_rules.specs.Booking.{IsBooking}
 use Rattle.pt_desk_rules.specs.Facts.{FactsOf}
 use Rattle.pt_desk_rules.specs.Ranges.{PutsInRange}
 use Rattle.pt_desk_rules.specs.Fleet.{duty_of}
-use Rattle.pt_rights.specs.declared.tally.Outcome.{Outcome}
+use Rattle.pt_rights_files.specs.declared.tally.Outcome.{Outcome}
 use Rattle.pt_desk_rules.specs.Letters.{letter_at, IsToldLetter}
 use Rattle.pt_desk_rules.specs.Outcomes.{ended}
 use Rattle.pt_desk_rules.specs.State.{no_edit, puts_one, replaces, versions_from, tables_from}
 use Rattle.pt_desk_rules.specs.Rules.{rules_of, read_rules}
 use Rattle.pt_desk_rules.specs.Tours.{IsDaySheet, IsManifestOf}
 use Rattle.pt_desk_rules.specs.Trips.{cancelled, gives_up, moves_to}
-use Rattle.pt_requests.specs.declared.caller.Caller.{Caller}
+use Rattle.pt_desk_requests.specs.declared.caller.Caller.{Caller}
 use Rattle.pt_desk_rules.specs.declared.kept.Kept.{Kept}
 use Rattle.pt_desk_rules.specs.declared.kept.Sent.{Sent}
-use Rattle.pt_spelling.specs.Replies.{reply_of}
-use Rattle.pt_spelling.specs.declared.replies.KeptReply.{KeptReply}
-use Rattle.pt_spelling.specs.declared.replies.KeptReply.TheVariants as reply
+use Rattle.pt_desk_spelling.specs.Replies.{reply_of}
+use Rattle.pt_desk_spelling.specs.declared.replies.KeptReply.{KeptReply}
+use Rattle.pt_desk_spelling.specs.declared.replies.KeptReply.TheVariants as reply
 use Rattle.pt_desk_rules.specs.declared.change.Change.{Change}
 use Rattle.pt_desk_rules.specs.declared.deciding.Decision.{Decision}
 use Rattle.pt_desk_rules.specs.declared.deciding.Decision.TheVariants.{Denied, Accepted}
 use Rattle.pt_desk_rules.specs.declared.facts.CancelFacts.{CancelFacts}
 use Rattle.pt_desk_rules.specs.declared.facts.ReadFacts.{ReadFacts}
 use Rattle.pt_desk_rules.specs.declared.facts.WishFacts.{WishFacts}
-use Rattle.pt_requests.specs.declared.request.Answer.{Answer}
-use Rattle.pt_requests.specs.declared.request.Answer.TheVariants as answer
-use Rattle.pt_requests.specs.declared.request.Read.{Read}
-use Rattle.pt_requests.specs.declared.request.Read.TheVariants as read
-use Rattle.pt_requests.specs.declared.request.Write.{Write}
-use Rattle.pt_requests.specs.declared.request.Write.TheVariants as write
+use Rattle.pt_desk_requests.specs.declared.request.Answer.{Answer}
+use Rattle.pt_desk_requests.specs.declared.request.Answer.TheVariants as answer
+use Rattle.pt_desk_requests.specs.declared.request.Read.{Read}
+use Rattle.pt_desk_requests.specs.declared.request.Read.TheVariants as read
+use Rattle.pt_desk_requests.specs.declared.request.Write.{Write}
+use Rattle.pt_desk_requests.specs.declared.request.Write.TheVariants as write
 
 -- the kept request of this caller after a write with this reply
 abbrev pub kept_by : ℕ → Sent → KeptReply → Kept
@@ -149,13 +149,13 @@ IsRulingAfter None asked author today facts decided = IsDecidedBy asked author t
 -- the decision on a write by this caller at this moment, except its kept request
 abbrev pub IsRuling : (asked : Write) → Caller → Moment → FactsOf asked → Decision → Type 0
 IsRuling asked me now facts decided =
-    IsRulingAfter (first_failing (rules_of asked me now facts)) asked me.id now.day facts decided
+    IsRulingAfter (first_failing (rules_of asked me now facts)) asked me.id now.0 facts decided
 
 -- the decision, if this is the first of the write's own rules to fail, or none fails
 abbrev pub IsDecisionAfter : Option Rule → (asked : Write) → Caller → Moment → Sent → FactsOf asked → Decision → Type 0
 IsDecisionAfter (Some first) asked me now sent facts decided = decided ≡ Denied first
 IsDecisionAfter None asked me now sent facts decided =
-    (made : Decision) × IsDecidedBy asked me.id now.day facts made × (decided ≡ with_kept me.id sent made)
+    (made : Decision) × IsDecidedBy asked me.id now.0 facts made × (decided ≡ with_kept me.id sent made)
 
 -- the decision on a write by this caller with a new number, at this moment
 abbrev pub IsDecision : (asked : Write) → Caller → Moment → Sent → FactsOf asked → Decision → Type 0
@@ -201,4 +201,4 @@ IsToldAfter None asked today facts told = IsToldRead asked today facts told
 
 -- the answer to a read by this caller at this moment
 abbrev pub IsTold : Read → Caller → Moment → ReadFacts → Answer → Type 0
-IsTold asked me now facts told = IsToldAfter (first_failing (read_rules asked me facts)) asked now.day facts told
+IsTold asked me now facts told = IsToldAfter (first_failing (read_rules asked me facts)) asked now.0 facts told

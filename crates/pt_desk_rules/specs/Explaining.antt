@@ -1,17 +1,17 @@
 -- The answer to a dispatcher who asks whether a wish could be booked.
 use Rattle.std.specs.Prelude.{◌≡◌, ℕ, ◌+◌, Option, Some, None}
-use Rattle.pt_base.specs.declared.rule.Rule.{Rule}
-use Rattle.pt_base.specs.declared.trip.Wish.{Wish}
-use Rattle.pt_base.specs.declared.moment.Moment.{Moment}
-use Rattle.pt_rights.specs.Rules.{first_failing}
-use Rattle.pt_scheduling.specs.declared.scheduling.Scheduled.{Scheduled}
-use Rattle.pt_scheduling.specs.declared.scheduling.Scheduled.TheVariants as scheduled
+use Rattle.pt_base_values.specs.declared.rule.Rule.{Rule}
+use Rattle.pt_base_values.specs.declared.trip.Wish.{Wish}
+use Rattle.pt_base_values.specs.Moment.{Moment}
+use Rattle.pt_rights_files.specs.Rules.{first_failing}
+use Rattle.pt_desk_scheduling.specs.declared.scheduling.Scheduled.{Scheduled}
+use Rattle.pt_desk_scheduling.specs.declared.scheduling.Scheduled.TheVariants as scheduled
 use Rattle.pt_desk_rules.specs.Booking.{IsAnswered}
 use Rattle.pt_desk_rules.specs.Rules.{explain_rules}
 use Rattle.pt_desk_rules.specs.declared.facts.WishFacts.{WishFacts}
-use Rattle.pt_requests.specs.declared.caller.Caller.{Caller}
-use Rattle.pt_requests.specs.declared.request.Answer.{Answer}
-use Rattle.pt_requests.specs.declared.request.Answer.TheVariants as answer
+use Rattle.pt_desk_requests.specs.declared.caller.Caller.{Caller}
+use Rattle.pt_desk_requests.specs.declared.request.Answer.{Answer}
+use Rattle.pt_desk_requests.specs.declared.request.Answer.TheVariants as answer
 
 -- the number that a trip would get now
 abbrev pub next_trip : WishFacts → ℕ
@@ -31,4 +31,4 @@ IsExplainedAfter None wish today facts told =
 -- the answer to this caller about a wish at this moment
 abbrev pub IsExplained : Wish → Caller → Moment → WishFacts → Answer → Type 0
 IsExplained wish me now facts told =
-    IsExplainedAfter (first_failing (explain_rules wish me facts)) wish now.day facts told
+    IsExplainedAfter (first_failing (explain_rules wish me facts)) wish now.0 facts told

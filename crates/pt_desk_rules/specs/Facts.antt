@@ -1,25 +1,25 @@
 -- The facts that the rules read.
 use Rattle.std.specs.Prelude.{ℕ, Bool, true, List, [], length, Option, Some, None, is_some}
-use Rattle.pt_base.specs.declared.policy.Policy.{Policy}
-use Rattle.pt_base.specs.declared.rider.Residence.{Residence}
-use Rattle.pt_base.specs.declared.rider.Residence.TheVariants.{Resident, Visitor}
-use Rattle.pt_base.specs.declared.rider.Rider.{Rider}
-use Rattle.pt_base.specs.declared.trip.Trip.{Trip}
-use Rattle.pt_base.specs.declared.trip.Wish.{Wish}
-use Rattle.pt_base.specs.declared.vehicle.Vehicle.{Vehicle}
-use Rattle.pt_records.specs.Records.{record_at}
+use Rattle.pt_base_values.specs.declared.policy.Policy.{Policy}
+use Rattle.pt_base_values.specs.declared.rider.Residence.{Residence}
+use Rattle.pt_base_values.specs.declared.rider.Residence.TheVariants.{Resident, Visitor}
+use Rattle.pt_base_values.specs.declared.rider.Rider.{Rider}
+use Rattle.pt_base_values.specs.declared.trip.Trip.{Trip}
+use Rattle.pt_base_values.specs.declared.trip.Wish.{Wish}
+use Rattle.pt_base_values.specs.declared.vehicle.Vehicle.{Vehicle}
+use Rattle.pt_base_records.specs.Records.{record_at}
 use Rattle.pt_desk_rules.specs.Fleet.{has_version}
-use Rattle.pt_rights.specs.declared.entry.Entry.{Entry}
-use Rattle.pt_rights.specs.declared.entry.Entry.TheVariants as entry
-use Rattle.pt_rights.specs.declared.tally.Tally.{Tally}
+use Rattle.pt_rights_files.specs.declared.entry.Entry.{Entry}
+use Rattle.pt_rights_files.specs.declared.entry.Entry.TheVariants as entry
+use Rattle.pt_rights_files.specs.declared.tally.Tally.{Tally}
 use Rattle.pt_desk_rules.specs.Outcomes.{tallies_of}
 use Rattle.pt_desk_rules.specs.Planned.{is_booked_from, planned_on, trips_of, trips_on}
 use Rattle.pt_desk_rules.specs.State.{State, caller_with, caller_of, place_of, plan_of, route_of, rider_of}
 use Rattle.pt_desk_rules.specs.State.{trip_of, file_of, rider_key, tables_before}
 use Rattle.pt_desk_rules.specs.Travel.{table_on}
-use Rattle.pt_requests.specs.declared.caller.Role.{Role}
-use Rattle.pt_requests.specs.declared.caller.Role.TheVariants as role
-use Rattle.pt_scheduling.specs.Plan.{Plan}
+use Rattle.pt_desk_requests.specs.declared.caller.Role.{Role}
+use Rattle.pt_desk_requests.specs.declared.caller.Role.TheVariants as role
+use Rattle.pt_desk_scheduling.specs.Plan.{Plan}
 use Rattle.pt_desk_rules.specs.declared.facts.BookingFacts.{BookingFacts}
 use Rattle.pt_desk_rules.specs.declared.facts.CallerFacts.{CallerFacts}
 use Rattle.pt_desk_rules.specs.declared.facts.CancelFacts.{CancelFacts}
@@ -32,10 +32,10 @@ use Rattle.pt_desk_rules.specs.declared.facts.RouteFacts.{RouteFacts}
 use Rattle.pt_desk_rules.specs.declared.facts.TravelFacts.{TravelFacts}
 use Rattle.pt_desk_rules.specs.declared.facts.VehicleFacts.{VehicleFacts}
 use Rattle.pt_desk_rules.specs.declared.facts.WishFacts.{WishFacts}
-use Rattle.pt_requests.specs.declared.request.Read.{Read}
-use Rattle.pt_requests.specs.declared.request.Read.TheVariants as read
-use Rattle.pt_requests.specs.declared.request.Write.{Write}
-use Rattle.pt_requests.specs.declared.request.Write.TheVariants as write
+use Rattle.pt_desk_requests.specs.declared.request.Read.{Read}
+use Rattle.pt_desk_requests.specs.declared.request.Read.TheVariants as read
+use Rattle.pt_desk_requests.specs.declared.request.Write.{Write}
+use Rattle.pt_desk_requests.specs.declared.request.Write.TheVariants as write
 
 -- nothing is planned
 abbrev pub no_day : DayFacts

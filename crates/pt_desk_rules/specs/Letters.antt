@@ -1,12 +1,12 @@
 -- The letters that riders get (49 CFR 37.125(d), (e), (g), (h)).
 use Rattle.std.specs.Prelude.{◌≡◌, ℕ, List, Option, Some, None, slice_get}
 use Rattle.std.specs.Option.{option_and_then, option_map}
-use Rattle.pt_base.specs.declared.rider.Rider.{Rider}
-use Rattle.pt_requests.specs.Letters.{decision_of}
-use Rattle.pt_requests.specs.declared.letters.Letter.{Letter}
-use Rattle.pt_requests.specs.declared.request.Answer.{Answer}
-use Rattle.pt_requests.specs.declared.request.Answer.TheVariants as answer
-use Rattle.pt_rights.specs.declared.entry.Entered.{Entered}
+use Rattle.pt_base_values.specs.declared.rider.Rider.{Rider}
+use Rattle.pt_desk_requests.specs.Letters.{decision_of}
+use Rattle.pt_desk_requests.specs.declared.letters.Letter.{Letter}
+use Rattle.pt_desk_requests.specs.declared.request.Answer.{Answer}
+use Rattle.pt_desk_requests.specs.declared.request.Answer.TheVariants as answer
+use Rattle.pt_rights_files.specs.declared.entry.Entered.{Entered}
 
 -- the letter of an entry, if its kind has one
 abbrev pub letter_of : Rider → Entered → Option Letter

@@ -2,12 +2,12 @@
 use Rattle.std.specs.Prelude.{ℕ, nat_le, Bool, false, List, Option, Some, None}
 use Rattle.std.specs.List.{filter_map}
 use Rattle.std.specs.Option.{option_map}
-use Rattle.pt_base.specs.declared.trip.Trip.{Trip}
-use Rattle.pt_base.specs.declared.trip_status.TripStatus.{TripStatus}
-use Rattle.pt_base.specs.declared.trip_status.TripStatus.TheVariants as status
-use Rattle.pt_rights.specs.declared.tally.Outcome.{Outcome}
-use Rattle.pt_rights.specs.declared.tally.Outcome.TheVariants as outcome
-use Rattle.pt_rights.specs.declared.tally.Tally.{Tally}
+use Rattle.pt_base_values.specs.declared.trip.Trip.{Trip}
+use Rattle.pt_base_values.specs.declared.trip_status.TripStatus.{TripStatus}
+use Rattle.pt_base_values.specs.declared.trip_status.TripStatus.TheVariants as status
+use Rattle.pt_rights_files.specs.declared.tally.Outcome.{Outcome}
+use Rattle.pt_rights_files.specs.declared.tally.Outcome.TheVariants as outcome
+use Rattle.pt_rights_files.specs.declared.tally.Tally.{Tally}
 use Rattle.pt_desk_rules.specs.Trips.{is_booked}
 
 -- the status of a trip with this outcome

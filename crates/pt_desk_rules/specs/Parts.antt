@@ -1,14 +1,14 @@
 -- The tables that hold records: what each holds, its place in a state and in a change, and its key. A definition over
 -- all of them speaks of a part.
 use Rattle.std.specs.Prelude.{ℕ, List}
-use Rattle.pt_base.specs.declared.place.Place.{Place}
-use Rattle.pt_base.specs.declared.rider.Rider.{Rider}
-use Rattle.pt_base.specs.declared.trip.Trip.{Trip}
-use Rattle.pt_base.specs.declared.vehicle.Vehicle.{Vehicle}
+use Rattle.pt_base_values.specs.declared.place.Place.{Place}
+use Rattle.pt_base_values.specs.declared.rider.Rider.{Rider}
+use Rattle.pt_base_values.specs.declared.trip.Trip.{Trip}
+use Rattle.pt_base_values.specs.declared.vehicle.Vehicle.{Vehicle}
 use Rattle.pt_corridor.specs.Route.{FixedRoute}
-use Rattle.pt_records.specs.Records.{Edit}
-use Rattle.pt_requests.specs.declared.caller.Caller.{Caller}
-use Rattle.pt_scheduling.specs.Plan.{Plan, plan_key}
+use Rattle.pt_base_records.specs.Records.{Edit}
+use Rattle.pt_desk_requests.specs.declared.caller.Caller.{Caller}
+use Rattle.pt_desk_scheduling.specs.Plan.{Plan, plan_key}
 use Rattle.pt_desk_rules.specs.State.{State, caller_key, kept_key, place_key, route_key, rider_key, entry_key}
 use Rattle.pt_desk_rules.specs.State.{vehicle_key, travel_key, trip_key}
 use Rattle.pt_desk_rules.specs.Travel.{TravelTable}

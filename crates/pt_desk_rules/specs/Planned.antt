@@ -1,9 +1,9 @@
 -- The trips that are planned, by rider, by day, and by vehicle.
 use Rattle.std.specs.Prelude.{ℕ, ◌==◌, ◌&&◌, nat_le, Bool, true, List, filter, Option, Some, None}
 use Rattle.std.specs.List.{list_any}
-use Rattle.pt_base.specs.TripStatus.{stands}
-use Rattle.pt_base.specs.declared.trip.Trip.{Trip}
-use Rattle.pt_scheduling.specs.Plan.{Plan}
+use Rattle.pt_base_values.specs.TripStatus.{stands}
+use Rattle.pt_base_values.specs.declared.trip.Trip.{Trip}
+use Rattle.pt_desk_scheduling.specs.Plan.{Plan}
 
 -- the trip is in the vehicle, if one is given
 abbrev pub is_of : Option ℕ → Trip → Bool

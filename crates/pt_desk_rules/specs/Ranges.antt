@@ -1,16 +1,16 @@
 -- The ranges of the fields of records, which definitions see only as numbers and lists. A record's number has 32 bits
 -- and is at least 1; days and minutes are in range. Ranges that a record's own type states are not repeated here.
 use Rattle.std.specs.Prelude.{ℕ, ◌≤◌, ◌<◌, ◌^◌, IfSome}
-use Rattle.pt_base.specs.Day.{IsDay}
-use Rattle.pt_base.specs.Ranges.{last_minute}
-use Rattle.pt_base.specs.declared.place.Place.{Place}
-use Rattle.pt_base.specs.declared.rider.Rider.{Rider}
-use Rattle.pt_base.specs.declared.trip.Trip.{Trip}
-use Rattle.pt_records.specs.Records.{Each}
-use Rattle.pt_scheduling.specs.Plan.{Plan}
-use Rattle.pt_scheduling.specs.declared.planned.PlannedStop.{PlannedStop}
-use Rattle.pt_spelling.specs.Ranges.{IsCaller, IsEntry, IsRoute, IsVehicle, IsWish, IsWord}
-use Rattle.pt_spelling.specs.Replies.{IsId, IsReply}
+use Rattle.pt_base_values.specs.Day.{IsDay}
+use Rattle.pt_base_values.specs.Ranges.{last_minute}
+use Rattle.pt_base_values.specs.declared.place.Place.{Place}
+use Rattle.pt_base_values.specs.declared.rider.Rider.{Rider}
+use Rattle.pt_base_values.specs.declared.trip.Trip.{Trip}
+use Rattle.pt_base_records.specs.Records.{Each}
+use Rattle.pt_desk_scheduling.specs.Plan.{Plan}
+use Rattle.pt_desk_scheduling.specs.declared.planned.PlannedStop.{PlannedStop}
+use Rattle.pt_desk_spelling.specs.Ranges.{IsCaller, IsEntry, IsRoute, IsVehicle, IsWish, IsWord}
+use Rattle.pt_desk_spelling.specs.Replies.{IsId, IsReply}
 use Rattle.pt_travel.specs.Chain.{Row}
 use Rattle.pt_travel.specs.Table.{IsTable}
 use Rattle.pt_desk_rules.specs.Parts.{Part, edit_of, record_in, records_of}

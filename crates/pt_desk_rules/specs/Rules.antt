@@ -2,18 +2,18 @@
 use Rattle.std.specs.Prelude.{ℕ, Bool, true, not, ◌==◌, ◌&&◌, ◌||◌, nat_lt, List, [], ◌∷◌, length}
 use Rattle.std.specs.Prelude.{Option, Some, None, is_some}
 use Rattle.std.specs.List.{list_all}
-use Rattle.pt_base.specs.declared.place.Place.{Place}
-use Rattle.pt_base.specs.declared.rider.Residence.{Residence}
-use Rattle.pt_base.specs.declared.rider.Residence.TheVariants.{Resident, Visitor}
-use Rattle.pt_base.specs.declared.rider.Rider.{Rider}
-use Rattle.pt_base.specs.declared.rule.Rule.{Rule}
-use Rattle.pt_base.specs.declared.rule.Rule.TheVariants as rule
-use Rattle.pt_base.specs.declared.trip.Wish.{Wish}
-use Rattle.pt_base.specs.declared.vehicle.Vehicle.{Vehicle}
-use Rattle.pt_base.specs.declared.moment.Moment.{Moment}
-use Rattle.pt_records.specs.Records.{record_at}
-use Rattle.pt_rights.specs.Admission.{admission_rules, is_resident}
-use Rattle.pt_rights.specs.declared.entry.Entry.{Entry}
+use Rattle.pt_base_values.specs.declared.place.Place.{Place}
+use Rattle.pt_base_values.specs.declared.rider.Residence.{Residence}
+use Rattle.pt_base_values.specs.declared.rider.Residence.TheVariants.{Resident, Visitor}
+use Rattle.pt_base_values.specs.declared.rider.Rider.{Rider}
+use Rattle.pt_base_values.specs.declared.rule.Rule.{Rule}
+use Rattle.pt_base_values.specs.declared.rule.Rule.TheVariants as rule
+use Rattle.pt_base_values.specs.declared.trip.Wish.{Wish}
+use Rattle.pt_base_values.specs.declared.vehicle.Vehicle.{Vehicle}
+use Rattle.pt_base_values.specs.Moment.{Moment}
+use Rattle.pt_base_records.specs.Records.{record_at}
+use Rattle.pt_rights_files.specs.Admission.{admission_rules, is_resident}
+use Rattle.pt_rights_files.specs.declared.entry.Entry.{Entry}
 use Rattle.pt_travel.specs.Chain.{Row}
 use Rattle.pt_desk_rules.specs.Facts.{FactsOf}
 use Rattle.pt_desk_rules.specs.Fleet.{has_version, vehicle_count, versions_before, versions_of_others}
@@ -24,14 +24,14 @@ use Rattle.pt_desk_rules.specs.Outcomes.{awaits_outcome, has_come}
 use Rattle.pt_desk_rules.specs.Permission.{is_admin, is_clerk, is_dispatcher, may_alter, may_book, may_end, may_enter}
 use Rattle.pt_desk_rules.specs.Permission.{may_run, may_see_standing}
 use Rattle.pt_desk_rules.specs.Trips.{has_ends, is_cancellable, is_changeable}
-use Rattle.pt_requests.specs.declared.caller.Caller.{Caller}
+use Rattle.pt_desk_requests.specs.declared.caller.Caller.{Caller}
 use Rattle.pt_desk_rules.specs.declared.facts.EntryFacts.{EntryFacts}
 use Rattle.pt_desk_rules.specs.declared.facts.ReadFacts.{ReadFacts}
 use Rattle.pt_desk_rules.specs.declared.facts.WishFacts.{WishFacts}
-use Rattle.pt_requests.specs.declared.request.Read.{Read}
-use Rattle.pt_requests.specs.declared.request.Read.TheVariants as read
-use Rattle.pt_requests.specs.declared.request.Write.{Write}
-use Rattle.pt_requests.specs.declared.request.Write.TheVariants as write
+use Rattle.pt_desk_requests.specs.declared.request.Read.{Read}
+use Rattle.pt_desk_requests.specs.declared.request.Read.TheVariants as read
+use Rattle.pt_desk_requests.specs.declared.request.Write.{Write}
+use Rattle.pt_desk_requests.specs.declared.request.Write.TheVariants as write
 
 -- both places of each row are in the list
 abbrev pub are_there : List Row → List Place → Bool
@@ -104,7 +104,7 @@ rules_of (write.Enter rider entry) me now facts =
     (rule.Caller, may_enter entry rider facts.rider me.role)
     ∷ (rule.Unknown, is_some facts.rider)
     ∷ (rule.Full, nat_lt (length facts.file) most_entries)
-    ∷ entry_rules facts.rider entry now.day me.id facts
+    ∷ entry_rules facts.rider entry now.0 me.id facts
 rules_of (write.PutVehicle new) me now facts =
     (rule.Caller, is_dispatcher me.role)
     ∷ (rule.Unknown, facts.has_depot)
@@ -123,7 +123,7 @@ rules_of (write.Book rider wish) me now facts =
 rules_of (write.Change trip wish) me now facts =
     (rule.Caller, may_alter facts.booking.trip facts.rider me.role)
     ∷ (rule.Unknown, is_some facts.booking.trip && is_some facts.rider && has_ends wish facts.places)
-    ∷ (rule.Over, is_changeable now.day facts.booking.trip)
+    ∷ (rule.Over, is_changeable now.0 facts.booking.trip)
     ∷ []
 rules_of (write.Cancel trip) me now facts =
     (rule.Caller, may_alter facts.trip facts.rider me.role)
@@ -134,7 +134,7 @@ rules_of (write.Outcome trip outcome) me now found =
     (rule.Caller, may_end found me.role)
     ∷ (rule.Unknown, is_some found)
     ∷ (rule.Over, awaits_outcome found)
-    ∷ (rule.Early, has_come now.day found)
+    ∷ (rule.Early, has_come now.0 found)
     ∷ []
 
 -- the rules of a read by this caller

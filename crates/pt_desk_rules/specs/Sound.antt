@@ -1,20 +1,20 @@
 -- The states that the desk may be in: they keep its limits, its orders and its references.
 use Rattle.std.specs.List.{list_any}
 use Rattle.std.specs.Prelude.{◌≡◌, ℕ, ◌+◌, ◌<◌, ◌≤◌, ◌==◌, IsTrue, List, [], ◌∷◌, length, Any, Option, Some, is_some}
-use Rattle.pt_base.specs.Day.{IsDay}
-use Rattle.pt_base.specs.TripStatus.{stands}
-use Rattle.pt_base.specs.declared.place.Place.{Place}
-use Rattle.pt_base.specs.declared.rider.Rider.{Rider}
-use Rattle.pt_base.specs.declared.trip.Trip.{Trip}
-use Rattle.pt_base.specs.declared.vehicle.Vehicle.{Vehicle}
+use Rattle.pt_base_values.specs.Day.{IsDay}
+use Rattle.pt_base_values.specs.TripStatus.{stands}
+use Rattle.pt_base_values.specs.declared.place.Place.{Place}
+use Rattle.pt_base_values.specs.declared.rider.Rider.{Rider}
+use Rattle.pt_base_values.specs.declared.trip.Trip.{Trip}
+use Rattle.pt_base_values.specs.declared.vehicle.Vehicle.{Vehicle}
 use Rattle.pt_feasible.specs.Loads.{LoadsFit}
 use Rattle.pt_feasible.specs.ServiceTimes.{TimesFit}
 use Rattle.pt_feasible.specs.declared.stop.Stop.{Stop}
-use Rattle.pt_records.specs.Keys.{pair_key}
-use Rattle.pt_records.specs.Records.{Each, IsInOrder, IsTable, record_at}
-use Rattle.pt_scheduling.specs.Plan.{Plan, plan_key, planned_stops, stops_among, IsRoutePlan}
-use Rattle.pt_scheduling.specs.Routes.{IsFeasible}
-use Rattle.pt_spelling.specs.Requests.{IsSpelling}
+use Rattle.pt_base_records.specs.Keys.{pair_key}
+use Rattle.pt_base_records.specs.Records.{Each, IsInOrder, IsTable, record_at}
+use Rattle.pt_desk_scheduling.specs.Plan.{Plan, plan_key, planned_stops, stops_among, IsRoutePlan}
+use Rattle.pt_desk_scheduling.specs.Routes.{IsFeasible}
+use Rattle.pt_desk_spelling.specs.Requests.{IsSpelling}
 use Rattle.pt_travel.specs.Chain.{Row}
 use Rattle.pt_desk_rules.specs.State.{most_callers, most_places, most_routes, most_riders, most_entries}
 use Rattle.pt_desk_rules.specs.State.{most_vehicles, most_versions, most_tables}
@@ -26,7 +26,7 @@ use Rattle.pt_desk_rules.specs.Booking.{rows_of, AreTimes}
 use Rattle.pt_desk_rules.specs.Fleet.{in_force, vehicle_count, versions_of}
 use Rattle.pt_desk_rules.specs.Rules.{are_there}
 use Rattle.pt_desk_rules.specs.Travel.{table_on, TravelTable}
-use Rattle.pt_requests.specs.declared.caller.Caller.{Caller}
+use Rattle.pt_desk_requests.specs.declared.caller.Caller.{Caller}
 use Rattle.pt_desk_rules.specs.declared.kept.Kept.{Kept}
 use Rattle.pt_desk_rules.specs.declared.change.FiledEntry.{FiledEntry}
 

@@ -1,29 +1,29 @@
 -- The answer to each request, and the state that it commits.
 use Rattle.std.specs.Prelude.{◌≡◌, ℕ, List, Option, Some, None}
-use Rattle.pt_requests.specs.Sha256.{sha256}
-use Rattle.pt_base.specs.declared.rule.Rule.TheVariants as rule
-use Rattle.pt_base.specs.declared.trip.Wish.{Wish}
-use Rattle.pt_base.specs.declared.moment.Moment.{Moment}
-use Rattle.pt_spelling.specs.Ranges.{IsRequest}
-use Rattle.pt_spelling.specs.Replies.{answer_of}
-use Rattle.pt_spelling.specs.Requests.{spelling}
+use Rattle.pt_desk_requests.specs.Sha256.{sha256}
+use Rattle.pt_base_values.specs.declared.rule.Rule.TheVariants as rule
+use Rattle.pt_base_values.specs.declared.trip.Wish.{Wish}
+use Rattle.pt_base_values.specs.Moment.{Moment}
+use Rattle.pt_desk_spelling.specs.Ranges.{IsRequest}
+use Rattle.pt_desk_spelling.specs.Replies.{answer_of}
+use Rattle.pt_desk_spelling.specs.Requests.{spelling}
 use Rattle.pt_desk_rules.specs.Arrival.{arrival_of}
 use Rattle.pt_desk_rules.specs.State.{State, caller_with, kept_of, applied}
 use Rattle.pt_desk_rules.specs.Explaining.{IsExplained}
 use Rattle.pt_desk_rules.specs.Facts.{facts_of, read_facts_of, wish_facts}
 use Rattle.pt_desk_rules.specs.Deciding.{IsDecision, IsTold, PutsInRangeIf}
-use Rattle.pt_requests.specs.declared.caller.Caller.{Caller}
+use Rattle.pt_desk_requests.specs.declared.caller.Caller.{Caller}
 use Rattle.pt_desk_rules.specs.declared.kept.Arrival.{Arrival}
 use Rattle.pt_desk_rules.specs.declared.kept.Arrival.TheVariants.{New, Repeated, Stale}
 use Rattle.pt_desk_rules.specs.declared.kept.Sent.{Sent}
 use Rattle.pt_desk_rules.specs.declared.deciding.Decision.{Decision}
 use Rattle.pt_desk_rules.specs.declared.deciding.Decision.TheVariants.{Denied, Accepted}
-use Rattle.pt_requests.specs.declared.request.Answer.{Answer}
-use Rattle.pt_requests.specs.declared.request.Answer.TheVariants as answer
-use Rattle.pt_requests.specs.declared.request.Read.{Read}
-use Rattle.pt_requests.specs.declared.request.Request.{Request}
-use Rattle.pt_requests.specs.declared.request.Request.TheVariants as request
-use Rattle.pt_requests.specs.declared.request.Write.{Write}
+use Rattle.pt_desk_requests.specs.declared.request.Answer.{Answer}
+use Rattle.pt_desk_requests.specs.declared.request.Answer.TheVariants as answer
+use Rattle.pt_desk_requests.specs.declared.request.Read.{Read}
+use Rattle.pt_desk_requests.specs.declared.request.Request.{Request}
+use Rattle.pt_desk_requests.specs.declared.request.Request.TheVariants as request
+use Rattle.pt_desk_requests.specs.declared.request.Write.{Write}
 
 -- the state after a commit, or the old state if there was none
 abbrev pub state_after : Option State → State → State

@@ -3,24 +3,24 @@
 use Rattle.std.specs.Prelude.{◌≡◌, ℕ, ◌+◌, ◌<◌, List, length, take, filter, slice_get, slice_index}
 use Rattle.std.specs.Prelude.{Option, Some, None, IsTrue, is_some, Any}
 use Rattle.std.specs.List.{AllZip}
-use Rattle.pt_base.specs.Day.{IsDay}
-use Rattle.pt_base.specs.TripStatus.{stands}
-use Rattle.pt_base.specs.declared.load.Load.{Load}
-use Rattle.pt_base.specs.declared.trip.Trip.{Trip}
-use Rattle.pt_base.specs.declared.vehicle.Vehicle.{Vehicle}
-use Rattle.pt_base.specs.declared.window.Window.{Window}
+use Rattle.pt_base_values.specs.Day.{IsDay}
+use Rattle.pt_base_values.specs.TripStatus.{stands}
+use Rattle.pt_base_values.specs.declared.load.Load.{Load}
+use Rattle.pt_base_values.specs.declared.trip.Trip.{Trip}
+use Rattle.pt_base_values.specs.declared.vehicle.Vehicle.{Vehicle}
+use Rattle.pt_base_values.specs.declared.window.Window.{Window}
 use Rattle.pt_feasible.specs.Loads.{load_aboard}
 use Rattle.pt_feasible.specs.ServiceTimes.{IsLeastSchedule}
 use Rattle.pt_feasible.specs.declared.stop.Stop.{Stop}
 use Rattle.pt_feasible.specs.declared.stop.StopKind.{StopKind}
 use Rattle.pt_feasible.specs.declared.stop.StopKind.TheVariants.{Pickup, Drop}
-use Rattle.pt_requests.specs.declared.sheets.DaySheet.{DaySheet}
-use Rattle.pt_requests.specs.declared.sheets.Tour.{Tour}
-use Rattle.pt_requests.specs.declared.sheets.TourStop.{TourStop}
-use Rattle.pt_requests.specs.declared.sheets.VehicleSheet.{VehicleSheet}
-use Rattle.pt_records.specs.Records.{record_at, Each}
-use Rattle.pt_scheduling.specs.Plan.{planned_stops, Plan}
-use Rattle.pt_scheduling.specs.Routes.{stops_on, IsRoute}
+use Rattle.pt_desk_requests.specs.declared.sheets.DaySheet.{DaySheet}
+use Rattle.pt_desk_requests.specs.declared.sheets.Tour.{Tour}
+use Rattle.pt_desk_requests.specs.declared.sheets.TourStop.{TourStop}
+use Rattle.pt_desk_requests.specs.declared.sheets.VehicleSheet.{VehicleSheet}
+use Rattle.pt_base_records.specs.Records.{record_at, Each}
+use Rattle.pt_desk_scheduling.specs.Plan.{planned_stops, Plan}
+use Rattle.pt_desk_scheduling.specs.Routes.{stops_on, IsRoute}
 use Rattle.pt_travel.specs.Chain.{Row}
 use Rattle.pt_desk_rules.specs.Booking.{rows_of, AreTimes}
 use Rattle.pt_desk_rules.specs.Facts.{day_of}

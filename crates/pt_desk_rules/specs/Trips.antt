@@ -1,21 +1,21 @@
 -- Trips that are booked, changed and cancelled.
 use Rattle.std.specs.Prelude.{◌≡◌, ℕ, ◌==◌, ◌&&◌, ◌||◌, nat_lt, Bool, true, false, List, [], ◌∷◌, ◌++◌, Option}
 use Rattle.std.specs.Prelude.{Some, None, is_some}
-use Rattle.pt_base.specs.declared.place.Place.{Place}
-use Rattle.pt_base.specs.declared.trip.Trip.{Trip}
-use Rattle.pt_base.specs.declared.trip.Wish.{Wish}
-use Rattle.pt_base.specs.declared.trip_status.TripStatus.{TripStatus}
-use Rattle.pt_base.specs.declared.trip_status.TripStatus.TheVariants.{Booked, Cancelled}
-use Rattle.pt_base.specs.declared.moment.Moment.{Moment}
-use Rattle.pt_booking.specs.Request.{party_of}
+use Rattle.pt_base_values.specs.declared.place.Place.{Place}
+use Rattle.pt_base_values.specs.declared.trip.Trip.{Trip}
+use Rattle.pt_base_values.specs.declared.trip.Wish.{Wish}
+use Rattle.pt_base_values.specs.declared.trip_status.TripStatus.{TripStatus}
+use Rattle.pt_base_values.specs.declared.trip_status.TripStatus.TheVariants.{Booked, Cancelled}
+use Rattle.pt_base_values.specs.Moment.{Moment}
+use Rattle.pt_desk_booking.specs.Request.{party_of}
 use Rattle.pt_party.specs.Fare.{due_of}
-use Rattle.pt_records.specs.Keys.{pair_key}
-use Rattle.pt_records.specs.Records.{Edit, record_at}
-use Rattle.pt_records.specs.declared.span.Span.{Span}
-use Rattle.pt_scheduling.specs.Plan.{Plan, stops_of_plan, without}
-use Rattle.pt_scheduling.specs.declared.planned.PlannedStop.{PlannedStop}
+use Rattle.pt_base_records.specs.Keys.{pair_key}
+use Rattle.pt_base_records.specs.Records.{Edit, record_at}
+use Rattle.pt_base_records.specs.declared.span.Span.{Span}
+use Rattle.pt_desk_scheduling.specs.Plan.{Plan, stops_of_plan, without}
+use Rattle.pt_desk_scheduling.specs.declared.planned.PlannedStop.{PlannedStop}
 use Rattle.pt_desk_rules.specs.State.{place_key}
-use Rattle.pt_requests.specs.declared.request.Confirmation.{Confirmation}
+use Rattle.pt_desk_requests.specs.declared.request.Confirmation.{Confirmation}
 
 -- both places of a wish exist
 abbrev pub has_ends : Wish → List Place → Bool
@@ -35,7 +35,7 @@ abbrev pub is_cancellable : Moment → Option Trip → Bool
 is_cancellable now None = false
 is_cancellable now (Some trip) =
     is_booked trip.status
-    && (nat_lt now.day trip.wish.day || (now.day == trip.wish.day && nat_lt now.minute trip.window_from))
+    && (nat_lt now.0 trip.wish.day || (now.0 == trip.wish.day && nat_lt now.1 trip.window_from))
 
 -- the confirmation of a booked trip
 pub record IsConfirmation (trip : Trip) (told : Confirmation) : Type 0 where

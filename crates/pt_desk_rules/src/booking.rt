@@ -1,20 +1,21 @@
 ghost use Rattle.std.specs.Prelude.{◌≡◌, ℕ, ◌&&◌, nat_lt, Option, None, Some, is_some, IfErr, IfOk, IfSome};
 ghost use Rattle.std.specs.List.Sorted.{IsStrictlyIncreasing};
-ghost use Rattle.pt_booking.specs.Request.{request_of};
-ghost use Rattle.pt_rights.specs.Rules.{first_failing};
-ghost use Rattle.pt_scheduling.specs.Routes.{routes_without};
-ghost use Rattle.pt_scheduling.specs.Uses.{AreUses};
+ghost use Rattle.pt_desk_booking.specs.Request.{request_of};
+ghost use Rattle.pt_rights_files.specs.Rules.{first_failing};
+ghost use Rattle.pt_desk_scheduling.specs.Routes.{routes_without};
+ghost use Rattle.pt_desk_scheduling.specs.Uses.{AreUses};
 ghost use Rattle.pt_desk_rules.specs.Booking.{IsAnswered, IsAsking, IsBooking, IsRequestBy, IsScheduledBy, rows_of};
 ghost use Rattle.pt_desk_rules.specs.Deciding.{booked, changed, given_up, IsRuling};
 ghost use Rattle.pt_desk_rules.specs.Explaining.{next_trip};
-ghost use Rattle.pt_desk_rules.specs.Rules.{wish_rules};
+ghost use Rattle.pt_desk_rules.specs.Rules.{rules_of, wish_rules};
 ghost use Rattle.pt_desk_rules.specs.declared.deciding.Decision.TheVariants.{Accepted};
-ghost use Rattle.pt_requests.specs.declared.request.Answer.TheVariants.{Booked, Done};
-ghost use Rattle.pt_requests.specs.declared.request.Confirmation.{Confirmation};
-ghost use Rattle.pt_requests.specs.declared.request.Write.TheVariants as write;
+ghost use Rattle.pt_base_values.specs.Moment.{Moment};
+ghost use Rattle.pt_desk_requests.specs.declared.request.Answer.TheVariants.{Booked, Done};
+ghost use Rattle.pt_desk_requests.specs.declared.request.Confirmation.{Confirmation};
+ghost use Rattle.pt_desk_requests.specs.declared.request.Write.TheVariants as write;
 ghost use Rattle.pt_desk_rules.specs.State.{last_trip_number, place_key};
 ghost use Rattle.pt_desk_rules.specs.Trips.{has_ends, IsConfirmation};
-ghost use Rattle.pt_records.specs.Records.{record_at};
+ghost use Rattle.pt_base_records.specs.Records.{record_at};
 
 use crate::change::one;
 use crate::limits::LAST_TRIP_NUMBER;
@@ -23,11 +24,13 @@ use crate::trips::{
     cancelled_trip, confirmation_of, giving_up, is_cancellable, is_changeable, moving,
 };
 use crate::{CancelFacts, Change, DayFacts, Decision, TravelTable, WishFacts, on_duty};
-use pt_base::{Day, Moment, Place, PlaceId, Rider, RiderId, Rule, Trip, TripId, Vehicle, Wish};
-use pt_booking::TripRequest;
-use pt_records::{Key, Rows, Table};
-use pt_requests::{Answer, Caller};
-use pt_scheduling::{DayPlans, Plan, Scheduled, days_of_use, schedule};
+use pt_base_records::{Key, Rows, Table};
+use pt_base_values::{
+    Day, Moment, Place, PlaceId, Rider, RiderId, Rule, Trip, TripId, Vehicle, Wish,
+};
+use pt_desk_booking::TripRequest;
+use pt_desk_requests::{Answer, Caller};
+use pt_desk_scheduling::{DayPlans, Plan, Scheduled, days_of_use, schedule};
 use std::alloc::{AllocError, Global};
 
 /// Schedules a request over the plans of its day. The error is out of memory.
@@ -149,6 +152,26 @@ pub fn new_trip(facts: &WishFacts, wish: &Wish) -> Result<(Asking, TripId), Rule
     Ok((asking, number))
 }
 
+/// What a booking asks, and its trip's number; otherwise the first of the write's own rules that denies it.
+pub fn asked_booking(
+    facts: &WishFacts,
+    me: &Caller,
+    rider: RiderId,
+    wish: &Wish,
+) -> Result<(Asking, TripId), Rule>
+    ensures denied { (now : Moment) → IfErr result (λ rule.
+        first_failing (rules_of (write.Book rider wish.now) me.now now facts.now) ≡ Some rule) }
+    ensures allowed { (now : Moment) → IfOk result (λ found.
+        first_failing (rules_of (write.Book rider wish.now) me.now now facts.now) ≡ None) }
+    ensures asking { IfOk result (λ found. IsAsking wish.now facts.now found.0) }
+    ensures number { IfOk result (λ found. found.1 ≡ next_trip facts.now) }
+{
+    if !may_book(me.role, rider, &facts.rider) {
+        return Err(Rule::Caller);
+    }
+    new_trip(facts, wish)
+}
+
 /// Schedules a wish for a trip of this number. The trip `left_out` makes no day of use. The error is out of memory.
 pub fn answer_wish(
     alloc: Global,
@@ -217,11 +240,8 @@ pub fn decide_booking(
 ) -> Result<Decision, AllocError>
     ensures ruling { IfOk result (IsRuling (write.Book rider wish.now) me.now now facts.now) }
 {
-    if !may_book(me.role, rider, &facts.rider) {
-        return Ok(Decision::Denied(Rule::Caller));
-    }
-    match new_trip(facts, wish) {
-        Ok((asking, number)) => book(alloc, facts, &asking, number, now.day, wish),
+    match asked_booking(facts, me, rider, wish) {
+        Ok((asking, number)) => book(alloc, facts, &asking, number, now.0, wish),
         Err(rule) => Ok(Decision::Denied(rule)),
     }
 }
@@ -253,6 +273,35 @@ fn rebook(
     }
 }
 
+/// What a change asks, and the trip that it changes; otherwise the first of the write's own rules that denies it.
+pub fn asked_change(
+    facts: &WishFacts,
+    me: &Caller,
+    now: Moment,
+    wish: &Wish,
+) -> Result<(Asking, Trip), Rule>
+    ensures denied { (trip : ℕ) → IfErr result (λ rule.
+        first_failing (rules_of (write.Change trip wish.now) me.now now facts.now) ≡ Some rule) }
+    ensures allowed { (trip : ℕ) → IfOk result (λ found.
+        first_failing (rules_of (write.Change trip wish.now) me.now now facts.now) ≡ None) }
+    ensures asking { IfOk result (λ found. IsAsking wish.now facts.now found.0) }
+    ensures trip { IfOk result (λ found. facts.now.booking.trip ≡ Some found.1) }
+{
+    if !may_alter(me.role, &facts.booking.trip, &facts.rider) {
+        return Err(Rule::Caller);
+    }
+    let Some(old) = &facts.booking.trip else {
+        return Err(Rule::Unknown);
+    };
+    let Some(asking) = Asking::of(facts, wish) else {
+        return Err(Rule::Unknown);
+    };
+    if !is_changeable(now.0, old) {
+        return Err(Rule::Over);
+    }
+    Ok((asking, *old))
+}
+
 /// Rules on the change of a trip. The error is out of memory.
 pub fn decide_change(
     alloc: Global,
@@ -263,19 +312,11 @@ pub fn decide_change(
 ) -> Result<Decision, AllocError>
     ensures ruling { (trip : ℕ) → IfOk result (IsRuling (write.Change trip wish.now) me.now now facts.now) }
 {
-    if !may_alter(me.role, &facts.booking.trip, &facts.rider) {
-        return Ok(Decision::Denied(Rule::Caller));
+    let today = now.0;
+    match asked_change(facts, me, now, wish) {
+        Ok((asking, old)) => rebook(alloc, facts, &old, &asking, today, wish),
+        Err(rule) => Ok(Decision::Denied(rule)),
     }
-    let Some(old) = &facts.booking.trip else {
-        return Ok(Decision::Denied(Rule::Unknown));
-    };
-    let Some(asking) = Asking::of(facts, wish) else {
-        return Ok(Decision::Denied(Rule::Unknown));
-    };
-    if !is_changeable(now.day, old) {
-        return Ok(Decision::Denied(Rule::Over));
-    }
-    rebook(alloc, facts, old, &asking, now.day, wish)
 }
 
 /// Cancels a trip.

@@ -3,12 +3,12 @@ ghost use Rattle.pt_desk_rules.specs.Deciding.{no_change};
 ghost use Rattle.pt_desk_rules.specs.State.{puts_one, replaces};
 
 use crate::{Kept, TravelTable};
-use pt_base::{Place, Policy, Rider, RiderId, Trip, TripId, Vehicle};
+use pt_base_records::{Edits, Key, Keyed, Span};
+use pt_base_values::{Place, Policy, Rider, RiderId, Trip, TripId, Vehicle};
 use pt_corridor::FixedRoute;
-use pt_records::{Edits, Key, Keyed, Span};
-use pt_requests::Caller;
-use pt_rights::Entered;
-use pt_scheduling::Plan;
+use pt_desk_requests::Caller;
+use pt_desk_scheduling::Plan;
+use pt_rights_files::Entered;
 use std::alloc::{AllocError, Global};
 
 /// An entry of a rider's case file.
@@ -85,7 +85,7 @@ pub(crate) fn replacing<T: Keyed + Drop>(
 }
 
 impl Keyed for FiledEntry {
-    ghost use Rattle.pt_records.specs.Keys.{pair_key};
+    ghost use Rattle.pt_base_records.specs.Keys.{pair_key};
 
     ghost key = { λ filed. pair_key filed.rider filed.position };
 

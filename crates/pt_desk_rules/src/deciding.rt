@@ -1,14 +1,14 @@
 ghost use Rattle.std.specs.Prelude.{◌≡◌, IfOk};
-ghost use Rattle.pt_base.specs.Day.{IsDay};
-ghost use Rattle.pt_base.specs.declared.moment.Moment.{Moment};
+ghost use Rattle.pt_base_values.specs.Day.{IsDay};
+ghost use Rattle.pt_base_values.specs.Moment.{Moment};
 ghost use Rattle.pt_desk_rules.specs.Deciding.{kept_of, with_kept};
 ghost use Rattle.pt_desk_rules.specs.Deciding.{IsDecision, IsRuling, PutsInRangeIf};
 ghost use Rattle.pt_desk_rules.specs.Facts.{FactsOf};
 ghost use Rattle.pt_desk_rules.specs.declared.deciding.Decision.TheVariants.{Accepted};
-ghost use Rattle.pt_requests.specs.declared.request.Answer.TheVariants.{Done};
-ghost use Rattle.pt_requests.specs.declared.request.Write.{Write};
-ghost use Rattle.pt_requests.specs.declared.request.Write.TheVariants.{Enter, PutCaller, PutPlace, PutPolicy};
-ghost use Rattle.pt_requests.specs.declared.request.Write.TheVariants.{PutRider, PutRoute, PutVehicle, Travel};
+ghost use Rattle.pt_desk_requests.specs.declared.request.Answer.TheVariants.{Done};
+ghost use Rattle.pt_desk_requests.specs.declared.request.Write.{Write};
+ghost use Rattle.pt_desk_requests.specs.declared.request.Write.TheVariants.{Enter, PutCaller, PutPlace, PutPolicy};
+ghost use Rattle.pt_desk_requests.specs.declared.request.Write.TheVariants.{PutRider, PutRoute, PutVehicle, Travel};
 ghost use Rattle.pt_desk_rules.specs.State.{versions_from, tables_from};
 
 use crate::change::{one, replacing};
@@ -22,13 +22,13 @@ use crate::{
     CallerFacts, Change, EntryFacts, FiledEntry, Kept, PlaceFacts, RiderFacts, RouteFacts, Sent,
     TravelFacts, TravelTable, VehicleFacts,
 };
-use pt_base::{CallerId, Day, Moment, Place, Policy, Rider, RiderId, Rule, Vehicle};
-use pt_booking::first_failing;
+use pt_base_records::{Edits, Key, Span};
+use pt_base_values::{CallerId, Day, Moment, Place, Policy, Rider, RiderId, Rule, Vehicle};
 use pt_corridor::FixedRoute;
-use pt_records::{Edits, Key, Span};
-use pt_requests::{Answer, Caller};
-use pt_rights::{Entered, Entry};
-use pt_spelling::KeptReply;
+use pt_desk_booking::first_failing;
+use pt_desk_requests::{Answer, Caller};
+use pt_desk_spelling::KeptReply;
+use pt_rights_files::{Entered, Entry};
 use pt_travel::Raw;
 use std::alloc::{AllocError, Global};
 
@@ -215,7 +215,7 @@ pub fn enter(
         position,
         entered: Entered {
             entry: entry.clone()?,
-            day: now.day,
+            day: now.0,
             author: me.id,
         },
     };

@@ -1,19 +1,19 @@
 ghost use Rattle.std.specs.Prelude.{◌≡◌, is_some};
-ghost use Rattle.pt_rights.specs.Rules.{first_failing};
+ghost use Rattle.pt_rights_files.specs.Rules.{first_failing};
 ghost use Rattle.pt_desk_rules.specs.Rules.{rules_of, is_nobody_else, is_nobody_of_another_kind, are_there};
 ghost use Rattle.pt_desk_rules.specs.Rules.{has_room_for};
 ghost use Rattle.pt_desk_rules.specs.State.{place_key};
-ghost use Rattle.pt_records.specs.Records.{record_at};
-ghost use Rattle.pt_requests.specs.declared.request.Write.TheVariants.{Enter};
+ghost use Rattle.pt_base_records.specs.Records.{record_at};
+ghost use Rattle.pt_desk_requests.specs.declared.request.Write.TheVariants.{Enter};
 
 use crate::EntryFacts;
 use crate::fleet::{other_vehicle_count, version_count_before};
 use crate::limits::{MOST_VEHICLES, MOST_VERSIONS};
 use crate::permission::may_enter;
-use pt_base::{CallerId, Moment, Place, PlaceId, Residence, Rider, RiderId, Rule, Vehicle};
-use pt_records::{Key, Rows};
-use pt_requests::Caller;
-use pt_rights::Entry;
+use pt_base_records::{Key, Rows};
+use pt_base_values::{CallerId, Moment, Place, PlaceId, Residence, Rider, RiderId, Rule, Vehicle};
+use pt_desk_requests::Caller;
+use pt_rights_files::Entry;
 use pt_travel::Row;
 
 /// Whether both places of each row exist.
@@ -85,7 +85,7 @@ pub(crate) fn entry_denial(
     facts.file.admits(
         there,
         entry,
-        now.day,
+        now.0,
         me.id,
         facts.tallies.as_slice(),
         &facts.policy,

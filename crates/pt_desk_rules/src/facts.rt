@@ -2,12 +2,12 @@ ghost use Rattle.std.specs.Prelude.{◌≡◌};
 ghost use Rattle.pt_desk_rules.specs.Facts.{no_booking, no_day, no_facts, no_read_facts};
 
 use crate::{Tallies, TravelTable};
-use pt_base::{Place, Policy, Rider, Trip, Vehicle};
+use pt_base_records::Rows;
+use pt_base_values::{Place, Policy, Rider, Trip, Vehicle};
 use pt_corridor::FixedRoute;
-use pt_records::Rows;
-use pt_requests::Caller;
-use pt_rights::CaseFile;
-use pt_scheduling::Plan;
+use pt_desk_requests::Caller;
+use pt_desk_scheduling::Plan;
+use pt_rights_files::CaseFile;
 use std::alloc::Global;
 
 /// The facts for the record of a caller.
@@ -155,7 +155,7 @@ pub struct DayFacts {
 
 impl DayFacts {
     /// No facts.
-    fn none(alloc: Global) -> Self
+    pub fn none(alloc: Global) -> Self
         ensures value { result ≡ no_day }
     {
         DayFacts {

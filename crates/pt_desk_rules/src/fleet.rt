@@ -4,7 +4,7 @@ ghost use Rattle.pt_desk_rules.specs.Fleet.{has_version, vehicle_count, versions
 ghost use Rattle.std.specs.Option.{option_copied};
 ghost use Rattle.pt_desk_rules.specs.Fleet.{duty_of, in_force, is_in_force, is_newer, is_on_duty, on_duty};
 
-use pt_base::{Day, Vehicle, VehicleId};
+use pt_base_values::{Day, Vehicle, VehicleId};
 use std::alloc::{AllocError, Global};
 
 /// Whether some version of this vehicle is among these.

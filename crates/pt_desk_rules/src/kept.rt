@@ -3,9 +3,9 @@ ghost use Rattle.std.specs.Option.{option_copied};
 ghost use Rattle.pt_desk_rules.specs.Arrival.{arrival_of};
 ghost use Rattle.pt_desk_rules.specs.Deciding.{kept_by};
 
-use pt_base::CallerId;
-use pt_records::{Key, Keyed};
-use pt_spelling::{KeptReply, Spelling};
+use pt_base_records::{Key, Keyed};
+use pt_base_values::CallerId;
+use pt_desk_spelling::{KeptReply, Spelling};
 
 /// The caller's number for a write, and the write's spelling.
 #[derive(Drop)]

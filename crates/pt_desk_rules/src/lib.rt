@@ -2,7 +2,8 @@
 #![tactic(auto)]
 
 pub use booking::{
-    Asking, answer_wish, decide_booking, decide_cancel, decide_change, new_trip, uses_of,
+    Asking, answer_wish, asked_booking, asked_change, decide_booking, decide_cancel, decide_change,
+    new_trip, uses_of,
 };
 pub use change::{Change, FiledEntry};
 pub use deciding::{

@@ -3,15 +3,15 @@ ghost use Rattle.pt_desk_rules.specs.Deciding.{no_change, IsRuling};
 ghost use Rattle.pt_desk_rules.specs.Outcomes.{awaits_outcome, ended, has_come, status_of};
 ghost use Rattle.pt_desk_rules.specs.State.{puts_one};
 ghost use Rattle.pt_desk_rules.specs.declared.deciding.Decision.TheVariants.{Accepted};
-ghost use Rattle.pt_requests.specs.declared.request.Answer.TheVariants.{Done};
-ghost use Rattle.pt_requests.specs.declared.request.Write.TheVariants as write;
+ghost use Rattle.pt_desk_requests.specs.declared.request.Answer.TheVariants.{Done};
+ghost use Rattle.pt_desk_requests.specs.declared.request.Write.TheVariants as write;
 
 use crate::change::one;
 use crate::permission::may_end;
 use crate::{Change, Decision};
-use pt_base::{Day, Moment, Rule, Trip, TripStatus, Wish};
-use pt_requests::{Answer, Caller};
-use pt_rights::Outcome;
+use pt_base_values::{Day, Moment, Rule, Trip, TripStatus, Wish};
+use pt_desk_requests::{Answer, Caller};
+use pt_rights_files::Outcome;
 use std::alloc::{AllocError, Global};
 
 /// Whether the trip is booked, so that it has no outcome yet.
@@ -94,7 +94,7 @@ pub fn decide_outcome(
     if !awaits_outcome(trip) {
         return Ok(Decision::Denied(Rule::Over));
     }
-    if !has_come(now.day, trip) {
+    if !has_come(now.0, trip) {
         return Ok(Decision::Denied(Rule::Early));
     }
     end(alloc, trip, outcome)

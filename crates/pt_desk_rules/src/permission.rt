@@ -4,9 +4,9 @@ ghost use Rattle.pt_desk_rules.specs.Permission.{is_officer, is_own};
 ghost use Rattle.pt_desk_rules.specs.Permission.{may_alter, may_appeal, may_book, may_end, may_enter, may_run};
 ghost use Rattle.pt_desk_rules.specs.Permission.{may_see_standing};
 
-use pt_base::{Rider, RiderId, Trip, VehicleId};
-use pt_requests::Role;
-use pt_rights::Entry;
+use pt_base_values::{Rider, RiderId, Trip, VehicleId};
+use pt_desk_requests::Role;
+use pt_rights_files::Entry;
 
 /// Whether the role is the admin's.
 pub(crate) fn is_admin(role: Role) -> bool

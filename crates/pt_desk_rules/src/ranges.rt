@@ -3,19 +3,19 @@
 //! Definitions see a day, a minute or a record's number as a bare number. Only its type shows that it is in its range.
 //! So these functions look at each field, and show no more than that.
 ghost use Rattle.std.specs.Prelude.{All};
-ghost use Rattle.pt_records.specs.Records.{Each};
-ghost use Rattle.pt_rights.specs.Conditions.{IsCondition};
-ghost use Rattle.pt_spelling.specs.Ranges.{IsEntry, IsGrant, IsRole, IsWish};
+ghost use Rattle.pt_base_records.specs.Records.{Each};
+ghost use Rattle.pt_rights_files.specs.Conditions.{IsCondition};
+ghost use Rattle.pt_desk_spelling.specs.Ranges.{IsEntry, IsGrant, IsRole, IsWish};
 ghost use Rattle.pt_desk_rules.specs.Parts.{Part, edit_of};
 ghost use Rattle.pt_desk_rules.specs.Ranges.{FitsIn, PutsInRange};
 
 use crate::{Change, FiledEntry, Kept, TravelTable};
-use pt_base::{Place, Rider, Trip, Vehicle, Wish};
+use pt_base_values::{Place, Rider, Trip, Vehicle, Wish};
 use pt_corridor::FixedRoute;
-use pt_requests::{Caller, Role};
-use pt_rights::{Condition, Entry, Grant};
-use pt_scheduling::{Plan, PlannedStop};
-use pt_spelling::{days_byte, spell_reply};
+use pt_desk_requests::{Caller, Role};
+use pt_desk_scheduling::{Plan, PlannedStop};
+use pt_desk_spelling::{days_byte, spell_reply};
+use pt_rights_files::{Condition, Entry, Grant};
 use pt_travel::Row;
 
 /// A record whose fields have ranges.
@@ -51,7 +51,7 @@ fn fits_role(role: Role)
 }
 
 impl Fitting for Caller {
-    ghost use Rattle.pt_spelling.specs.Ranges.{IsCaller};
+    ghost use Rattle.pt_desk_spelling.specs.Ranges.{IsCaller};
 
     ghost Fits = { IsCaller };
 
@@ -85,7 +85,7 @@ impl Fitting for Place {
 }
 
 impl Fitting for FixedRoute {
-    ghost use Rattle.pt_spelling.specs.Ranges.{IsRoute};
+    ghost use Rattle.pt_desk_spelling.specs.Ranges.{IsRoute};
 
     ghost Fits = { IsRoute };
 
@@ -178,7 +178,7 @@ impl Fitting for FiledEntry {
 }
 
 impl Fitting for Vehicle {
-    ghost use Rattle.pt_spelling.specs.Ranges.{IsVehicle};
+    ghost use Rattle.pt_desk_spelling.specs.Ranges.{IsVehicle};
 
     ghost Fits = { IsVehicle };
 

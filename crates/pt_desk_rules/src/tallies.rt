@@ -1,8 +1,8 @@
 ghost use Rattle.std.specs.Prelude.{◌≡◌, [], IfOk};
 ghost use Rattle.pt_desk_rules.specs.Outcomes.{outcome_of, tallies_of, tally_of};
 
-use pt_base::{Trip, TripStatus};
-use pt_rights::{Outcome, Tally};
+use pt_base_values::{Trip, TripStatus};
+use pt_rights_files::{Outcome, Tally};
 use std::alloc::{AllocError, Global};
 use std::marker::Model;
 
@@ -14,7 +14,7 @@ pub struct Tallies {
 
 impl Model for Tallies {
     ghost use Rattle.std.specs.Prelude.{List};
-    ghost use Rattle.pt_rights.specs.declared.tally.Tally.{Tally};
+    ghost use Rattle.pt_rights_files.specs.declared.tally.Tally.{Tally};
 
     ghost Value = { List Tally };
 

@@ -6,8 +6,8 @@ ghost use Rattle.std.specs.List.{list_any};
 ghost use Rattle.std.specs.Option.{option_copied};
 ghost use Rattle.pt_desk_rules.specs.Travel.{is_newer, table_on};
 
-use pt_base::Day;
-use pt_records::{Key, Keyed};
+use pt_base_records::{Key, Keyed};
+use pt_base_values::Day;
 use pt_travel::{Closed, Raw, Row};
 use std::alloc::{AllocError, Global};
 use std::marker::Model;
@@ -44,7 +44,9 @@ impl TravelTable {
         ensures value { IfOk result (λ table. table ≡ record { from_day = from_day; rows = rows }) }
         ensures table { IfOk result (λ table. IsTable table.rows) }
     {
-        let times = Closed::of(alloc, &rows)?;
+        let Ok(times) = Closed::of(alloc, &rows) else {
+            return Err(AllocError);
+        };
         let _ = rows.rows();
         Ok(TravelTable {
             from_day,

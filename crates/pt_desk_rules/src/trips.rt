@@ -2,15 +2,15 @@ ghost use Rattle.std.specs.Prelude.{◌≡◌, ◌==◌, ◌&&◌, ◌||◌, ◌
 ghost use Rattle.pt_desk_rules.specs.Sound.{HasStops};
 ghost use Rattle.pt_desk_rules.specs.Trips.{has_ends, is_cancellable, is_changeable, cancelled, plan_span};
 ghost use Rattle.pt_desk_rules.specs.Trips.{gives_up, moves_to, IsConfirmation};
-ghost use Rattle.pt_records.specs.Records.{Each};
+ghost use Rattle.pt_base_records.specs.Records.{Each};
 
 use crate::denying::is_there;
-use pt_base::{Day, Moment, Place, Trip, TripStatus, Wish};
-use pt_booking::party_of;
+use pt_base_records::{Edits, Key, Rows, Span};
+use pt_base_values::{Day, Moment, Place, Trip, TripStatus, Wish};
+use pt_desk_booking::party_of;
+use pt_desk_requests::Confirmation;
+use pt_desk_scheduling::Plan;
 use pt_party::due;
-use pt_records::{Edits, Key, Rows, Span};
-use pt_requests::Confirmation;
-use pt_scheduling::Plan;
 use std::alloc::{AllocError, Global};
 
 /// Whether both places of the wish exist.
@@ -36,10 +36,10 @@ pub(crate) fn is_cancellable(now: Moment, trip: &Trip) -> bool
 
 /// Whether the trip's promised window has not begun.
 fn is_to_come(now: Moment, trip: &Trip) -> bool
-    ensures { result ≡ (nat_lt now.day trip.now.wish.day
-        || (now.day == trip.now.wish.day && nat_lt now.minute trip.now.window_from)) }
+    ensures { result ≡ (nat_lt now.0 trip.now.wish.day
+        || (now.0 == trip.now.wish.day && nat_lt now.1 trip.now.window_from)) }
 {
-    let Moment { day, minute } = now;
+    let (day, minute) = now;
     day < trip.wish.day || (day == trip.wish.day && minute < trip.window_from)
 }
 

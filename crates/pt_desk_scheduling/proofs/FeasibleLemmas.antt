@@ -4,28 +4,28 @@ use Rattle.std.proofs.Common.{Some, None, Any, cond, refl, sym, ap, ◌∙◌, s
 use Rattle.std.specs.Prelude.{◌==◌, IsSomeAnd}
 use Rattle.std.proofs.lemmas.List.{length-map}
 use Rattle.std.proofs.lemmas.Option.{same_Some}
-use Rattle.pt_base.specs.Ranges.{last_minute}
-use Rattle.pt_base.specs.declared.trip.Trip.{Trip}
-use Rattle.pt_base.specs.declared.vehicle.Vehicle.{Vehicle}
-use Rattle.pt_booking.specs.Planning.{OnDuty, asked_of}
-use Rattle.pt_booking.specs.Request.{Request}
+use Rattle.pt_base_values.specs.Ranges.{last_minute}
+use Rattle.pt_base_values.specs.declared.trip.Trip.{Trip}
+use Rattle.pt_base_values.specs.declared.vehicle.Vehicle.{Vehicle}
+use Rattle.pt_desk_booking.specs.Planning.{OnDuty, asked_of}
+use Rattle.pt_desk_booking.specs.Request.{Request}
 use Rattle.pt_feasible.specs.declared.stop.Stop.{Stop}
 use Rattle.pt_feasible.specs.declared.stop.StopKind.{StopKind}
 use Rattle.pt_feasible.specs.declared.stop.StopKind.TheVariants.{Pickup, Drop}
-use Rattle.pt_insertion.specs.Insertion.{with_trip}
-use Rattle.pt_insertion.specs.Removal.{times_without_trip, without_trip}
-use Rattle.pt_insertion.specs.TravelTimes.{KeepsTriangleLaw}
-use Rattle.pt_insertion.proofs.RemovalLoads.{loads_stay}
-use Rattle.pt_insertion.proofs.RemovalTimes.{times_stay}
-use Rattle.pt_records.specs.Records.{put, record_at, Each}
-use Rattle.pt_records.proofs.OrderLemmas.{record_at-put_other}
-use Rattle.pt_scheduling.specs.Plan.{after_stop, planned_stop, planned_stops, stops_among, trip_stop, without, Plan}
-use Rattle.pt_scheduling.specs.Plan.{IsPlannedRoute}
-use Rattle.pt_scheduling.specs.Routes.{routes_without, stops_without, IsFeasible}
-use Rattle.pt_scheduling.specs.Scheduling.{IsBookedIn}
-use Rattle.pt_scheduling.specs.declared.planned.PlannedStop.{PlannedStop}
-use Rattle.pt_scheduling.proofs.PlanLemmas.{found_key, number_of, paired_among, stop_trip}
-use Rattle.pt_scheduling.proofs.RouteLemmas.{each_with_trip, found_vehicle, of_vehicle}
+use Rattle.pt_insertion_search.specs.Insertion.{with_trip}
+use Rattle.pt_insertion_search.specs.Removal.{times_without_trip, without_trip}
+use Rattle.pt_insertion_search.specs.TravelTimes.{KeepsTriangleLaw}
+use Rattle.pt_insertion_search.proofs.RemovalLoads.{loads_stay}
+use Rattle.pt_insertion_search.proofs.RemovalTimes.{times_stay}
+use Rattle.pt_base_records.specs.Records.{put, record_at, Each}
+use Rattle.pt_base_records.proofs.OrderLemmas.{record_at-put_other}
+use Rattle.pt_desk_scheduling.specs.Plan.{after_stop, planned_stop, planned_stops, stops_among, trip_stop, without, Plan}
+use Rattle.pt_desk_scheduling.specs.Plan.{IsPlannedRoute}
+use Rattle.pt_desk_scheduling.specs.Routes.{routes_without, stops_without, IsFeasible}
+use Rattle.pt_desk_scheduling.specs.Scheduling.{IsBookedIn}
+use Rattle.pt_desk_scheduling.specs.declared.planned.PlannedStop.{PlannedStop}
+use Rattle.pt_desk_scheduling.proofs.PlanLemmas.{found_key, number_of, paired_among, stop_trip}
+use Rattle.pt_desk_scheduling.proofs.RouteLemmas.{each_with_trip, found_vehicle, of_vehicle}
 use Rattle.pt_travel.specs.Chain.{Row, IsTime, total_of}
 use Rattle.pt_travel.proofs.ClosureLemmas.{chain-append, total-append}
 

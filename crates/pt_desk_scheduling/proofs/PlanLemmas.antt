@@ -4,15 +4,15 @@ use Rattle.std.specs.Prelude.{◌==◌, filter, slice_get}
 use Rattle.std.specs.List.{list_any}
 use Rattle.std.proofs.lemmas.Bool.{or_cases, or_left, or_right}
 use Rattle.std.proofs.lemmas.Bool.Decides.{nat_tests}
-use Rattle.pt_base.specs.declared.trip.Trip.{Trip}
+use Rattle.pt_base_values.specs.declared.trip.Trip.{Trip}
 use Rattle.pt_feasible.specs.Pairing.{is_partner, IsPaired, IsPickupThenDrop}
 use Rattle.pt_feasible.specs.Stop.{is_pickup, is_drop}
 use Rattle.pt_feasible.specs.declared.stop.Stop.{Stop}
 use Rattle.pt_feasible.specs.declared.stop.StopKind.{StopKind}
 use Rattle.pt_feasible.specs.declared.stop.StopKind.TheVariants.{Pickup, Drop}
-use Rattle.pt_records.specs.Records.{record_at}
-use Rattle.pt_scheduling.specs.Plan.{after_stop, stops_among, stops_of_trip, trip_stop, IsPair}
-use Rattle.pt_scheduling.specs.declared.planned.PlannedStop.{PlannedStop}
+use Rattle.pt_base_records.specs.Records.{record_at}
+use Rattle.pt_desk_scheduling.specs.Plan.{after_stop, stops_among, stops_of_trip, trip_stop, IsPair}
+use Rattle.pt_desk_scheduling.specs.declared.planned.PlannedStop.{PlannedStop}
 
 -- an element of a list
 abbrev IsAmong : {X : Type 0} → X → List X → Type 0

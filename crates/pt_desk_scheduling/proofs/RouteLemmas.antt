@@ -10,27 +10,27 @@ use Rattle.std.proofs.lemmas.List.{length-map, get_or-map, take-append-drop}
 use Rattle.std.proofs.lemmas.List.Elements.{All-map, filter-append}
 use Rattle.std.proofs.lemmas.List.Folds.{list_any-from_Any}
 use Rattle.std.specs.List.{list_any}
-use Rattle.pt_base.specs.TripStatus.{stands}
-use Rattle.pt_base.specs.declared.trip.Trip.{Trip}
-use Rattle.pt_base.specs.declared.vehicle.Vehicle.{Vehicle}
-use Rattle.pt_booking.specs.Planning.{OnDuty, asked_for, asked_of}
-use Rattle.pt_booking.specs.Request.{Request}
+use Rattle.pt_base_values.specs.TripStatus.{stands}
+use Rattle.pt_base_values.specs.declared.trip.Trip.{Trip}
+use Rattle.pt_base_values.specs.declared.vehicle.Vehicle.{Vehicle}
+use Rattle.pt_desk_booking.specs.Planning.{OnDuty, asked_for, asked_of}
+use Rattle.pt_desk_booking.specs.Request.{Request}
 use Rattle.pt_feasible.specs.Pairing.{most_stops}
 use Rattle.pt_feasible.specs.declared.stop.Stop.{Stop}
 use Rattle.pt_feasible.specs.declared.stop.StopKind.{StopKind}
-use Rattle.pt_insertion.specs.Insertion.{with_trip, IsWithout}
-use Rattle.pt_insertion.specs.Asked.{pickup_stop, drop_stop}
-use Rattle.pt_insertion.specs.declared.asked.Asked.{Asked}
-use Rattle.pt_insertion.specs.declared.chosen.Chosen.{Chosen}
-use Rattle.pt_insertion.proofs.InsertionLemmas.{length-with_trip}
-use Rattle.pt_records.specs.Keys.{pair_key}
-use Rattle.pt_records.specs.Records.{Each, record_at}
-use Rattle.pt_records.proofs.TableLemmas.{same_or_other, length-filter}
-use Rattle.pt_scheduling.specs.Plan.{after_stop, trip_stop, Plan, plan_key, planned_stop, planned_stops, stops_among, stops_of_plan, stops_of_trip, without, IsPair, IsPlannedRoute, IsRoutePlan}
-use Rattle.pt_scheduling.specs.Routes.{routes_without, stops_without, IsRoute}
-use Rattle.pt_scheduling.specs.Scheduling.{AreRoutes, IsBookedIn}
-use Rattle.pt_scheduling.specs.declared.planned.PlannedStop.{PlannedStop}
-use Rattle.pt_scheduling.proofs.PlanLemmas.{among_kept_at, among_of_trip, eq_self, found_key, is_number, is_of, length-among, number_of, of_each, paired_among, stop_trip}
+use Rattle.pt_insertion_search.specs.Insertion.{with_trip, IsWithout}
+use Rattle.pt_insertion_search.specs.Asked.{pickup_stop, drop_stop}
+use Rattle.pt_insertion_search.specs.declared.asked.Asked.{Asked}
+use Rattle.pt_insertion_search.specs.declared.chosen.Chosen.{Chosen}
+use Rattle.pt_insertion_search.proofs.InsertionLemmas.{length-with_trip}
+use Rattle.pt_base_records.specs.Keys.{pair_key}
+use Rattle.pt_base_records.specs.Records.{Each, record_at}
+use Rattle.pt_base_records.proofs.TableLemmas.{same_or_other, length-filter}
+use Rattle.pt_desk_scheduling.specs.Plan.{after_stop, trip_stop, Plan, plan_key, planned_stop, planned_stops, stops_among, stops_of_plan, stops_of_trip, without, IsPair, IsPlannedRoute, IsRoutePlan}
+use Rattle.pt_desk_scheduling.specs.Routes.{routes_without, stops_without, IsRoute}
+use Rattle.pt_desk_scheduling.specs.Scheduling.{AreRoutes, IsBookedIn}
+use Rattle.pt_desk_scheduling.specs.declared.planned.PlannedStop.{PlannedStop}
+use Rattle.pt_desk_scheduling.proofs.PlanLemmas.{among_kept_at, among_of_trip, eq_self, found_key, is_number, is_of, length-among, number_of, of_each, paired_among, stop_trip}
 
 same_trip : (k t : ℕ) (stop : PlannedStop) (rest : List PlannedStop) (b : Bool) → k ≡ t → (stop.trip == t) ≡ b → stops_of_trip k rest ≡ [] → stops_of_trip k (cond (not b) (stop ∷ rest) rest) ≡ []
 same_trip k t stop rest true same is none = none

@@ -1,24 +1,24 @@
 -- What is scheduled where the routes are those of a day.
 use Rattle.std.proofs.Common.{◌≡◌, ℕ, ◌<◌, List, Option, None, Result, Ok, map, Any, All, AllPairs, ap, subst, ◌∙◌}
 use Rattle.std.specs.Prelude.{◌↔◌}
-use Rattle.pt_base.specs.declared.trip.Trip.{Trip}
+use Rattle.pt_base_values.specs.declared.trip.Trip.{Trip}
 use Rattle.pt_feasible.specs.Route.{stops_of}
 use Rattle.pt_feasible.specs.declared.stop.Stop.{Stop}
-use Rattle.pt_insertion.specs.Insertion.{IsWithout}
-use Rattle.pt_insertion.specs.declared.chosen.Chosen.{Chosen}
-use Rattle.pt_insertion.specs.declared.duty.Duty.{Duty}
-use Rattle.pt_booking.specs.Booking as booking
-use Rattle.pt_booking.specs.Booking.{IsNewRoute, IsTripOf}
-use Rattle.pt_booking.specs.declared.booking.Booking.{Booking}
-use Rattle.pt_booking.specs.declared.booking.BookingDecision.{BookingDecision}
-use Rattle.pt_booking.specs.declared.booking.BookingDecision.TheVariants as decision
-use Rattle.pt_booking.specs.Rules.{IsFirstFailing}
-use Rattle.pt_booking.specs.Planning.{OnDuty, on_duty, asked_for, booking_rules, IsBestPlace}
-use Rattle.pt_booking.specs.Request.{Request}
-use Rattle.pt_scheduling.specs.Plan.{Plan, planned_stop}
-use Rattle.pt_scheduling.specs.Scheduling.{AreRoutes, IsPlanWith, IsScheduled}
-use Rattle.pt_scheduling.specs.declared.scheduling.Scheduled.TheVariants.{Booked}
-use Rattle.pt_scheduling.proofs.ListLemmas.{All-unmap, AllPairs-unmap, Any-weaker}
+use Rattle.pt_insertion_search.specs.Insertion.{IsWithout}
+use Rattle.pt_insertion_search.specs.declared.chosen.Chosen.{Chosen}
+use Rattle.pt_insertion_search.specs.declared.duty.Duty.{Duty}
+use Rattle.pt_desk_booking.specs.Booking as booking
+use Rattle.pt_desk_booking.specs.Booking.{IsNewRoute, IsTripOf}
+use Rattle.pt_desk_booking.specs.declared.booking.Booking.{Booking}
+use Rattle.pt_desk_booking.specs.declared.booking.BookingDecision.{BookingDecision}
+use Rattle.pt_desk_booking.specs.declared.booking.BookingDecision.TheVariants as decision
+use Rattle.pt_desk_booking.specs.Rules.{IsFirstFailing}
+use Rattle.pt_desk_booking.specs.Planning.{OnDuty, on_duty, asked_for, booking_rules, IsBestPlace}
+use Rattle.pt_desk_booking.specs.Request.{Request}
+use Rattle.pt_desk_scheduling.specs.Plan.{Plan, planned_stop}
+use Rattle.pt_desk_scheduling.specs.Scheduling.{AreRoutes, IsPlanWith, IsScheduled}
+use Rattle.pt_desk_scheduling.specs.declared.scheduling.Scheduled.TheVariants.{Booked}
+use Rattle.pt_desk_scheduling.proofs.ListLemmas.{All-unmap, AllPairs-unmap, Any-weaker}
 
 -- the routes of a day may be booked in
 pub are_without : (trip : ℕ) (duties : List Duty) → AreRoutes trip (on_duty duties) → AllPairs (λ first second. first.vehicle.now.id < second.vehicle.now.id) duties

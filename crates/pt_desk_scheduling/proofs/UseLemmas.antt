@@ -1,14 +1,14 @@
 -- Days in rising order, each once.
 use Rattle.std.proofs.Common.{◌≡◌, ℕ, ◌<◌, zero, suc, Bool, true, false, List, [], ◌∷◌, length, Option, arith, refl, sym, ap, add-one, ◌∙◌, inl, inr}
 use Rattle.std.specs.Prelude.{◌==◌, ◌||◌, ◌&&◌, slice_index}
-use Rattle.pt_base.specs.declared.trip.Trip.{Trip}
-use Rattle.pt_scheduling.specs.Uses.{is_other, is_used, is_use_of}
+use Rattle.pt_base_values.specs.declared.trip.Trip.{Trip}
+use Rattle.pt_desk_scheduling.specs.Uses.{is_other, is_used, is_use_of}
 use Rattle.std.specs.List.{list_any}
 use Rattle.std.specs.List.Sorted.{IsStrictlyIncreasing}
 use Rattle.std.proofs.lemmas.Bool.Decides.{nat_tests}
-use Rattle.pt_records.specs.Records.{put, IsInOrder}
-use Rattle.pt_records.proofs.OrderLemmas.{compared}
-use Rattle.pt_records.proofs.RecordLemmas.{put_past, put_over, put_before}
+use Rattle.pt_base_records.specs.Records.{put, IsInOrder}
+use Rattle.pt_base_records.proofs.OrderLemmas.{compared}
+use Rattle.pt_base_records.proofs.RecordLemmas.{put_past, put_over, put_before}
 
 swap : (a b c : Bool) → (a || (b || c)) ≡ (b || (a || c))
 swap true true c = refl

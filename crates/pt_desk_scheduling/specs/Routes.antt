@@ -1,15 +1,15 @@
 -- The routes of a day's vehicles, without one trip.
 use Rattle.std.specs.Prelude.{ℕ, ◌≤◌, List, Option, length, map}
-use Rattle.pt_base.specs.declared.trip.Trip.{Trip}
-use Rattle.pt_base.specs.declared.vehicle.Vehicle.{Vehicle}
+use Rattle.pt_base_values.specs.declared.trip.Trip.{Trip}
+use Rattle.pt_base_values.specs.declared.vehicle.Vehicle.{Vehicle}
 use Rattle.pt_feasible.specs.Loads.{LoadsFit}
 use Rattle.pt_feasible.specs.Pairing.{most_stops, IsPaired}
 use Rattle.pt_feasible.specs.ServiceTimes.{TimesFit}
 use Rattle.pt_feasible.specs.declared.stop.Stop.{Stop}
-use Rattle.pt_booking.specs.Planning.{OnDuty}
+use Rattle.pt_desk_booking.specs.Planning.{OnDuty}
 use Rattle.pt_feasible.specs.Route.{stops_of}
-use Rattle.pt_scheduling.specs.declared.routes.DayRoute.{DayRoute}
-use Rattle.pt_scheduling.specs.Plan.{Plan, planned_stops, stops_among, without}
+use Rattle.pt_desk_scheduling.specs.declared.routes.DayRoute.{DayRoute}
+use Rattle.pt_desk_scheduling.specs.Plan.{Plan, planned_stops, stops_among, without}
 
 -- the stops of a vehicle on a day
 abbrev pub stops_on : ℕ → List Trip → List Plan → ℕ → List Stop

@@ -1,18 +1,18 @@
 -- The result of a request for a trip: a plan with the trip at the best place of the day, or the first rule that fails.
 use Rattle.std.specs.Prelude.{◌≡◌, ◌⊎◌, ℕ, ◌<◌, List, map, Any, All, AllPairs, Option, Some, None}
-use Rattle.pt_base.specs.declared.rule.Rule.TheVariants.{NoVehicle}
-use Rattle.pt_base.specs.declared.trip.Trip.{Trip}
+use Rattle.pt_base_values.specs.declared.rule.Rule.TheVariants.{NoVehicle}
+use Rattle.pt_base_values.specs.declared.trip.Trip.{Trip}
 use Rattle.pt_feasible.specs.declared.stop.Stop.{Stop}
-use Rattle.pt_insertion.specs.Insertion.{IsWithout}
-use Rattle.pt_insertion.specs.declared.chosen.Chosen.{Chosen}
-use Rattle.pt_booking.specs.Booking.{IsNewRoute, IsTripOf}
-use Rattle.pt_booking.specs.Planning.{OnDuty, asked_for, booking_rules, IsBestPlace}
-use Rattle.pt_booking.specs.Request.{Request}
-use Rattle.pt_booking.specs.Rules.{IsFirstFailing}
-use Rattle.pt_scheduling.specs.Plan.{Plan, planned_stop}
-use Rattle.pt_scheduling.specs.Routes.{IsRoute}
-use Rattle.pt_scheduling.specs.declared.scheduling.Scheduled.{Scheduled}
-use Rattle.pt_scheduling.specs.declared.scheduling.Scheduled.TheVariants.{Booked, Denied}
+use Rattle.pt_insertion_search.specs.Insertion.{IsWithout}
+use Rattle.pt_insertion_search.specs.declared.chosen.Chosen.{Chosen}
+use Rattle.pt_desk_booking.specs.Booking.{IsNewRoute, IsTripOf}
+use Rattle.pt_desk_booking.specs.Planning.{OnDuty, asked_for, booking_rules, IsBestPlace}
+use Rattle.pt_desk_booking.specs.Request.{Request}
+use Rattle.pt_desk_booking.specs.Rules.{IsFirstFailing}
+use Rattle.pt_desk_scheduling.specs.Plan.{Plan, planned_stop}
+use Rattle.pt_desk_scheduling.specs.Routes.{IsRoute}
+use Rattle.pt_desk_scheduling.specs.declared.scheduling.Scheduled.{Scheduled}
+use Rattle.pt_desk_scheduling.specs.declared.scheduling.Scheduled.TheVariants.{Booked, Denied}
 
 -- the vehicles of a day by rising number, each with a route that has no stop of this trip
 pub record AreRoutes (trip : ℕ) (vehicles : List OnDuty) : Type 0 where

@@ -2,9 +2,9 @@
 use Rattle.std.specs.Prelude.{◌≡◌, ℕ, ◌==◌, ◌&&◌, Bool, true, false, not, List, Option, Some, None}
 use Rattle.std.specs.List.{list_any}
 use Rattle.std.specs.List.Sorted.{IsStrictlyIncreasing}
-use Rattle.pt_base.specs.declared.trip.Trip.{Trip}
-use Rattle.pt_base.specs.declared.trip_status.TripStatus.{TripStatus}
-use Rattle.pt_base.specs.declared.trip_status.TripStatus.TheVariants.{Booked, Ridden}
+use Rattle.pt_base_values.specs.declared.trip.Trip.{Trip}
+use Rattle.pt_base_values.specs.declared.trip_status.TripStatus.{TripStatus}
+use Rattle.pt_base_values.specs.declared.trip_status.TripStatus.TheVariants.{Booked, Ridden}
 
 -- the trip is booked or was ridden
 abbrev pub is_used : TripStatus → Bool

@@ -1,10 +1,10 @@
 ghost use Rattle.std.specs.Prelude.{◌≡◌, IfOk, map};
 ghost use Rattle.pt_feasible.specs.Route.{stops_of};
-ghost use Rattle.pt_scheduling.specs.Plan.{planned_stop, without};
+ghost use Rattle.pt_desk_scheduling.specs.Plan.{planned_stop, without};
 
-use pt_base::{Day, TripId, VehicleId};
+use pt_base_records::{Key, Keyed};
+use pt_base_values::{Day, TripId, VehicleId};
 use pt_feasible::{Route, Stop, StopKind, Stops};
-use pt_records::{Key, Keyed};
 use std::alloc::{AllocError, Global};
 use std::marker::Model;
 
@@ -24,7 +24,7 @@ pub struct Plan {
 }
 
 impl Model for Plan {
-    ghost use Rattle.pt_scheduling.specs.Plan.{Plan};
+    ghost use Rattle.pt_desk_scheduling.specs.Plan.{Plan};
 
     ghost Value = { Plan };
 
@@ -36,7 +36,7 @@ impl Model for Plan {
 }
 
 impl Plan {
-    ghost use Rattle.pt_scheduling.specs.Plan.{without};
+    ghost use Rattle.pt_desk_scheduling.specs.Plan.{without};
 
     /// A copy.
     pub fn copy(&self, alloc: Global) -> Result<Self, AllocError>
@@ -87,7 +87,7 @@ pub(crate) fn planned_stops(alloc: Global, route: &Route) -> Result<Vec<PlannedS
 }
 
 impl Keyed for Plan {
-    ghost use Rattle.pt_scheduling.specs.Plan.{plan_key};
+    ghost use Rattle.pt_desk_scheduling.specs.Plan.{plan_key};
 
     ghost key = { plan_key };
 

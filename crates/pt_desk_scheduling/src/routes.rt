@@ -1,17 +1,17 @@
 ghost use Rattle.std.specs.Prelude.{◌≡◌, ◌++◌, [], ◌∷◌, ℕ, map, All, IfOk, IfSome, IfNone, OnOk};
 ghost use Rattle.pt_feasible.specs.Route.{stops_of};
-ghost use Rattle.pt_records.specs.Records.{IsInOrder};
-ghost use Rattle.pt_booking.specs.Planning.{on_duty};
-ghost use Rattle.pt_scheduling.specs.Plan.{after_stop, stops_among, planned_stops, trip_stop};
-ghost use Rattle.pt_scheduling.specs.Routes.{IsRoute, day_route, routes_without, stops_on, stops_without};
+ghost use Rattle.pt_base_records.specs.Records.{IsInOrder};
+ghost use Rattle.pt_desk_booking.specs.Planning.{on_duty};
+ghost use Rattle.pt_desk_scheduling.specs.Plan.{after_stop, stops_among, planned_stops, trip_stop};
+ghost use Rattle.pt_desk_scheduling.specs.Routes.{IsRoute, day_route, routes_without, stops_on, stops_without};
 
 use crate::planned::stops_without;
 use crate::{DayPlans, Plan, PlannedStop};
-use pt_base::{Day, Trip, TripId, Vehicle, VehicleId};
-use pt_booking::asked_of;
+use pt_base_records::{Key, Rows, find_record};
+use pt_base_values::{Day, Trip, TripId, Vehicle, VehicleId};
+use pt_desk_booking::asked_of;
 use pt_feasible::{Route, Stop, StopKind};
-use pt_insertion::Duty;
-use pt_records::{Key, Rows, find_record};
+use pt_insertion_search::Duty;
 use std::alloc::{AllocError, Global};
 
 /// A vehicle on duty, and its route of the day.

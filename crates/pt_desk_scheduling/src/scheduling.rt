@@ -1,20 +1,20 @@
 ghost use Rattle.std.specs.Prelude.{◌≡◌, ◌<◌, ◌↔◌, All, AllPairs, IsTrue, IfOk, map};
-ghost use Rattle.pt_insertion.specs.Insertion.{IsWithout};
+ghost use Rattle.pt_insertion_search.specs.Insertion.{IsWithout};
 ghost use Rattle.pt_feasible.specs.Route.{stops_of};
-ghost use Rattle.pt_scheduling.specs.Plan.{planned_stop};
+ghost use Rattle.pt_desk_scheduling.specs.Plan.{planned_stop};
 ghost use Rattle.std.specs.List.Sorted.{IsStrictlyIncreasing};
-ghost use Rattle.pt_booking.specs.Planning.{on_duty};
-ghost use Rattle.pt_booking.specs.Request.{request_of};
-ghost use Rattle.pt_scheduling.specs.Routes.{routes_without};
-ghost use Rattle.pt_scheduling.specs.Scheduling.{IsScheduled};
+ghost use Rattle.pt_desk_booking.specs.Planning.{on_duty};
+ghost use Rattle.pt_desk_booking.specs.Request.{request_of};
+ghost use Rattle.pt_desk_scheduling.specs.Routes.{routes_without};
+ghost use Rattle.pt_desk_scheduling.specs.Scheduling.{IsScheduled};
 
 use crate::Plan;
 use crate::planned::planned_stops;
 use crate::routes::{duties_of, routes_without};
-use pt_base::{Rule, Trip, TripId, Vehicle};
-use pt_booking::{Booking, BookingDecision, TripRequest, book};
-use pt_insertion::{Duty, are_rising, are_without};
-use pt_records::Rows;
+use pt_base_records::Rows;
+use pt_base_values::{Rule, Trip, TripId, Vehicle};
+use pt_desk_booking::{Booking, BookingDecision, TripRequest, book};
+use pt_insertion_search::{Duty, are_rising, are_without};
 use pt_travel::Times;
 use std::alloc::{AllocError, Global};
 

@@ -1,9 +1,9 @@
 ghost use Rattle.std.specs.Prelude.{◌≡◌, ◌&&◌, IfOk, OnOk};
-ghost use Rattle.pt_records.specs.Records.{put};
-ghost use Rattle.pt_scheduling.specs.Uses.{AreUses, is_other, is_used};
+ghost use Rattle.pt_base_records.specs.Records.{put};
+ghost use Rattle.pt_desk_scheduling.specs.Uses.{AreUses, is_other, is_used};
 
-use pt_base::{Day, Trip, TripId, TripStatus};
-use pt_records::{Edits, Table};
+use pt_base_records::{Edits, Table};
+use pt_base_values::{Day, Trip, TripId, TripStatus};
 use std::alloc::{AllocError, Global};
 
 /// Whether the trip is not the one that is left out, and is booked or was ridden.

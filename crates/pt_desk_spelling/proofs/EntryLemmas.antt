@@ -4,22 +4,22 @@ use Rattle.std.specs.Int.{IsInRange}
 use Rattle.std.specs.List.{All}
 use Rattle.std.proofs.lemmas.Fmt.{length-decimal-le}
 use Rattle.std.proofs.lemmas.List.Elements.{All-head, All-tail}
-use Rattle.pt_base.specs.Day.{IsDay}
-use Rattle.pt_conditions.specs.Texts.{condition_text, numbers_text}
-use Rattle.pt_conditions.proofs.NumbersLemmas.{months-from_set, length-months}
-use Rattle.pt_conditions.proofs.TextLemmas.{condition_text-injective}
-use Rattle.pt_rights.specs.Conditions.{IsCondition}
-use Rattle.pt_rights.specs.Months.{numbers_of}
-use Rattle.pt_rights.specs.Reasons.{IsReasons}
-use Rattle.pt_rights.specs.declared.conditions.Condition.{Condition}
-use Rattle.pt_rights.specs.declared.conditions.Condition.TheVariants.{Always, Months, Farther, NoLift}
-use Rattle.pt_rights.specs.declared.entry.Entry.{Entry}
-use Rattle.pt_rights.specs.declared.entry.Entry.TheVariants as entry
-use Rattle.pt_rights.specs.declared.entry.Grant.{Grant}
-use Rattle.pt_spelling.specs.Fields.{numbers_bytes, text_bytes}
-use Rattle.pt_spelling.specs.Ranges.{IsGrant, IsEntry}
-use Rattle.pt_spelling.specs.Requests.{condition_bytes, grant_bytes, entry_bytes}
-use Rattle.pt_spelling.proofs.FieldLemmas.{day-word, number-then, number-same, numbers-then, text-then, text-same, list-same}
+use Rattle.pt_base_values.specs.Day.{IsDay}
+use Rattle.pt_rights_conditions.specs.Texts.{condition_text, numbers_text}
+use Rattle.pt_rights_conditions.proofs.NumbersLemmas.{months-from_set, length-months}
+use Rattle.pt_rights_conditions.proofs.TextLemmas.{condition_text-injective}
+use Rattle.pt_rights_files.specs.Conditions.{IsCondition}
+use Rattle.pt_rights_files.specs.Months.{numbers_of}
+use Rattle.pt_rights_files.specs.Reasons.{IsReasons}
+use Rattle.pt_rights_files.specs.declared.conditions.Condition.{Condition}
+use Rattle.pt_rights_files.specs.declared.conditions.Condition.TheVariants.{Always, Months, Farther, NoLift}
+use Rattle.pt_rights_files.specs.declared.entry.Entry.{Entry}
+use Rattle.pt_rights_files.specs.declared.entry.Entry.TheVariants as entry
+use Rattle.pt_rights_files.specs.declared.entry.Grant.{Grant}
+use Rattle.pt_desk_spelling.specs.Fields.{numbers_bytes, text_bytes}
+use Rattle.pt_desk_spelling.specs.Ranges.{IsGrant, IsEntry}
+use Rattle.pt_desk_spelling.specs.Requests.{condition_bytes, grant_bytes, entry_bytes}
+use Rattle.pt_desk_spelling.proofs.FieldLemmas.{day-word, number-then, number-same, numbers-then, text-then, text-same, list-same}
 
 -- ---- conditions
 

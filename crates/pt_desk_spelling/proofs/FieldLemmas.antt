@@ -7,11 +7,11 @@ use Rattle.std.proofs.lemmas.Int.{ints, to_z-of_z}
 use Rattle.std.proofs.lemmas.List.{take_at, drop_at}
 use Rattle.std.proofs.lemmas.List.Elements.{recursion_from_All}
 use Rattle.std.proofs.lemmas.Nat.{from_be_bytes-to_be_bytes_4}
-use Rattle.pt_base.specs.Day.{IsDay}
-use Rattle.pt_base.specs.Place.{IsCoordinate}
-use Rattle.pt_base.specs.Ranges.{last_minute}
-use Rattle.pt_spelling.specs.Fields.{number_bytes, numbers_bytes, signed_bytes, truth_bytes, days_byte, optional_bytes, text_bytes, list_bytes}
-use Rattle.pt_spelling.specs.Ranges.{IsWord, IsWeek}
+use Rattle.pt_base_values.specs.Day.{IsDay}
+use Rattle.pt_base_values.specs.Place.{IsCoordinate}
+use Rattle.pt_base_values.specs.Ranges.{last_minute}
+use Rattle.pt_desk_spelling.specs.Fields.{number_bytes, numbers_bytes, signed_bytes, truth_bytes, days_byte, optional_bytes, text_bytes, list_bytes}
+use Rattle.pt_desk_spelling.specs.Ranges.{IsWord, IsWeek}
 
 -- joined parts, with the first part split off
 pub four_parts : (a b c d : List ℕ) → ((a ++ b) ++ c) ++ d ≡ a ++ (b ++ (c ++ d))

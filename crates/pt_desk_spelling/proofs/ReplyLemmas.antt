@@ -4,13 +4,13 @@ use Rattle.std.proofs.Common.{◌≡◌, ℕ, ◌+◌, ◌*◌, ◌≤◌, List,
 use Rattle.std.specs.List.{AllByRecursion}
 use Rattle.std.proofs.Props.{props}
 use Rattle.std.proofs.lemmas.List.{take-append-drop, drop-drop, drop_all}
-use Rattle.pt_requests.specs.declared.request.Confirmation.{Confirmation}
-use Rattle.pt_spelling.specs.Fields.{number_bytes, numbers_bytes}
-use Rattle.pt_spelling.specs.Ranges.{IsWord}
-use Rattle.pt_spelling.specs.Replies.{confirmation_numbers, IsTold, SpellsReply}
-use Rattle.pt_spelling.specs.declared.replies.KeptReply.{KeptReply}
-use Rattle.pt_spelling.specs.declared.replies.KeptReply.TheVariants.{Done, Entered, Booked}
-use Rattle.pt_spelling.proofs.FieldLemmas.{length-number, number-same, numbers-same}
+use Rattle.pt_desk_requests.specs.declared.request.Confirmation.{Confirmation}
+use Rattle.pt_desk_spelling.specs.Fields.{number_bytes, numbers_bytes}
+use Rattle.pt_desk_spelling.specs.Ranges.{IsWord}
+use Rattle.pt_desk_spelling.specs.Replies.{confirmation_numbers, IsTold, SpellsReply}
+use Rattle.pt_desk_spelling.specs.declared.replies.KeptReply.{KeptReply}
+use Rattle.pt_desk_spelling.specs.declared.replies.KeptReply.TheVariants.{Done, Entered, Booked}
+use Rattle.pt_desk_spelling.proofs.FieldLemmas.{length-number, number-same, numbers-same}
 
 -- ---- numbers
 

@@ -1,31 +1,31 @@
 -- No two requests have the same spelling.
 use Rattle.std.proofs.Common.{◌≡◌, ℕ, ◌≤◌, Bool, true, false, length, List, [], ◌∷◌, ◌++◌, get_or, drop, refl, sym, ap, ◌∙◌, arith}
 use Rattle.std.specs.List.{All}
-use Rattle.pt_base.specs.Day.{IsDay}
-use Rattle.pt_base.specs.declared.place.Place.{Place}
-use Rattle.pt_base.specs.declared.policy.Policy.{Policy}
-use Rattle.pt_base.specs.declared.rider.Residence.{Residence}
-use Rattle.pt_base.specs.declared.rider.Residence.TheVariants.{Resident, Visitor}
-use Rattle.pt_base.specs.declared.rider.Rider.{Rider}
-use Rattle.pt_base.specs.declared.trip.Wish.{Wish}
-use Rattle.pt_base.specs.declared.vehicle.Vehicle.{Vehicle}
+use Rattle.pt_base_values.specs.Day.{IsDay}
+use Rattle.pt_base_values.specs.declared.place.Place.{Place}
+use Rattle.pt_base_values.specs.declared.policy.Policy.{Policy}
+use Rattle.pt_base_values.specs.declared.rider.Residence.{Residence}
+use Rattle.pt_base_values.specs.declared.rider.Residence.TheVariants.{Resident, Visitor}
+use Rattle.pt_base_values.specs.declared.rider.Rider.{Rider}
+use Rattle.pt_base_values.specs.declared.trip.Wish.{Wish}
+use Rattle.pt_base_values.specs.declared.vehicle.Vehicle.{Vehicle}
 use Rattle.pt_corridor.specs.Route.{FixedRoute}
-use Rattle.pt_requests.specs.declared.caller.Caller.{Caller}
-use Rattle.pt_requests.specs.declared.request.Write.{Write}
-use Rattle.pt_requests.specs.declared.request.Write.TheVariants as write
-use Rattle.pt_rights.specs.declared.entry.Entry.{Entry}
-use Rattle.pt_rights.specs.declared.tally.Outcome.{Outcome}
-use Rattle.pt_rights.specs.declared.tally.Outcome.TheVariants as outcome
+use Rattle.pt_desk_requests.specs.declared.caller.Caller.{Caller}
+use Rattle.pt_desk_requests.specs.declared.request.Write.{Write}
+use Rattle.pt_desk_requests.specs.declared.request.Write.TheVariants as write
+use Rattle.pt_rights_files.specs.declared.entry.Entry.{Entry}
+use Rattle.pt_rights_files.specs.declared.tally.Outcome.{Outcome}
+use Rattle.pt_rights_files.specs.declared.tally.Outcome.TheVariants as outcome
 use Rattle.pt_travel.specs.Chain.{Row}
 use Rattle.pt_travel.specs.Table.{IsTable}
-use Rattle.pt_spelling.specs.Fields.{number_bytes, numbers_bytes, truth_bytes, optional_bytes, list_bytes}
-use Rattle.pt_spelling.specs.Ranges.{IsEntry, IsWish, IsRow, IsRequest}
-use Rattle.pt_spelling.specs.Replies.{IsId}
-use Rattle.pt_spelling.specs.Requests.{kind_number, outcome_number, wheelchair_bytes, rider_bytes, entry_bytes, wish_bytes, row_bytes, spelling}
-use Rattle.pt_spelling.proofs.EntryLemmas.{entry-same}
-use Rattle.pt_spelling.proofs.FieldLemmas.{four_parts, day-word, minute-word, byte-then, number-then, number-same, numbers-then, list-same, truth-then, optional-then}
-use Rattle.pt_spelling.proofs.SettingLemmas.{caller-same, policy-same, place-same, route-same, vehicle-same, row-then}
-use Rattle.pt_spelling.proofs.TableLemmas.{length-table}
+use Rattle.pt_desk_spelling.specs.Fields.{number_bytes, numbers_bytes, truth_bytes, optional_bytes, list_bytes}
+use Rattle.pt_desk_spelling.specs.Ranges.{IsEntry, IsWish, IsRow, IsRequest}
+use Rattle.pt_desk_spelling.specs.Replies.{IsId}
+use Rattle.pt_desk_spelling.specs.Requests.{kind_number, outcome_number, wheelchair_bytes, rider_bytes, entry_bytes, wish_bytes, row_bytes, spelling}
+use Rattle.pt_desk_spelling.proofs.EntryLemmas.{entry-same}
+use Rattle.pt_desk_spelling.proofs.FieldLemmas.{four_parts, day-word, minute-word, byte-then, number-then, number-same, numbers-then, list-same, truth-then, optional-then}
+use Rattle.pt_desk_spelling.proofs.SettingLemmas.{caller-same, policy-same, place-same, route-same, vehicle-same, row-then}
+use Rattle.pt_desk_spelling.proofs.TableLemmas.{length-table}
 
 -- ---- riders and trips
 

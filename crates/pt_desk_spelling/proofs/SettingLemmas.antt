@@ -5,23 +5,23 @@ use Rattle.std.proofs.lemmas.Bool.{cond-false, ne_eqb}
 use Rattle.std.proofs.Props.{props}
 use Rattle.std.specs.Prelude.{ℤ, ◌==◌}
 use Rattle.std.specs.Int.{IsInRange}
-use Rattle.pt_base.specs.Place.{IsOnPlane}
-use Rattle.pt_base.specs.declared.place.Place.{Place}
-use Rattle.pt_base.specs.declared.place.Point.{Point}
-use Rattle.pt_base.specs.declared.policy.Policy.{Policy}
-use Rattle.pt_base.specs.declared.vehicle.Vehicle.{Vehicle}
+use Rattle.pt_base_values.specs.Place.{IsOnPlane}
+use Rattle.pt_base_values.specs.declared.place.Place.{Place}
+use Rattle.pt_base_values.specs.declared.place.Point.{Point}
+use Rattle.pt_base_values.specs.declared.policy.Policy.{Policy}
+use Rattle.pt_base_values.specs.declared.vehicle.Vehicle.{Vehicle}
 use Rattle.pt_corridor.specs.Route.{FixedRoute}
-use Rattle.pt_requests.specs.declared.caller.Caller.{Caller}
-use Rattle.pt_requests.specs.declared.caller.Role.{Role}
-use Rattle.pt_requests.specs.declared.caller.Role.TheVariants.{Rider, Clerk, Examiner, Officer, Dispatcher, Driver, Admin}
+use Rattle.pt_desk_requests.specs.declared.caller.Caller.{Caller}
+use Rattle.pt_desk_requests.specs.declared.caller.Role.{Role}
+use Rattle.pt_desk_requests.specs.declared.caller.Role.TheVariants.{Rider, Clerk, Examiner, Officer, Dispatcher, Driver, Admin}
 use Rattle.pt_travel.specs.Chain.{Row}
-use Rattle.pt_spelling.specs.Fields.{number_bytes, numbers_bytes, truth_bytes, days_byte, list_bytes}
-use Rattle.pt_spelling.specs.Ranges.{IsWord, IsRole, IsCaller, IsRoute, IsVehicle, IsRow}
-use Rattle.pt_spelling.specs.Replies.{IsId}
-use Rattle.pt_spelling.specs.Requests.{role_number, subject_of, caller_bytes, policy_bytes, point_bytes, place_bytes, route_bytes, chairs_bytes, vehicle_bytes, row_bytes}
-use Rattle.pt_spelling.proofs.FieldLemmas.{four_parts, five_parts, day-word, minute-word, byte-then, length-number}
-use Rattle.pt_spelling.proofs.FieldLemmas.{number-same, number-then, numbers-then, numbers-same, list-then}
-use Rattle.pt_spelling.proofs.FieldLemmas.{signed-then, truth-then, days-same}
+use Rattle.pt_desk_spelling.specs.Fields.{number_bytes, numbers_bytes, truth_bytes, days_byte, list_bytes}
+use Rattle.pt_desk_spelling.specs.Ranges.{IsWord, IsRole, IsCaller, IsRoute, IsVehicle, IsRow}
+use Rattle.pt_desk_spelling.specs.Replies.{IsId}
+use Rattle.pt_desk_spelling.specs.Requests.{role_number, subject_of, caller_bytes, policy_bytes, point_bytes, place_bytes, route_bytes, chairs_bytes, vehicle_bytes, row_bytes}
+use Rattle.pt_desk_spelling.proofs.FieldLemmas.{four_parts, five_parts, day-word, minute-word, byte-then, length-number}
+use Rattle.pt_desk_spelling.proofs.FieldLemmas.{number-same, number-then, numbers-then, numbers-same, list-then}
+use Rattle.pt_desk_spelling.proofs.FieldLemmas.{signed-then, truth-then, days-same}
 
 pub at_most-prop : (most n : ℕ) → IsProp (n ≤ most)
 at_most-prop most n = hlevel props

@@ -1,22 +1,22 @@
 -- The ranges of the fields of a request. The types keep them, but definitions see only numbers and lists.
 use Rattle.std.specs.Prelude.{◌≡◌, ℕ, ◌^◌, ◌<◌, ◌≤◌, List, Bool, length, All, IfSome}
-use Rattle.pt_base.specs.Day.{IsDay}
-use Rattle.pt_base.specs.Ranges.{last_minute}
-use Rattle.pt_base.specs.declared.trip.Wish.{Wish}
-use Rattle.pt_base.specs.declared.vehicle.Vehicle.{Vehicle}
+use Rattle.pt_base_values.specs.Day.{IsDay}
+use Rattle.pt_base_values.specs.Ranges.{last_minute}
+use Rattle.pt_base_values.specs.declared.trip.Wish.{Wish}
+use Rattle.pt_base_values.specs.declared.vehicle.Vehicle.{Vehicle}
 use Rattle.pt_corridor.specs.Route.{FixedRoute, IsFixedRoute}
-use Rattle.pt_requests.specs.declared.caller.Caller.{Caller}
-use Rattle.pt_requests.specs.declared.caller.Role.{Role}
-use Rattle.pt_requests.specs.declared.caller.Role.TheVariants as role
-use Rattle.pt_requests.specs.declared.request.Write.{Write}
-use Rattle.pt_requests.specs.declared.request.Write.TheVariants as write
-use Rattle.pt_rights.specs.Conditions.{IsCondition, IsConditions}
-use Rattle.pt_rights.specs.Limits.{most_entries}
-use Rattle.pt_rights.specs.Reasons.{IsReasons}
-use Rattle.pt_rights.specs.declared.entry.Entry.{Entry}
-use Rattle.pt_rights.specs.declared.entry.Entry.TheVariants as entry
-use Rattle.pt_rights.specs.declared.entry.Grant.{Grant}
-use Rattle.pt_spelling.specs.Replies.{IsId}
+use Rattle.pt_desk_requests.specs.declared.caller.Caller.{Caller}
+use Rattle.pt_desk_requests.specs.declared.caller.Role.{Role}
+use Rattle.pt_desk_requests.specs.declared.caller.Role.TheVariants as role
+use Rattle.pt_desk_requests.specs.declared.request.Write.{Write}
+use Rattle.pt_desk_requests.specs.declared.request.Write.TheVariants as write
+use Rattle.pt_rights_files.specs.Conditions.{IsCondition, IsConditions}
+use Rattle.pt_rights_files.specs.Limits.{most_entries}
+use Rattle.pt_rights_files.specs.Reasons.{IsReasons}
+use Rattle.pt_rights_files.specs.declared.entry.Entry.{Entry}
+use Rattle.pt_rights_files.specs.declared.entry.Entry.TheVariants as entry
+use Rattle.pt_rights_files.specs.declared.entry.Grant.{Grant}
+use Rattle.pt_desk_spelling.specs.Replies.{IsId}
 use Rattle.pt_travel.specs.Chain.{Row}
 use Rattle.pt_travel.specs.Table.{IsTable}
 

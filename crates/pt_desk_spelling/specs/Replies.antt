@@ -1,12 +1,12 @@
 -- How the reply to an accepted request is spelled in bytes.
 use Rattle.std.specs.Prelude.{◌≡◌, ℕ, ◌^◌, ◌<◌, ◌≤◌, List, [], ◌∷◌, Option, None, Some}
-use Rattle.pt_base.specs.Ranges.{last_minute}
-use Rattle.pt_requests.specs.declared.request.Answer.{Answer}
-use Rattle.pt_requests.specs.declared.request.Answer.TheVariants as answer
-use Rattle.pt_requests.specs.declared.request.Confirmation.{Confirmation}
-use Rattle.pt_spelling.specs.Fields.{number_bytes, numbers_bytes}
-use Rattle.pt_spelling.specs.declared.replies.KeptReply.{KeptReply}
-use Rattle.pt_spelling.specs.declared.replies.KeptReply.TheVariants.{Done, Entered, Booked}
+use Rattle.pt_base_values.specs.Ranges.{last_minute}
+use Rattle.pt_desk_requests.specs.declared.request.Answer.{Answer}
+use Rattle.pt_desk_requests.specs.declared.request.Answer.TheVariants as answer
+use Rattle.pt_desk_requests.specs.declared.request.Confirmation.{Confirmation}
+use Rattle.pt_desk_spelling.specs.Fields.{number_bytes, numbers_bytes}
+use Rattle.pt_desk_spelling.specs.declared.replies.KeptReply.{KeptReply}
+use Rattle.pt_desk_spelling.specs.declared.replies.KeptReply.TheVariants.{Done, Entered, Booked}
 
 -- the numbers of the reply to a booking
 abbrev pub confirmation_numbers : Confirmation → List ℕ

@@ -1,30 +1,30 @@
 -- How a request that may change something is spelled in bytes.
 use Rattle.std.specs.Prelude.{◌≡◌, ℕ, Bool, true, false, ◌==◌, if◌then◌else◌, List, [], ◌∷◌, ◌++◌}
-use Rattle.pt_base.specs.declared.place.Place.{Place}
-use Rattle.pt_base.specs.declared.place.Point.{Point}
-use Rattle.pt_base.specs.declared.policy.Policy.{Policy}
-use Rattle.pt_base.specs.declared.rider.Residence.{Residence}
-use Rattle.pt_base.specs.declared.rider.Residence.TheVariants.{Resident, Visitor}
-use Rattle.pt_base.specs.declared.rider.Rider.{Rider}
-use Rattle.pt_base.specs.declared.trip.Wish.{Wish}
-use Rattle.pt_base.specs.declared.vehicle.Vehicle.{Vehicle}
-use Rattle.pt_conditions.specs.Texts.{condition_text}
+use Rattle.pt_base_values.specs.declared.place.Place.{Place}
+use Rattle.pt_base_values.specs.declared.place.Point.{Point}
+use Rattle.pt_base_values.specs.declared.policy.Policy.{Policy}
+use Rattle.pt_base_values.specs.declared.rider.Residence.{Residence}
+use Rattle.pt_base_values.specs.declared.rider.Residence.TheVariants.{Resident, Visitor}
+use Rattle.pt_base_values.specs.declared.rider.Rider.{Rider}
+use Rattle.pt_base_values.specs.declared.trip.Wish.{Wish}
+use Rattle.pt_base_values.specs.declared.vehicle.Vehicle.{Vehicle}
+use Rattle.pt_rights_conditions.specs.Texts.{condition_text}
 use Rattle.pt_corridor.specs.Route.{FixedRoute}
-use Rattle.pt_requests.specs.declared.caller.Caller.{Caller}
-use Rattle.pt_requests.specs.declared.caller.Role.{Role}
-use Rattle.pt_requests.specs.declared.caller.Role.TheVariants as role
-use Rattle.pt_requests.specs.declared.request.Write.{Write}
-use Rattle.pt_requests.specs.declared.request.Write.TheVariants as write
-use Rattle.pt_rights.specs.declared.conditions.Condition.{Condition}
-use Rattle.pt_rights.specs.declared.entry.Entry.{Entry}
-use Rattle.pt_rights.specs.declared.entry.Entry.TheVariants as entry
-use Rattle.pt_rights.specs.declared.entry.Grant.{Grant}
-use Rattle.pt_rights.specs.declared.tally.Outcome.{Outcome}
-use Rattle.pt_rights.specs.declared.tally.Outcome.TheVariants as outcome
+use Rattle.pt_desk_requests.specs.declared.caller.Caller.{Caller}
+use Rattle.pt_desk_requests.specs.declared.caller.Role.{Role}
+use Rattle.pt_desk_requests.specs.declared.caller.Role.TheVariants as role
+use Rattle.pt_desk_requests.specs.declared.request.Write.{Write}
+use Rattle.pt_desk_requests.specs.declared.request.Write.TheVariants as write
+use Rattle.pt_rights_files.specs.declared.conditions.Condition.{Condition}
+use Rattle.pt_rights_files.specs.declared.entry.Entry.{Entry}
+use Rattle.pt_rights_files.specs.declared.entry.Entry.TheVariants as entry
+use Rattle.pt_rights_files.specs.declared.entry.Grant.{Grant}
+use Rattle.pt_rights_files.specs.declared.tally.Outcome.{Outcome}
+use Rattle.pt_rights_files.specs.declared.tally.Outcome.TheVariants as outcome
 use Rattle.pt_travel.specs.Chain.{Row}
-use Rattle.pt_spelling.specs.Fields.{number_bytes, numbers_bytes, signed_bytes, truth_bytes, days_byte, optional_bytes}
-use Rattle.pt_spelling.specs.Fields.{text_bytes, list_bytes}
-use Rattle.pt_spelling.specs.Ranges.{IsRequest}
+use Rattle.pt_desk_spelling.specs.Fields.{number_bytes, numbers_bytes, signed_bytes, truth_bytes, days_byte, optional_bytes}
+use Rattle.pt_desk_spelling.specs.Fields.{text_bytes, list_bytes}
+use Rattle.pt_desk_spelling.specs.Ranges.{IsRequest}
 
 -- ---- callers
 

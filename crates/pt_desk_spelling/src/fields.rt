@@ -1,11 +1,11 @@
 ghost use Rattle.std.specs.Prelude.{◌≡◌, ◌++◌, ◌∷◌, [], ◌^◌, ◌<◌, ◌≤◌, length, OnOk, IfSome};
-ghost use Rattle.pt_base.specs.Ranges.{last_minute};
-ghost use Rattle.pt_base.specs.Weekday.{number_of};
-ghost use Rattle.pt_spelling.specs.Ranges.{IsWeek};
-ghost use Rattle.pt_spelling.specs.Fields.{number_bytes, numbers_bytes, signed_bytes, truth_bytes, day_bit, days_byte};
-ghost use Rattle.pt_spelling.specs.Fields.{optional_bytes, text_bytes};
+ghost use Rattle.pt_base_values.specs.Ranges.{last_minute};
+ghost use Rattle.pt_base_values.specs.Weekday.{number_of};
+ghost use Rattle.pt_desk_spelling.specs.Ranges.{IsWeek};
+ghost use Rattle.pt_desk_spelling.specs.Fields.{number_bytes, numbers_bytes, signed_bytes, truth_bytes, day_bit, days_byte};
+ghost use Rattle.pt_desk_spelling.specs.Fields.{optional_bytes, text_bytes};
 
-use pt_base::{Minute, Weekday, Weekdays};
+use pt_base_values::{Minute, Weekday, Weekdays};
 use std::alloc::AllocError;
 
 /// Adds a number in four bytes, the most significant first. The error is out of memory, here and below.

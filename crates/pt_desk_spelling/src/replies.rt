@@ -1,15 +1,15 @@
 ghost use Rattle.std.specs.Prelude.{◌≡◌, ◌≤◌, ◌+◌, ◌*◌, ◌++◌, Some, IfSome, length, take, drop};
 ghost use Rattle.std.specs.List.{AllByRecursion};
-ghost use Rattle.pt_requests.specs.declared.request.Confirmation.{Confirmation};
-ghost use Rattle.pt_spelling.specs.Fields.{number_bytes, numbers_bytes};
-ghost use Rattle.pt_spelling.specs.Ranges.{IsWord};
-ghost use Rattle.pt_spelling.specs.Replies.{confirmation_numbers, reply_spelling, reply_of, answer_of, IsTold, IsReply};
-ghost use Rattle.pt_spelling.specs.Replies.{SpellsReply};
-ghost use Rattle.pt_spelling.specs.declared.replies.TheConstants.{LONGEST_REPLY_SPELLING};
+ghost use Rattle.pt_desk_requests.specs.declared.request.Confirmation.{Confirmation};
+ghost use Rattle.pt_desk_spelling.specs.Fields.{number_bytes, numbers_bytes};
+ghost use Rattle.pt_desk_spelling.specs.Ranges.{IsWord};
+ghost use Rattle.pt_desk_spelling.specs.Replies.{confirmation_numbers, reply_spelling, reply_of, answer_of, IsTold, IsReply};
+ghost use Rattle.pt_desk_spelling.specs.Replies.{SpellsReply};
+ghost use Rattle.pt_desk_spelling.specs.declared.replies.TheConstants.{LONGEST_REPLY_SPELLING};
 
 use arrayvec::ArrayVec;
-use pt_base::{HIGHEST_FARE, Minute, TripId, VehicleId};
-use pt_requests::{Answer, Confirmation};
+use pt_base_values::{HIGHEST_FARE, Minute, TripId, VehicleId};
+use pt_desk_requests::{Answer, Confirmation};
 
 /// The most bytes in the spelling of a reply.
 pub const LONGEST_REPLY_SPELLING: usize = 25;

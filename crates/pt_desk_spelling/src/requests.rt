@@ -1,14 +1,14 @@
 ghost use Rattle.std.specs.Prelude.{◌≡◌, ◌++◌, IfOk, OnOk};
-ghost use Rattle.pt_requests.specs.declared.request.Write.{Write};
-ghost use Rattle.pt_spelling.specs.Ranges.{IsRequest};
-ghost use Rattle.pt_spelling.specs.Requests.{tag_of, fields_of, spelling};
+ghost use Rattle.pt_desk_requests.specs.declared.request.Write.{Write};
+ghost use Rattle.pt_desk_spelling.specs.Ranges.{IsRequest};
+ghost use Rattle.pt_desk_spelling.specs.Requests.{tag_of, fields_of, spelling};
 
 use crate::Spelling;
 use crate::fields::push_number;
 use crate::riders::{push_entry, push_rider};
 use crate::settings::{push_caller, push_place, push_policy, push_route, push_rows, push_vehicle};
 use crate::trips::{outcome_number, push_wish};
-use pt_requests::Write;
+use pt_desk_requests::Write;
 use std::alloc::{AllocError, Global};
 
 /// The spelling of a request. The error is out of memory.

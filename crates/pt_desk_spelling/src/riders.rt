@@ -1,15 +1,15 @@
 ghost use Rattle.std.specs.Prelude.{◌≡◌, ◌++◌, All, OnOk};
-ghost use Rattle.pt_rights.specs.Conditions.{IsCondition, IsConditions};
-ghost use Rattle.pt_spelling.specs.Fields.{list_bytes};
-ghost use Rattle.pt_spelling.specs.Ranges.{IsGrant, IsEntry};
-ghost use Rattle.pt_spelling.specs.Replies.{IsId};
-ghost use Rattle.pt_spelling.specs.Requests.{wheelchair_bytes, rider_bytes, condition_bytes, grant_bytes};
-ghost use Rattle.pt_spelling.specs.Requests.{entry_bytes, entry_number, particulars_of};
+ghost use Rattle.pt_rights_files.specs.Conditions.{IsCondition, IsConditions};
+ghost use Rattle.pt_desk_spelling.specs.Fields.{list_bytes};
+ghost use Rattle.pt_desk_spelling.specs.Ranges.{IsGrant, IsEntry};
+ghost use Rattle.pt_desk_spelling.specs.Replies.{IsId};
+ghost use Rattle.pt_desk_spelling.specs.Requests.{wheelchair_bytes, rider_bytes, condition_bytes, grant_bytes};
+ghost use Rattle.pt_desk_spelling.specs.Requests.{entry_bytes, entry_number, particulars_of};
 
 use crate::fields::{push_number, push_numbers, push_text, push_truth};
-use pt_base::{Residence, Rider};
-use pt_conditions::condition_text;
-use pt_rights::{Conditions, Entry, Grant};
+use pt_base_values::{Residence, Rider};
+use pt_rights_conditions::condition_text;
+use pt_rights_files::{Conditions, Entry, Grant};
 use std::alloc::AllocError;
 
 /// Adds the fields of a rider's record. The error is out of memory, here and below.

@@ -1,16 +1,16 @@
 ghost use Rattle.std.specs.Prelude.{◌≡◌, ◌++◌, All, OnOk};
 ghost use Rattle.pt_corridor.specs.Route.{HasPoints, IsRouteOnPlane};
-ghost use Rattle.pt_spelling.specs.Fields.{list_bytes};
-ghost use Rattle.pt_spelling.specs.Ranges.{IsRole, IsCaller, IsRoute, IsVehicle, IsRow};
-ghost use Rattle.pt_spelling.specs.Replies.{IsId};
-ghost use Rattle.pt_spelling.specs.Requests.{role_number, subject_of, caller_bytes, policy_bytes, point_bytes};
-ghost use Rattle.pt_spelling.specs.Requests.{place_bytes, route_bytes, chairs_bytes, vehicle_bytes, row_bytes};
+ghost use Rattle.pt_desk_spelling.specs.Fields.{list_bytes};
+ghost use Rattle.pt_desk_spelling.specs.Ranges.{IsRole, IsCaller, IsRoute, IsVehicle, IsRow};
+ghost use Rattle.pt_desk_spelling.specs.Replies.{IsId};
+ghost use Rattle.pt_desk_spelling.specs.Requests.{role_number, subject_of, caller_bytes, policy_bytes, point_bytes};
+ghost use Rattle.pt_desk_spelling.specs.Requests.{place_bytes, route_bytes, chairs_bytes, vehicle_bytes, row_bytes};
 ghost use Rattle.pt_travel.specs.Table.{IsTable};
 
 use crate::fields::{push_days, push_number, push_numbers, push_signed, push_truth};
-use pt_base::{Place, Point, Policy, Vehicle};
+use pt_base_values::{Place, Point, Policy, Vehicle};
 use pt_corridor::FixedRoute;
-use pt_requests::{Caller, Role};
+use pt_desk_requests::{Caller, Role};
 use pt_travel::{Raw, Row};
 use std::alloc::AllocError;
 

@@ -1,10 +1,10 @@
 ghost use Rattle.std.specs.Prelude.{◌≡◌, ◌++◌, OnOk};
-ghost use Rattle.pt_spelling.specs.Ranges.{IsWish};
-ghost use Rattle.pt_spelling.specs.Requests.{outcome_number, wish_bytes};
+ghost use Rattle.pt_desk_spelling.specs.Ranges.{IsWish};
+ghost use Rattle.pt_desk_spelling.specs.Requests.{outcome_number, wish_bytes};
 
 use crate::fields::{push_number, push_numbers, push_optional, push_truth};
-use pt_base::Wish;
-use pt_rights::Outcome;
+use pt_base_values::Wish;
+use pt_rights_files::Outcome;
 use std::alloc::AllocError;
 
 /// Adds the fields of a trip as a rider wishes it. The error is out of memory.

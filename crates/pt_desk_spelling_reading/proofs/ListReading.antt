@@ -4,9 +4,9 @@ use Rattle.std.proofs.Common.{drop-cons, append_assoc, Option, Some, None, sym, 
 use Rattle.std.proofs.lemmas.List.{take_all, take_more, drop_all}
 use Rattle.std.proofs.lemmas.List.Elements.{All-get_or}
 use Rattle.std.specs.List.{All, flat_map}
-use Rattle.pt_spelling.specs.Fields.{number_bytes, list_bytes}
-use Rattle.pt_spelling_reading.proofs.ReadingLemmas.{some-same, none-found, found-same}
-use Rattle.pt_spelling_reading.specs.Reading.{Takes}
+use Rattle.pt_desk_spelling.specs.Fields.{number_bytes, list_bytes}
+use Rattle.pt_desk_spelling_reading.proofs.ReadingLemmas.{some-same, none-found, found-same}
+use Rattle.pt_desk_spelling_reading.specs.Reading.{Takes}
 
 -- a list of a permitted length whose items fit
 abbrev pub FitList : {A : Type 0} → (ℕ → Type 0) → (A → Type 0) → List A → Type 0

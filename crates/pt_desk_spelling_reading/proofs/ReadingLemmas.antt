@@ -8,24 +8,24 @@ use Rattle.std.specs.Option.{unwrap_or, option_map}
 use Rattle.std.specs.Ordering.{is_gt, nat_cmp}
 use Rattle.std.specs.Prelude.{IfSome, IsNone, ◌==◌, ◌↔◌, Result, IsOk, IfOk}
 use Rattle.std.specs.Result.{result_ok}
-use Rattle.pt_base.specs.declared.fault.Fault.{Fault}
-use Rattle.pt_base.specs.declared.place.Place.{Place}
-use Rattle.pt_base.specs.declared.rider.Rider.{Rider}
-use Rattle.pt_base.specs.declared.trip.Wish.{Wish}
-use Rattle.pt_base.specs.declared.vehicle.Vehicle.{Vehicle}
-use Rattle.pt_conditions.proofs.TextLemmas.{condition_text-injective}
-use Rattle.pt_conditions.specs.Texts.{condition_text, SpellsCondition}
+use Rattle.pt_base_values.specs.declared.fault.Fault.{Fault}
+use Rattle.pt_base_values.specs.declared.place.Place.{Place}
+use Rattle.pt_base_values.specs.declared.rider.Rider.{Rider}
+use Rattle.pt_base_values.specs.declared.trip.Wish.{Wish}
+use Rattle.pt_base_values.specs.declared.vehicle.Vehicle.{Vehicle}
+use Rattle.pt_rights_conditions.proofs.TextLemmas.{condition_text-injective}
+use Rattle.pt_rights_conditions.specs.Texts.{condition_text, SpellsCondition}
 use Rattle.pt_corridor.specs.Route.{FixedRoute, IsFixedRoute}
-use Rattle.pt_requests.specs.declared.caller.Caller.{Caller}
-use Rattle.pt_rights.specs.Conditions.{IsCondition}
-use Rattle.pt_rights.specs.declared.conditions.Condition.{Condition}
-use Rattle.pt_spelling.specs.Fields.{number_bytes, numbers_bytes, truth_bytes, days_byte, optional_bytes, list_bytes}
-use Rattle.pt_spelling.specs.Requests.{role_number, subject_of, caller_bytes, point_bytes, place_bytes, route_bytes}
-use Rattle.pt_spelling.specs.Requests.{chairs_bytes, vehicle_bytes, kind_number, wheelchair_bytes, rider_bytes}
-use Rattle.pt_spelling.specs.Requests.{wish_bytes}
-use Rattle.pt_spelling.specs.Ranges.{IsWeek}
-use Rattle.pt_spelling.proofs.FieldLemmas.{length-number}
-use Rattle.pt_spelling_reading.specs.Reading.{Takes, Finds}
+use Rattle.pt_desk_requests.specs.declared.caller.Caller.{Caller}
+use Rattle.pt_rights_files.specs.Conditions.{IsCondition}
+use Rattle.pt_rights_files.specs.declared.conditions.Condition.{Condition}
+use Rattle.pt_desk_spelling.specs.Fields.{number_bytes, numbers_bytes, truth_bytes, days_byte, optional_bytes, list_bytes}
+use Rattle.pt_desk_spelling.specs.Requests.{role_number, subject_of, caller_bytes, point_bytes, place_bytes, route_bytes}
+use Rattle.pt_desk_spelling.specs.Requests.{chairs_bytes, vehicle_bytes, kind_number, wheelchair_bytes, rider_bytes}
+use Rattle.pt_desk_spelling.specs.Requests.{wish_bytes}
+use Rattle.pt_desk_spelling.specs.Ranges.{IsWeek}
+use Rattle.pt_desk_spelling.proofs.FieldLemmas.{length-number}
+use Rattle.pt_desk_spelling_reading.specs.Reading.{Takes, Finds}
 
 -- if nothing follows the value, what is taken is found
 pub taken-whole : {A : Type 0} (written : A → List ℕ) (Fits : A → Type 0) (bytes left : List ℕ) (found : Option A)

@@ -1,10 +1,10 @@
 -- What is read from bytes. These definitions do not say that the bytes hold nothing else: the program spells what it
 -- read and compares.
 use Rattle.std.specs.Prelude.{◌≡◌, ℕ, List, ◌++◌, Option, Some, Bool, true, false, slice_set}
-use Rattle.pt_requests.specs.declared.request.Write.{Write}
-use Rattle.pt_rights.specs.declared.entry.Entry.{Entry}
-use Rattle.pt_spelling.specs.Ranges.{IsEntry, IsRequest}
-use Rattle.pt_spelling.specs.Requests.{entry_number, particulars_of, tag_of, fields_of}
+use Rattle.pt_desk_requests.specs.declared.request.Write.{Write}
+use Rattle.pt_rights_files.specs.declared.entry.Entry.{Entry}
+use Rattle.pt_desk_spelling.specs.Ranges.{IsEntry, IsRequest}
+use Rattle.pt_desk_spelling.specs.Requests.{entry_number, particulars_of, tag_of, fields_of}
 
 -- if the bytes begin with the spelling of a value that fits, that value is taken, and the bytes after it are left
 abbrev pub Takes : {A : Type 0} → (A → List ℕ) → (A → Type 0) → List ℕ → Option A → List ℕ → Type 0

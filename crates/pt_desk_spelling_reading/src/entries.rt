@@ -1,16 +1,16 @@
 ghost use Rattle.std.specs.Prelude.{◌≡◌, ◌<◌, IfOk, IsSome, All};
 ghost use Rattle.std.specs.Int.{IsInRange};
-ghost use Rattle.pt_rights.specs.Conditions.{IsCondition, IsConditions};
-ghost use Rattle.pt_rights.specs.Reasons.{IsReasons};
-ghost use Rattle.pt_spelling.specs.Fields.{list_bytes, text_bytes};
-ghost use Rattle.pt_spelling.specs.Ranges.{IsGrant, IsEntry};
-ghost use Rattle.pt_spelling.specs.Requests.{condition_bytes, grant_bytes, entry_bytes};
-ghost use Rattle.pt_spelling_reading.specs.Reading.{Takes, Finds, FindsEntry};
+ghost use Rattle.pt_rights_files.specs.Conditions.{IsCondition, IsConditions};
+ghost use Rattle.pt_rights_files.specs.Reasons.{IsReasons};
+ghost use Rattle.pt_desk_spelling.specs.Fields.{list_bytes, text_bytes};
+ghost use Rattle.pt_desk_spelling.specs.Ranges.{IsGrant, IsEntry};
+ghost use Rattle.pt_desk_spelling.specs.Requests.{condition_bytes, grant_bytes, entry_bytes};
+ghost use Rattle.pt_desk_spelling_reading.specs.Reading.{Takes, Finds, FindsEntry};
 
 use crate::fields::{number_from, take_day, take_number_in, take_text};
 use arrayvec::ArrayVec;
-use pt_conditions::condition_from;
-use pt_rights::{Condition, Conditions, Entry, Grant, MOST_CONDITIONS, Position, Reasons};
+use pt_rights_conditions::condition_from;
+use pt_rights_files::{Condition, Conditions, Entry, Grant, MOST_CONDITIONS, Position, Reasons};
 use std::alloc::{AllocError, Global};
 
 /// Takes a condition, spelled as its text; `None` if no such bytes come next, here and in the next function.

@@ -1,18 +1,18 @@
 ghost use Rattle.std.specs.Prelude.{◌≡◌, ◌≤◌, ◌/◌, ◌%◌, ◌==◌, ◌∷◌, [], IfSome, length};
 ghost use Rattle.std.specs.Int.{IsInRange};
 ghost use Rattle.std.specs.Option.{option_copied};
-ghost use Rattle.pt_base.specs.Day.{IsDay};
-ghost use Rattle.pt_base.specs.Place.{IsCoordinate, IsOnPlane};
-ghost use Rattle.pt_base.specs.Ranges.{last_minute};
-ghost use Rattle.pt_base.specs.Weekday.{number_of};
-ghost use Rattle.pt_spelling.specs.Fields.{number_bytes, signed_bytes, truth_bytes, days_byte, optional_bytes};
-ghost use Rattle.pt_spelling.specs.Fields.{text_bytes};
-ghost use Rattle.pt_spelling.specs.Ranges.{IsWord, IsWeek};
-ghost use Rattle.pt_spelling.specs.Replies.{IsId};
-ghost use Rattle.pt_spelling.specs.Requests.{point_bytes};
-ghost use Rattle.pt_spelling_reading.specs.Reading.{Takes, Finds, mark};
+ghost use Rattle.pt_base_values.specs.Day.{IsDay};
+ghost use Rattle.pt_base_values.specs.Place.{IsCoordinate, IsOnPlane};
+ghost use Rattle.pt_base_values.specs.Ranges.{last_minute};
+ghost use Rattle.pt_base_values.specs.Weekday.{number_of};
+ghost use Rattle.pt_desk_spelling.specs.Fields.{number_bytes, signed_bytes, truth_bytes, days_byte, optional_bytes};
+ghost use Rattle.pt_desk_spelling.specs.Fields.{text_bytes};
+ghost use Rattle.pt_desk_spelling.specs.Ranges.{IsWord, IsWeek};
+ghost use Rattle.pt_desk_spelling.specs.Replies.{IsId};
+ghost use Rattle.pt_desk_spelling.specs.Requests.{point_bytes};
+ghost use Rattle.pt_desk_spelling_reading.specs.Reading.{Takes, Finds, mark};
 
-use pt_base::{Day, Id, Minute, Point, Weekday, Weekdays};
+use pt_base_values::{Day, Id, Minute, Point, Weekday, Weekdays};
 
 /// The most feet between a coordinate and the origin, either way.
 const FARTHEST: i32 = 1_000_000;
@@ -40,7 +40,7 @@ pub(crate) fn take_byte(left: &mut &[u8]) -> Option<u8>
 }
 
 /// Takes a number of four bytes, the most significant first.
-#[tactic(auto, unfolding(pt_spelling::specs::Fields::number_bytes))]
+#[tactic(auto, unfolding(pt_desk_spelling::specs::Fields::number_bytes))]
 pub(crate) fn take_number(left: &mut &[u8]) -> Option<u32>
     ensures { Takes number_bytes IsWord left.old.now result left.new.now }
 {

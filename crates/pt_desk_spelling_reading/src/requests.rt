@@ -1,7 +1,7 @@
 ghost use Rattle.std.specs.Prelude.{◌↔◌, IsTrue, IfOk};
-ghost use Rattle.pt_spelling.specs.Ranges.{IsRequest};
-ghost use Rattle.pt_spelling.specs.Requests.{spelling, IsSpelling};
-ghost use Rattle.pt_spelling_reading.specs.Reading.{Finds, FindsRequest};
+ghost use Rattle.pt_desk_spelling.specs.Ranges.{IsRequest};
+ghost use Rattle.pt_desk_spelling.specs.Requests.{spelling, IsSpelling};
+ghost use Rattle.pt_desk_spelling_reading.specs.Reading.{Finds, FindsRequest};
 
 use crate::entries::entry_from;
 use crate::fields::{id_from, take_day, take_id};
@@ -9,8 +9,8 @@ use crate::routes::route_from;
 use crate::settings::{caller_from, place_from, policy_from, rider_from, vehicle_from};
 use crate::travel::table_from;
 use crate::trips::{outcome_from, wish_from};
-use pt_requests::Write;
-use pt_spelling::spell;
+use pt_desk_requests::Write;
+use pt_desk_spelling::spell;
 use std::alloc::{AllocError, Global};
 
 /// Whether the bytes spell a request that may be asked. Time and memory grow with the length of the bytes. The error is

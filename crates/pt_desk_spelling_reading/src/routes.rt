@@ -1,14 +1,14 @@
 ghost use Rattle.std.specs.Prelude.{◌≡◌, ◌++◌, ◌∷◌, [], Some, IfOk, All, length};
 ghost use Rattle.std.specs.Option.{option_map};
-ghost use Rattle.pt_base.specs.Place.{IsOnPlane};
+ghost use Rattle.pt_base_values.specs.Place.{IsOnPlane};
 ghost use Rattle.pt_corridor.specs.Route.{FixedRoute};
-ghost use Rattle.pt_spelling.specs.Fields.{numbers_bytes, truth_bytes, days_byte, list_bytes};
-ghost use Rattle.pt_spelling.specs.Ranges.{IsWord, IsRoute};
-ghost use Rattle.pt_spelling.specs.Requests.{point_bytes, route_bytes};
-ghost use Rattle.pt_spelling_reading.specs.Reading.{Takes, Finds};
+ghost use Rattle.pt_desk_spelling.specs.Fields.{numbers_bytes, truth_bytes, days_byte, list_bytes};
+ghost use Rattle.pt_desk_spelling.specs.Ranges.{IsWord, IsRoute};
+ghost use Rattle.pt_desk_spelling.specs.Requests.{point_bytes, route_bytes};
+ghost use Rattle.pt_desk_spelling_reading.specs.Reading.{Takes, Finds};
 
 use crate::fields::{take_days, take_id, take_minute, take_number, take_point, take_truth};
-use pt_base::{Point, RouteId};
+use pt_base_values::{Point, RouteId};
 use pt_corridor::FixedRoute;
 use std::alloc::{AllocError, Global};
 

@@ -1,19 +1,19 @@
 ghost use Rattle.std.specs.Prelude.{◌≡◌, ◌≤◌, ◌∷◌, [], Some, IfSome, length};
-ghost use Rattle.pt_requests.specs.declared.caller.Role.{Role};
-ghost use Rattle.pt_spelling.specs.Ranges.{IsRole, IsCaller, IsVehicle};
-ghost use Rattle.pt_spelling.specs.Replies.{IsId};
-ghost use Rattle.pt_spelling.specs.Requests.{role_number, subject_of, caller_bytes, policy_bytes, place_bytes};
-ghost use Rattle.pt_spelling.specs.Requests.{chairs_bytes, vehicle_bytes, kind_number, wheelchair_bytes, rider_bytes};
-ghost use Rattle.pt_spelling_reading.specs.Reading.{Takes, Finds};
+ghost use Rattle.pt_desk_requests.specs.declared.caller.Role.{Role};
+ghost use Rattle.pt_desk_spelling.specs.Ranges.{IsRole, IsCaller, IsVehicle};
+ghost use Rattle.pt_desk_spelling.specs.Replies.{IsId};
+ghost use Rattle.pt_desk_spelling.specs.Requests.{role_number, subject_of, caller_bytes, policy_bytes, place_bytes};
+ghost use Rattle.pt_desk_spelling.specs.Requests.{chairs_bytes, vehicle_bytes, kind_number, wheelchair_bytes, rider_bytes};
+ghost use Rattle.pt_desk_spelling_reading.specs.Reading.{Takes, Finds};
 
 use crate::fields::{
     number_from, take_byte, take_bytes, take_day, take_days, take_id, take_minute, take_number,
     take_number_in, take_point, take_truth,
 };
-use pt_base::{
+use pt_base_values::{
     HIGHEST_FARE, LAST_MINUTE, Place, Policy, Residence, Rider, RiderId, Vehicle, VehicleId,
 };
-use pt_requests::{Caller, Digest, Role};
+use pt_desk_requests::{Caller, Digest, Role};
 
 /// The number of bytes in a digest.
 const DIGEST_BYTES: usize = 32;

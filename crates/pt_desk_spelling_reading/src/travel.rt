@@ -1,14 +1,14 @@
 ghost use Rattle.std.specs.Prelude.{◌≤◌, IfOk, All, length};
 ghost use Rattle.std.specs.Option.{option_map};
-ghost use Rattle.pt_base.specs.Ranges.{last_minute};
-ghost use Rattle.pt_spelling.specs.Fields.{list_bytes};
-ghost use Rattle.pt_spelling.specs.Ranges.{IsWord, IsRow};
-ghost use Rattle.pt_spelling.specs.Requests.{row_bytes};
-ghost use Rattle.pt_spelling_reading.specs.Reading.{Takes, Finds};
+ghost use Rattle.pt_base_values.specs.Ranges.{last_minute};
+ghost use Rattle.pt_desk_spelling.specs.Fields.{list_bytes};
+ghost use Rattle.pt_desk_spelling.specs.Ranges.{IsWord, IsRow};
+ghost use Rattle.pt_desk_spelling.specs.Requests.{row_bytes};
+ghost use Rattle.pt_desk_spelling_reading.specs.Reading.{Takes, Finds};
 ghost use Rattle.pt_travel.specs.Table.{IsTable};
 
 use crate::fields::{take_id, take_number, take_number_in};
-use pt_base::LAST_MINUTE;
+use pt_base_values::LAST_MINUTE;
 use pt_travel::{Raw, Row};
 use std::alloc::{AllocError, Global};
 

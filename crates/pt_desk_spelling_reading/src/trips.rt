@@ -1,13 +1,13 @@
 ghost use Rattle.std.specs.Prelude.{◌∷◌, []};
-ghost use Rattle.pt_spelling.specs.Ranges.{IsWish};
-ghost use Rattle.pt_spelling.specs.Requests.{outcome_number, wish_bytes};
-ghost use Rattle.pt_spelling_reading.specs.Reading.{Finds};
+ghost use Rattle.pt_desk_spelling.specs.Ranges.{IsWish};
+ghost use Rattle.pt_desk_spelling.specs.Requests.{outcome_number, wish_bytes};
+ghost use Rattle.pt_desk_spelling_reading.specs.Reading.{Finds};
 
 use crate::fields::{
     take_byte, take_day, take_id, take_minute, take_number_in, take_optional, take_truth,
 };
-use pt_base::Wish;
-use pt_rights::Outcome;
+use pt_base_values::Wish;
+use pt_rights_files::Outcome;
 
 /// The wish whose fields the bytes are; `None` if they are no such fields.
 pub(crate) fn wish_from(bytes: &[u8]) -> Option<Wish>

@@ -1,7 +1,7 @@
 -- A case file that is built from entries, one after another.
 use Rattle.std.proofs.Common.{◌≡◌, ℕ, ◌+◌, ◌-◌, ◌<◌, suc, List, [], ◌∷◌, ◌++◌, length, take, map, sym, ap, ◌∙◌, arith, append_assoc, length-append}
 use Rattle.std.proofs.lemmas.List.{append-nil}
-use Rattle.pt_rights.specs.declared.entry.Entered.{Entered}
+use Rattle.pt_rights_files.specs.declared.entry.Entered.{Entered}
 use Rattle.pt_desk_rules.specs.declared.change.FiledEntry.{FiledEntry}
 
 abbrev pub entered_of : FiledEntry → Entered

@@ -4,35 +4,35 @@ use Rattle.std.proofs.Common.{Any, All, AllPairs, IsSomeAnd, slice_get, slice_in
 use Rattle.std.proofs.lemmas.Bool.{and_from, le-leb, true≢false}
 use Rattle.std.proofs.lemmas.List.{length-map, get_or-map}
 use Rattle.std.proofs.lemmas.Option.{slice_get_within}
-use Rattle.pt_base.specs.declared.rule.Rule.{Rule}
-use Rattle.pt_base.specs.declared.rule.Rule.TheVariants.{NoVehicle}
-use Rattle.pt_base.specs.declared.trip.Trip.{Trip}
-use Rattle.pt_base.specs.declared.trip.Wish.{Wish}
-use Rattle.pt_base.specs.declared.vehicle.Vehicle.{Vehicle}
-use Rattle.pt_booking.specs.Booking.{IsNewRoute, IsTripOf}
-use Rattle.pt_booking.specs.Planning.{OnDuty, asked_for, asked_of, booking_rules, SomeVehicleCan}
-use Rattle.pt_booking.specs.Request.{Request}
-use Rattle.pt_booking.specs.Rules.{IsFirstFailing, riders_rules}
-use Rattle.pt_booking.specs.Window.{wished_window}
+use Rattle.pt_base_values.specs.declared.rule.Rule.{Rule}
+use Rattle.pt_base_values.specs.declared.rule.Rule.TheVariants.{NoVehicle}
+use Rattle.pt_base_values.specs.declared.trip.Trip.{Trip}
+use Rattle.pt_base_values.specs.declared.trip.Wish.{Wish}
+use Rattle.pt_base_values.specs.declared.vehicle.Vehicle.{Vehicle}
+use Rattle.pt_desk_booking.specs.Booking.{IsNewRoute, IsTripOf}
+use Rattle.pt_desk_booking.specs.Planning.{OnDuty, asked_for, asked_of, booking_rules, SomeVehicleCan}
+use Rattle.pt_desk_booking.specs.Request.{Request}
+use Rattle.pt_desk_booking.specs.Rules.{IsFirstFailing, riders_rules}
+use Rattle.pt_desk_booking.specs.Window.{wished_window}
 use Rattle.pt_feasible.proofs.LoadLemmas.{element_within}
 use Rattle.pt_feasible.proofs.VisitLemmas.{length-visits, visits-stop}
 use Rattle.pt_feasible.specs.ServiceTimes.{KeepsDrivingTimes, TimesFit}
 use Rattle.pt_feasible.specs.Visit.{depot_visit, stop_visit, visits}
 use Rattle.pt_feasible.specs.declared.stop.Stop.{Stop}
-use Rattle.pt_insertion.proofs.InsertionLemmas.{with_trip_pickup}
-use Rattle.pt_insertion.specs.Asked.{pickup_stop}
-use Rattle.pt_insertion.specs.Choice.{IsBestIn, IsChosenIn}
-use Rattle.pt_insertion.specs.Insertion.{with_trip, IsWithout}
-use Rattle.pt_insertion.specs.Possible.{IsPossible}
-use Rattle.pt_insertion.specs.declared.asked.Asked.{Asked}
-use Rattle.pt_insertion.specs.declared.chosen.Chosen.{Chosen}
-use Rattle.pt_scheduling.specs.Plan.{Plan}
-use Rattle.pt_scheduling.specs.Routes.{IsRoute}
-use Rattle.pt_scheduling.specs.Scheduling.{AreRoutes, IsBookedAt, IsBookedIn, IsPlanWith, IsScheduled}
-use Rattle.pt_scheduling.specs.declared.scheduling.Scheduled.{Scheduled}
-use Rattle.pt_scheduling.specs.declared.scheduling.Scheduled.TheVariants.{Booked, Denied}
+use Rattle.pt_insertion_search.proofs.InsertionLemmas.{with_trip_pickup}
+use Rattle.pt_insertion_search.specs.Asked.{pickup_stop}
+use Rattle.pt_insertion_search.specs.Choice.{IsBestIn, IsChosenIn}
+use Rattle.pt_insertion_search.specs.Insertion.{with_trip, IsWithout}
+use Rattle.pt_insertion_search.specs.Possible.{IsPossible}
+use Rattle.pt_insertion_search.specs.declared.asked.Asked.{Asked}
+use Rattle.pt_insertion_search.specs.declared.chosen.Chosen.{Chosen}
+use Rattle.pt_desk_scheduling.specs.Plan.{Plan}
+use Rattle.pt_desk_scheduling.specs.Routes.{IsRoute}
+use Rattle.pt_desk_scheduling.specs.Scheduling.{AreRoutes, IsBookedAt, IsBookedIn, IsPlanWith, IsScheduled}
+use Rattle.pt_desk_scheduling.specs.declared.scheduling.Scheduled.{Scheduled}
+use Rattle.pt_desk_scheduling.specs.declared.scheduling.Scheduled.TheVariants.{Booked, Denied}
 use Rattle.pt_desk_rules.proofs.TourLemmas.{within_last}
-use Rattle.pt_store.specs.Wished.{works_in_window}
+use Rattle.pt_desk_store.specs.Wished.{works_in_window}
 
 -- a drive takes no minute back
 not_before : (way : Option ℕ) (begin service end : ℕ) → IsSomeAnd way (λ drive. begin + service + drive ≤ end) → begin ≤ end
@@ -124,7 +124,7 @@ any_alike f g P R vehicles gives (k, x, within, at, holds) =
     let y = g (get_or vehicles k d) in
     (k, y, omega (arith, length-map vehicles g, inside), get_or-map g vehicles k d y inside, gives k d inside here)
 
-all_alike : (f g : Vehicle → OnDuty) (P R : OnDuty → Type 0) (vehicles : List Vehicle)
+pub all_alike : (f g : Vehicle → OnDuty) (P R : OnDuty → Type 0) (vehicles : List Vehicle)
     → ((k : ℕ) (d : Vehicle) → k < length vehicles → P (f (get_or vehicles k d)) → R (g (get_or vehicles k d))) → All P (map f vehicles) → All R (map g vehicles)
 all_alike f g P R vehicles gives all = λ k x within.
     let inside : k < length vehicles = omega (arith, length-map vehicles g, within) in
@@ -132,7 +132,7 @@ all_alike f g P R vehicles gives all = λ k x within.
     let here : P (f (get_or vehicles k d)) = subst P (get_or-map f vehicles k d x inside) (all k x (omega (arith, length-map vehicles f, inside))) in
     subst R (sym (get_or-map g vehicles k d x inside)) (gives k d inside here)
 
-pairs_alike : (f g : Vehicle → OnDuty) (vehicles : List Vehicle) → ((v : Vehicle) → (f v).vehicle ≡ (g v).vehicle)
+pub pairs_alike : (f g : Vehicle → OnDuty) (vehicles : List Vehicle) → ((v : Vehicle) → (f v).vehicle ≡ (g v).vehicle)
     → AllPairs (λ first second. first.vehicle.id < second.vehicle.id) (map f vehicles) → AllPairs (λ first second. first.vehicle.id < second.vehicle.id) (map g vehicles)
 pairs_alike f g vehicles same all = λ j k x before within.
     let inside : k < length vehicles = omega (arith, length-map vehicles g, within) in
@@ -145,7 +145,7 @@ pairs_alike f g vehicles same all = λ j k x before within.
 no_stop : {A : Type 0} (k : ℕ) (x : A) → slice_get [] k ≡ Some x → ⊥
 no_stop k x at = absurd (cc)
 
-empty_route : (stops : List Stop) → stops ≡ [] → IsRoute stops
+pub empty_route : (stops : List Stop) → stops ≡ [] → IsRoute stops
 empty_route stops none = subst IsRoute (sym none) (record {
   few = omega arith;
   paired = record {
@@ -154,7 +154,7 @@ empty_route stops none = subst IsRoute (sym none) (record {
   };
 })
 
-empty_without : (trip : ℕ) (stops : List Stop) → stops ≡ [] → IsWithout trip stops
+pub empty_without : (trip : ℕ) (stops : List Stop) → stops ≡ [] → IsWithout trip stops
 empty_without trip stops none = subst (IsWithout trip) (sym none) (λ k stop at same. no_stop k stop at)
 
 -- the last rule may be said in another way

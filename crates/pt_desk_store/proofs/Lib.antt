@@ -6,3 +6,4 @@ mod ManifestLemmas
 pub mod SomeLemmas
 mod HoursLemmas
 mod WishedLemmas
+mod DenialLemmas

@@ -2,9 +2,9 @@
 use Rattle.std.proofs.Common.{◌≡◌, ℕ, Bool, true, false, List, [], ◌∷◌, ◌++◌, Option, Some, None, cond, refl, sym, ap, ◌∙◌, subst, arith}
 use Rattle.std.specs.Prelude.{◌==◌, ◌&&◌, filter, find}
 use Rattle.std.proofs.lemmas.Bool.Decides.{nat_tests}
-use Rattle.pt_base.specs.declared.rule.Rule.{Rule}
-use Rattle.pt_base.specs.declared.trip.Trip.{Trip}
-use Rattle.pt_base.specs.declared.vehicle.Vehicle.{Vehicle}
+use Rattle.pt_base_values.specs.declared.rule.Rule.{Rule}
+use Rattle.pt_base_values.specs.declared.trip.Trip.{Trip}
+use Rattle.pt_base_values.specs.declared.vehicle.Vehicle.{Vehicle}
 use Rattle.pt_desk_rules.specs.Booking.{rows_of}
 use Rattle.pt_desk_rules.specs.Chain.{Row}
 use Rattle.pt_desk_rules.specs.Deciding.{IsToldAfter}
@@ -21,16 +21,16 @@ use Rattle.pt_desk_rules.specs.Travel.{TravelTable}
 use Rattle.pt_desk_rules.specs.VehicleSheet.{VehicleSheet}
 use Rattle.pt_desk_rules.specs.declared.facts.DayFacts.{DayFacts}
 use Rattle.pt_desk_rules.proofs.TourLemmas.{each_at}
-use Rattle.pt_records.specs.Keys.{pair_key}
-use Rattle.pt_records.specs.Records.{put, put_all, record_at, Each}
-use Rattle.pt_records.proofs.OrderLemmas.{record_at-here, Each-put}
-use Rattle.pt_requests.specs.declared.request.Answer.{Answer}
-use Rattle.pt_requests.specs.declared.request.Read.TheVariants.{Manifest}
-use Rattle.pt_scheduling.specs.Plan.{Plan, after_stop, plan_key, planned_stops, stops_among, stops_of_plan}
-use Rattle.pt_scheduling.specs.declared.planned.PlannedStop.{PlannedStop}
-use Rattle.pt_scheduling.proofs.PlanLemmas.{found_key, stop_trip}
-use Rattle.pt_scheduling.proofs.RouteLemmas.{Each-found}
-use Rattle.pt_store.specs.Enough.{are_met, is_met, is_on, tour_by, AreTripsIn, IsEnough, IsEnoughBy, IsTripIn}
+use Rattle.pt_base_records.specs.Keys.{pair_key}
+use Rattle.pt_base_records.specs.Records.{put, put_all, record_at, Each}
+use Rattle.pt_base_records.proofs.OrderLemmas.{record_at-here, Each-put}
+use Rattle.pt_desk_requests.specs.declared.request.Answer.{Answer}
+use Rattle.pt_desk_requests.specs.declared.request.Read.TheVariants.{Manifest}
+use Rattle.pt_desk_scheduling.specs.Plan.{Plan, after_stop, plan_key, planned_stops, stops_among, stops_of_plan}
+use Rattle.pt_desk_scheduling.specs.declared.planned.PlannedStop.{PlannedStop}
+use Rattle.pt_desk_scheduling.proofs.PlanLemmas.{found_key, stop_trip}
+use Rattle.pt_desk_scheduling.proofs.RouteLemmas.{Each-found}
+use Rattle.pt_desk_store.specs.Enough.{are_met, is_met, is_on, tour_by, AreTripsIn, IsEnough, IsEnoughBy, IsTripIn}
 
 kept_step : {A : Type 0} (key : A → ℕ) (k : ℕ) (x y : A) (ys kept : List A) (test : A → Bool) (here passes : Bool) → (key y == k) ≡ here → test y ≡ passes → test x ≡ true
     → (record_at key k ys ≡ Some x → record_at key k kept ≡ Some x) → cond here (Some y) (record_at key k ys) ≡ Some x → record_at key k (cond passes (y ∷ kept) kept) ≡ Some x
@@ -159,7 +159,7 @@ told_by None id day today plans others xs ys s told same (sheet, shown, is) =
 enough : (id day : ℕ) (plans : List Plan) (xs : List Trip) (s : State) → SamePlan day plans (planned_on day s.planned) xs (trips_on day s.trips) id
     → IsEnough (Manifest id day) s (tour_by day plans xs s)
 enough id day plans xs s same me now told is =
-    told_by (first_failing (read_rules (Manifest id day) me (tour_by day plans xs s))) id day now.day plans (planned_on day s.planned) xs (trips_on day s.trips) s told same is
+    told_by (first_failing (read_rules (Manifest id day) me (tour_by day plans xs s))) id day now.0 plans (planned_on day s.planned) xs (trips_on day s.trips) s told same is
 
 -- a vehicle with no plan
 pub enough_none : (id day : ℕ) (s : State) → plan_of id day s ≡ None → IsEnough (Manifest id day) s (tour_by day [] [] s)

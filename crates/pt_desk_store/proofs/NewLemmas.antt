@@ -1,15 +1,15 @@
 -- A state that has only an admin is sound.
 use Rattle.std.proofs.Common.{rules, ◌≡◌, ℕ, List, [], ◌∷◌, length, sym, subst}
-use Rattle.pt_base.specs.declared.policy.Policy.{Policy}
+use Rattle.pt_base_values.specs.declared.policy.Policy.{Policy}
 use Rattle.pt_desk_rules.specs.Parts.{Part, records_of}
 use Rattle.pt_desk_rules.specs.Parts as part
 use Rattle.pt_desk_rules.specs.Ranges.{FitsIn}
 use Rattle.pt_desk_rules.specs.Sound.{IsSound}
 use Rattle.pt_desk_rules.specs.State.{State, new_state}
-use Rattle.pt_records.specs.Records.{Each}
-use Rattle.pt_requests.specs.declared.caller.Caller.{Caller}
-use Rattle.pt_requests.specs.declared.caller.Role.TheVariants.{Admin}
-use Rattle.pt_spelling.specs.Ranges.{IsCaller}
+use Rattle.pt_base_records.specs.Records.{Each}
+use Rattle.pt_desk_requests.specs.declared.caller.Caller.{Caller}
+use Rattle.pt_desk_requests.specs.declared.caller.Role.TheVariants.{Admin}
+use Rattle.pt_desk_spelling.specs.Ranges.{IsCaller}
 
 -- the admin with a key of this digest
 abbrev admin_of : List ℕ → Caller

@@ -2,10 +2,10 @@
 use Rattle.std.proofs.Common.{◌≡◌, None, Result, Ok, Err, refl, sym, subst, ap, ◌∙◌}
 use Rattle.std.specs.Result.{IsErrAnd}
 use Rattle.pt_desk_rules.specs.State.{State}
-use Rattle.pt_store.specs.Store.{Store, Goes, Reads, Tells}
-use Rattle.pt_store.specs.declared.keeper.StoreFault.{StoreFault}
-use Rattle.pt_store.specs.declared.keeper.StoreFault.TheVariants.{Memory, Store as failed}
-use Rattle.pt_store.proofs.StoreLemmas.{reads_then}
+use Rattle.pt_desk_store.specs.Store.{Store, Goes, Reads, Tells}
+use Rattle.pt_desk_store.specs.declared.keeper.StoreFault.{StoreFault}
+use Rattle.pt_desk_store.specs.declared.keeper.StoreFault.TheVariants.{Memory, Store as failed}
+use Rattle.pt_desk_store.proofs.StoreLemmas.{reads_then}
 
 no_fault : {X : Type 0} (x : X) → ◌≡◌ {A = Result X StoreFault} (Ok x) (Err failed) → ⊥
 no_fault x same = absurd (cc)

@@ -1,22 +1,22 @@
 -- Reads that return something with a property.
 use Rattle.std.proofs.Common.{◌≡◌, ◌≤◌, ℕ, inl, List, [], ◌∷◌, ◌++◌, true, Option, Some, None, Result, Ok, Err, IfSome, refl, sym, subst, ap, ◌∙◌, arith}
 use Rattle.std.specs.Result.{IsErrAnd}
-use Rattle.pt_base.specs.declared.trip.Trip.{Trip}
+use Rattle.pt_base_values.specs.declared.trip.Trip.{Trip}
 use Rattle.pt_desk_rules.specs.Deciding.{IsTold}
 use Rattle.pt_desk_rules.specs.Facts.{read_facts_of, tour_facts}
 use Rattle.pt_desk_rules.specs.State.{State, plan_of, trip_key, trip_of}
-use Rattle.pt_records.specs.Records.{edited, take_all, Edit}
-use Rattle.pt_requests.specs.declared.request.Read.TheVariants.{Manifest}
-use Rattle.pt_scheduling.specs.Plan.{Plan}
-use Rattle.pt_store.proofs.ManifestLemmas.{enough_by, enough_none, trips_more}
+use Rattle.pt_base_records.specs.Records.{edited, take_all, Edit}
+use Rattle.pt_desk_requests.specs.declared.request.Read.TheVariants.{Manifest}
+use Rattle.pt_desk_scheduling.specs.Plan.{Plan}
+use Rattle.pt_desk_store.proofs.ManifestLemmas.{enough_by, enough_none, trips_more}
 use Rattle.pt_desk_rules.specs.declared.facts.ReadFacts.{ReadFacts}
-use Rattle.pt_requests.specs.declared.request.Read.{Read}
-use Rattle.pt_store.specs.Enough.{are_met, tour_by, AreTripsIn, IsEnough, IsEnoughBy, IsTripIn}
-use Rattle.pt_store.specs.Store.{Store, Goes, Reads, ReadsSome}
-use Rattle.pt_store.specs.declared.keeper.StoreFault.{StoreFault}
-use Rattle.pt_store.specs.declared.keeper.StoreFault.TheVariants.{Memory, Store as failed}
-use Rattle.pt_store.proofs.ReadLemmas.{fault_of, reads_map}
-use Rattle.pt_store.proofs.StoreLemmas.{found_still, reads_then}
+use Rattle.pt_desk_requests.specs.declared.request.Read.{Read}
+use Rattle.pt_desk_store.specs.Enough.{are_met, tour_by, AreTripsIn, IsEnough, IsEnoughBy, IsTripIn}
+use Rattle.pt_desk_store.specs.Store.{Store, Goes, Reads, ReadsSome}
+use Rattle.pt_desk_store.specs.declared.keeper.StoreFault.{StoreFault}
+use Rattle.pt_desk_store.specs.declared.keeper.StoreFault.TheVariants.{Memory, Store as failed}
+use Rattle.pt_desk_store.proofs.ReadLemmas.{fault_of, reads_map}
+use Rattle.pt_desk_store.proofs.StoreLemmas.{found_still, reads_then}
 
 -- a read after another
 pub reads_after : {X Y : Type 0} (a b c : Store) (x v : X) (w : Y) (r : Result Y StoreFault) → Goes a b v None (Ok x) → Goes b c w None r → Goes a c w None r
@@ -99,6 +99,26 @@ pub some_trip : (a b : Store) (id : ℕ) (r : Result (Option Trip) StoreFault) �
 some_trip a b id (Ok None) read = record { goes = (trip_of id a.content, read); is = λ _. tt }
 some_trip a b id (Ok (Some trip)) read = record { goes = (trip_of id a.content, read); is = λ clean. (id, sym (read.holds clean).tells.0) }
 some_trip a b id (Err fault) read = record { goes = (trip_of id a.content, read); is = λ _. tt }
+
+-- what is read has a property that it has in every content
+pub some_of : {X : Type 0} (a b : Store) (f : State → X) (Is : State → X → Type 0) (r : Result X StoreFault) → ((s : State) → Is s (f s)) → Reads a b f r → ReadsSome a b Is r
+some_of a b f Is (Ok x) each goes = record {
+  goes = (f a.content, goes);
+  is = λ clean. subst (Is a.content) (sym (goes.holds clean).tells.0) (each a.content);
+}
+some_of a b f Is (Err fault) each goes = record { goes = (f a.content, goes); is = λ _. tt }
+
+-- a read of something with a property that depends on what was read before it
+pub some_onto : {X Y : Type 0} (a b c : Store) (f : State → X) (Of : State → Y → Type 0) (Is : State → Y → Type 0) (x : X) (r : Result Y StoreFault) → Reads a b f (Ok x)
+    → ReadsSome b c Of r → ((s : State) → x ≡ f s → (y : Y) → Of s y → Is s y) → ReadsSome a c Is r
+some_onto a b c f Of Is x (Ok y) first next gives = record {
+  goes = (next.goes.0, reads_after a b c x (f a.content) next.goes.0 (Ok y) first next.goes.1);
+  is = λ clean.
+      let (was, same) = still a b c x (f a.content) next.goes.0 (Ok y) first next.goes.1 clean in
+      gives a.content (first.holds was).tells.0 y (subst (λ (s : State). Of s y) same (next.is clean));
+}
+some_onto a b c f Of Is x (Err fault) first next gives =
+    record { goes = (next.goes.0, reads_after a b c x (f a.content) next.goes.0 (Err fault) first next.goes.1); is = λ _. tt }
 
 -- all facts are enough
 pub enough_all : (a b : Store) (read : Read) (r : Result ReadFacts StoreFault) → Reads a b (read_facts_of read) r → ReadsSome a b (IsEnough read) r

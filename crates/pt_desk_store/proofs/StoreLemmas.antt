@@ -1,9 +1,9 @@
 -- Calls of a store, one after another.
 use Rattle.std.proofs.Common.{◌≡◌, ◌<◌, ◌≤◌, ◌⊎◌, inl, inr, ℕ, Option, Some, None, Result, Ok, Err, ap, arith, refl, subst, sym, ◌∙◌}
 use Rattle.pt_desk_rules.specs.State.{State}
-use Rattle.pt_store.specs.Store.{Store, FindsContent, Goes, Holds, IsLeft, Tells}
-use Rattle.pt_store.specs.declared.keeper.StoreFault.{StoreFault}
-use Rattle.pt_store.specs.declared.keeper.StoreFault.TheVariants.{Store as failed}
+use Rattle.pt_desk_store.specs.Store.{Store, FindsContent, Goes, Holds, IsLeft, Tells}
+use Rattle.pt_desk_store.specs.declared.keeper.StoreFault.{StoreFault}
+use Rattle.pt_desk_store.specs.declared.keeper.StoreFault.TheVariants.{Store as failed}
 
 tells_on : {Y : Type 0} (a b c : State) (w : Y) (left : Option State) (r : Result Y StoreFault) → b ≡ a → Tells b c w left r → Tells a c w left r
 tells_on a b c w left r same tells = subst (λ s. Tells s c w left r) same tells

@@ -5,38 +5,33 @@ use Rattle.std.specs.Prelude.{◌==◌, filter}
 use Rattle.std.specs.Option.{option_to_list}
 use Rattle.std.proofs.lemmas.Bool.Decides.{nat_tests}
 use Rattle.pt_feasible.specs.declared.stop.Stop.{Stop}
-use Rattle.pt_base.specs.declared.moment.Moment.{Moment}
-use Rattle.pt_base.specs.declared.rule.Rule.{Rule}
-use Rattle.pt_base.specs.declared.trip.Trip.{Trip}
-use Rattle.pt_base.specs.declared.trip.Wish.{Wish}
-use Rattle.pt_base.specs.declared.vehicle.Vehicle.{Vehicle}
+use Rattle.pt_base_values.specs.declared.trip.Trip.{Trip}
+use Rattle.pt_base_values.specs.declared.trip.Wish.{Wish}
+use Rattle.pt_base_values.specs.declared.vehicle.Vehicle.{Vehicle}
 use Rattle.pt_desk_rules.specs.Booking.{IsBooking, IsRequestBy}
-use Rattle.pt_desk_rules.specs.Deciding.{IsDecidedBy, IsRuling, IsRulingAfter}
-use Rattle.pt_desk_rules.specs.Facts.{change_facts, wish_facts, FactsOf}
+use Rattle.pt_desk_rules.specs.Facts.{wish_facts}
 use Rattle.pt_desk_rules.specs.Fleet.{on_duty}
 use Rattle.pt_desk_rules.specs.Planned.{planned_on, trips_on}
-use Rattle.pt_desk_rules.specs.State.{State, plan_of, trip_of}
+use Rattle.pt_desk_rules.specs.State.{State, plan_of}
 use Rattle.pt_desk_rules.specs.declared.change.Change.{Change}
 use Rattle.pt_desk_rules.specs.declared.deciding.Decision.{Decision}
-use Rattle.pt_records.specs.Keys.{pair_key}
-use Rattle.pt_records.specs.Records.{put, put_all, record_at, Each, Edit}
-use Rattle.pt_records.proofs.OrderLemmas.{record_at-put_other, record_at-put_same}
-use Rattle.pt_records.proofs.SplitLemmas.{Each-at}
-use Rattle.pt_records.proofs.TableLemmas.{same_or_other}
-use Rattle.pt_requests.specs.declared.caller.Caller.{Caller}
-use Rattle.pt_requests.specs.declared.request.Write.{Write}
-use Rattle.pt_requests.specs.declared.request.Write.TheVariants as write
-use Rattle.pt_scheduling.specs.Plan.{Plan, plan_key, stops_among, stops_of_plan, without}
-use Rattle.pt_scheduling.specs.Routes.{stops_without}
-use Rattle.pt_scheduling.proofs.PlanLemmas.{found_key}
-use Rattle.pt_store.specs.Store.{Store, Goes, Reads, ReadsSome}
-use Rattle.pt_store.specs.Wished.{booked_facts, plan_on, plans_found, plans_of, rebooked_facts, vehicles_for}
-use Rattle.pt_store.specs.Wished.{works_in_window, IsEnoughFor}
-use Rattle.pt_store.specs.declared.keeper.StoreFault.{StoreFault}
-use Rattle.pt_store.proofs.HoursLemmas.{scheduled_to, IsAlike}
-use Rattle.pt_store.proofs.ManifestLemmas.{none_kept, some_kept}
-use Rattle.pt_store.proofs.ReadLemmas.{reads_map}
-use Rattle.pt_store.proofs.StoreLemmas.{reads_then}
+use Rattle.pt_base_records.specs.Keys.{pair_key}
+use Rattle.pt_base_records.specs.Records.{put, put_all, record_at, Each, Edit}
+use Rattle.pt_base_records.proofs.OrderLemmas.{record_at-put_other, record_at-put_same}
+use Rattle.pt_base_records.proofs.SplitLemmas.{Each-at}
+use Rattle.pt_base_records.proofs.TableLemmas.{same_or_other}
+use Rattle.pt_desk_scheduling.specs.Plan.{Plan, plan_key, planned_stops, stops_among, stops_of_plan, without}
+use Rattle.pt_desk_scheduling.specs.declared.planned.PlannedStop.{PlannedStop}
+use Rattle.pt_desk_scheduling.specs.Routes.{stops_without}
+use Rattle.pt_desk_scheduling.proofs.PlanLemmas.{found_key}
+use Rattle.pt_desk_store.specs.Store.{Store, Goes, Reads}
+use Rattle.pt_desk_store.specs.Wished.{asked_facts, booked_facts, plan_on, plans_found, plans_if, plans_of, vehicles_for}
+use Rattle.pt_desk_store.specs.Wished.{works_in_window}
+use Rattle.pt_desk_store.specs.declared.keeper.StoreFault.{StoreFault}
+use Rattle.pt_desk_store.proofs.HoursLemmas.{scheduled_to, IsAlike}
+use Rattle.pt_desk_store.proofs.ManifestLemmas.{none_kept, some_kept}
+use Rattle.pt_desk_store.proofs.ReadLemmas.{reads_map}
+use Rattle.pt_desk_store.proofs.StoreLemmas.{reads_then}
 
 -- a key of two numbers of 32 bits determines the second
 same_day : (v d w e : ℕ) → d ≤ 47_481 → e ≤ 47_481 → pair_key v d ≡ pair_key w e → d ≡ e
@@ -140,13 +135,36 @@ all_alike number wish s = λ k d within.
       ]
     ] refl
 
-booking_to : (change : Trip → Plan → Change) (number : ℕ) (left_out : Option ℕ) (today rider : ℕ) (wish : Wish) (old : Option Trip) (s : State) (made : Decision)
-    → IsBooking change number left_out today wish (booked_facts rider wish old s) made → IsBooking change number left_out today wish (wish_facts rider wish old s) made
+-- without trips no stop counts
+none_among : (stops : List PlannedStop) → stops_among [] stops ≡ []
+none_among [] = refl
+none_among (stop ∷ stops) = none_among stops
+
+-- so the stops are the same without the plans of a day that has no trips
+same_stops : (number day : ℕ) (trips : List Trip) (plans : List Plan) (vehicle : ℕ)
+    → stops_without number day trips (plans_if trips plans) vehicle ≡ stops_without number day trips plans vehicle
+same_stops number day [] plans vehicle = sym (none_among (without number (planned_stops vehicle day plans)))
+same_stops number day (trip ∷ trips) plans vehicle = refl
+
+-- alike by the plans of such a day too
+all_alike_if : (number : ℕ) (wish : Wish) (s : State)
+    → All (IsAlike wish (λ v. stops_without number wish.day (trips_on wish.day s.trips) (plans_if (trips_on wish.day s.trips) (plans_of wish.day (vehicles_for wish s.vehicles) s.planned)) v.id)
+    (λ v. stops_without number wish.day (trips_on wish.day s.trips) (planned_on wish.day s.planned) v.id)) (on_duty wish.day s.vehicles)
+all_alike_if number wish s = λ k d within.
+    let v = slice_index_or (on_duty wish.day s.vehicles) k d in
+    let same = same_stops number wish.day (trips_on wish.day s.trips) (plans_of wish.day (vehicles_for wish s.vehicles) s.planned) v.id in
+    elim (all_alike number wish s k d within) [
+      | inl alike ↦ inl (same ∙ alike)
+      | inr off ↦ inr (same ∙ off.0, off.1)
+    ]
+
+pub booking_to : (change : Trip → Plan → Change) (number : ℕ) (left_out : Option ℕ) (today rider : ℕ) (wish : Wish) (old : Option Trip) (s : State) (made : Decision)
+    → IsBooking change number left_out today wish (booked_facts (asked_facts rider old s) wish s) made → IsBooking change number left_out today wish (wish_facts rider wish old s) made
 booking_to change number left_out today rider wish old s made (scheduled, (request, asks, (minutes, times, is)), told) =
     let day = wish.day in
-    let some = λ (v : Vehicle). stops_without number day (trips_on day s.trips) (plans_of day (vehicles_for wish s.vehicles) s.planned) v.id in
+    let some = λ (v : Vehicle). stops_without number day (trips_on day s.trips) (plans_if (trips_on day s.trips) (plans_of day (vehicles_for wish s.vehicles) s.planned)) v.id in
     let whole = λ (v : Vehicle). stops_without number day (trips_on day s.trips) (planned_on day s.planned) v.id in
-    let alike = subst (λ (w : Wish). All (IsAlike w some whole) (on_duty day s.vehicles)) (sym asks.wished) (all_alike number wish s) in
+    let alike = subst (λ (w : Wish). All (IsAlike w some whole) (on_duty day s.vehicles)) (sym asks.wished) (all_alike_if number wish s) in
     let same : IsRequestBy (wish_facts rider wish old s) number left_out today wish request = record {
       trip = asks.trip;
       rider = asks.rider;
@@ -160,38 +178,6 @@ booking_to change number left_out today rider wish old s made (scheduled, (reque
       wished = asks.wished;
     } in
     (scheduled, (request, same, (minutes, times, scheduled_to minutes request some whole (on_duty day s.vehicles) alike scheduled is)), told)
-
-after_to : (first : Option Rule) (asked : Write) (me : Caller) (now : Moment) (facts whole : FactsOf asked) (made : Decision)
-    → (IsDecidedBy asked me.id now.day facts made → IsDecidedBy asked me.id now.day whole made)
-    → IsRulingAfter first asked me.id now.day facts made → IsRulingAfter first asked me.id now.day whole made
-after_to (Some rule) asked me now facts whole made gives is = is
-after_to None asked me now facts whole made gives is = gives is
-
--- the facts about its own vehicles are enough for a booking
-pub enough_booked : (rider : ℕ) (wish : Wish) (s : State) → IsEnoughFor (write.Book rider wish) s (booked_facts rider wish None s)
-enough_booked rider wish s = λ me now made is.
-    after_to _ (write.Book rider wish) me now (booked_facts rider wish None s) (wish_facts rider wish None s) made
-    (λ by. booking_to _ _ None now.day rider wish None s made by) is
-
-enough_changed : (old : Option Trip) (trip : ℕ) (wish : Wish) (s : State) (me : Caller) (now : Moment) (made : Decision)
-    → IsRuling (write.Change trip wish) me now (rebooked_facts old wish s) made → IsRuling (write.Change trip wish) me now (change_facts old wish s) made
-enough_changed None trip wish s me now made is = is
-enough_changed (Some there) trip wish s me now made is =
-    after_to _ (write.Change trip wish) me now (rebooked_facts (Some there) wish s) (change_facts (Some there) wish s) made
-    (λ by. booking_to _ _ (Some there.id) now.day there.rider wish (Some there) s made by) is
-
--- and for the change of a trip
-pub enough_rebooked : (trip : ℕ) (wish : Wish) (s : State) → IsEnoughFor (write.Change trip wish) s (rebooked_facts (trip_of trip s) wish s)
-enough_rebooked trip wish s = λ me now made is. enough_changed (trip_of trip s) trip wish s me now made is
-
--- a read of facts that are enough
-pub enough_read : (a b : Store) (asked : Write) (facts_in : State → FactsOf asked) (r : Result (FactsOf asked) StoreFault) → ((s : State) → IsEnoughFor asked s (facts_in s))
-    → Reads a b facts_in r → ReadsSome a b (IsEnoughFor asked) r
-enough_read a b asked facts_in (Ok facts) enough goes = record {
-  goes = (facts_in a.content, goes);
-  is = λ clean. subst (IsEnoughFor asked a.content) (sym (goes.holds clean).tells.0) (enough a.content);
-}
-enough_read a b asked facts_in (Err fault) enough goes = record { goes = (facts_in a.content, goes); is = λ _. tt }
 
 -- a read that depends on one before it
 pub reads_onto : {X Y : Type 0} (a b c : Store) (f : State → X) (g : X → State → Y) (x : X) (r : Result Y StoreFault) → Reads a b f (Ok x) → Reads b c (g x) r

@@ -1,19 +1,19 @@
 -- Facts that are enough for a read. For the manifest of a vehicle: its plan, and the trips at the stops of the plan.
 use Rattle.std.specs.Prelude.{◌≡◌, ℕ, ◌==◌, ◌&&◌, Bool, true, false, List, ◌∷◌, [], Option, Some, None}
-use Rattle.pt_base.specs.declared.moment.Moment.{Moment}
-use Rattle.pt_base.specs.declared.trip.Trip.{Trip}
+use Rattle.pt_base_values.specs.Moment.{Moment}
+use Rattle.pt_base_values.specs.declared.trip.Trip.{Trip}
 use Rattle.pt_desk_rules.specs.Deciding.{IsTold}
 use Rattle.pt_desk_rules.specs.Facts.{no_read_facts, read_facts_of}
 use Rattle.pt_desk_rules.specs.State.{State, plan_of, trip_key, trip_of}
 use Rattle.pt_desk_rules.specs.Travel.{table_on}
 use Rattle.pt_desk_rules.specs.declared.facts.ReadFacts.{ReadFacts}
-use Rattle.pt_records.specs.Records.{Each, record_at}
-use Rattle.pt_requests.specs.declared.caller.Caller.{Caller}
-use Rattle.pt_requests.specs.declared.request.Answer.{Answer}
-use Rattle.pt_requests.specs.declared.request.Read.{Read}
-use Rattle.pt_requests.specs.declared.request.Read.TheVariants.{Manifest}
-use Rattle.pt_scheduling.specs.Plan.{Plan}
-use Rattle.pt_scheduling.specs.declared.planned.PlannedStop.{PlannedStop}
+use Rattle.pt_base_records.specs.Records.{Each, record_at}
+use Rattle.pt_desk_requests.specs.declared.caller.Caller.{Caller}
+use Rattle.pt_desk_requests.specs.declared.request.Answer.{Answer}
+use Rattle.pt_desk_requests.specs.declared.request.Read.{Read}
+use Rattle.pt_desk_requests.specs.declared.request.Read.TheVariants.{Manifest}
+use Rattle.pt_desk_scheduling.specs.Plan.{Plan}
+use Rattle.pt_desk_scheduling.specs.declared.planned.PlannedStop.{PlannedStop}
 
 -- facts that are enough for a read: every answer by them is an answer by all facts of the state
 abbrev pub IsEnough : Read → State → ReadFacts → Type 0

@@ -1,9 +1,9 @@
 -- The desk's first state.
 use Rattle.std.specs.Prelude.{◌≡◌, ℕ, List, [], ◌∷◌}
 use Rattle.pt_desk_rules.specs.Sha256.{sha256}
-use Rattle.pt_base.specs.declared.policy.Policy.{Policy}
+use Rattle.pt_base_values.specs.declared.policy.Policy.{Policy}
 use Rattle.pt_desk_rules.specs.State.{State, new_state}
-use Rattle.pt_requests.specs.declared.caller.Role.TheVariants.{Admin}
+use Rattle.pt_desk_requests.specs.declared.caller.Role.TheVariants.{Admin}
 
 -- the policy of an agency that has decided nothing yet
 pub record IsLeastPolicy (policy : Policy) : Type 0 where

@@ -2,15 +2,15 @@
 ghost use Rattle.std.specs.Prelude.{◌≡◌, ◌<◌, ◌++◌, ◌∷◌, [], IfOk, OnOk, bytes_eq, find, length};
 ghost use Rattle.pt_desk_rules.specs.Planned.{is_booked_from, is_standing_from, planned_on, trips_of, trips_on};
 ghost use Rattle.pt_desk_rules.specs.State.{file_with, most_entries, tables_before, trip_key};
-ghost use Rattle.pt_records.specs.Records.{IsInOrder};
-ghost use Rattle.pt_scheduling.specs.Plan.{plan_key};
+ghost use Rattle.pt_base_records.specs.Records.{IsInOrder};
+ghost use Rattle.pt_desk_scheduling.specs.Plan.{plan_key};
 
-use pt_base::{Day, RiderId, Trip, VehicleId};
+use pt_base_records::Rows;
+use pt_base_values::{Day, RiderId, Trip, VehicleId};
+use pt_desk_requests::{Caller, Digest};
 use pt_desk_rules::{FiledEntry, TravelTable};
-use pt_records::Rows;
-use pt_requests::{Caller, Digest};
-use pt_rights::{CaseFile, Entered};
-use pt_scheduling::Plan;
+use pt_desk_scheduling::Plan;
+use pt_rights_files::{CaseFile, Entered};
 use std::alloc::{AllocError, Global};
 
 /// The first caller whose key has this digest.

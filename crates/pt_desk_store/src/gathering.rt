@@ -1,28 +1,31 @@
-ghost use Rattle.std.specs.Prelude.{[]};
+ghost use Rattle.std.specs.Prelude.{[], None};
 ghost use Rattle.pt_desk_rules.specs.Facts.{facts_of, read_facts_of, has_subject};
-ghost use Rattle.pt_desk_rules.specs.Facts.{agency_facts, plan_for, day_of, wish_facts};
+ghost use Rattle.pt_desk_rules.specs.Facts.{agency_facts, booking_facts, day_of, no_day, plan_for, wish_facts};
 ghost use Rattle.pt_desk_rules.specs.Facts.{rider_for, tallies_for, tour_facts, trips_counted_for};
-ghost use Rattle.pt_requests.specs.declared.request.Read.TheVariants.{Export, Letter, Manifest, Standing, Trips};
+ghost use Rattle.pt_desk_requests.specs.declared.request.Read.TheVariants.{Export, Letter, Manifest, Standing, Trips};
 ghost use Rattle.pt_desk_rules.specs.State.{rider_of, file_of, trip_of};
-ghost use Rattle.pt_requests.specs.declared.request.Write.TheVariants.{Book, Cancel, Change, Enter, PutCaller, PutPlace};
-ghost use Rattle.pt_requests.specs.declared.request.Write.TheVariants.{PutRider, PutRoute, PutVehicle, Travel};
-ghost use Rattle.pt_store.specs.Enough.{IsEnough};
-ghost use Rattle.pt_store.specs.Store.{Store, Reads, ReadsSome};
-ghost use Rattle.pt_store.specs.Wished.{booked_facts, booking_by, day_with, rebooked_facts, wish_by, IsEnoughFor};
+ghost use Rattle.pt_desk_requests.specs.declared.request.Write.TheVariants.{Book, Cancel, Change, Enter, PutCaller, PutPlace};
+ghost use Rattle.pt_desk_requests.specs.declared.request.Write.TheVariants.{PutRider, PutRoute, PutVehicle, Travel};
+ghost use Rattle.pt_desk_store.specs.Enough.{IsEnough};
+ghost use Rattle.pt_desk_store.specs.Store.{Store, Reads, ReadsSome};
+ghost use Rattle.pt_desk_store.specs.Wished.{asked_facts, facts_of_old, IsEnoughFor};
 
 use crate::manifests::gather_manifest;
-use crate::wished::{gather_plans, vehicles_for};
+use crate::wished::{gather_wished, with_day};
 use crate::{Keeper, StoreFault};
-use pt_base::{Day, Place, Residence, Rider, RiderId, Trip, TripId, Vehicle, VehicleId, Wish};
+use pt_base_records::Rows;
+use pt_base_values::{
+    Day, Moment, Place, Residence, Rider, RiderId, Trip, TripId, Vehicle, VehicleId, Wish,
+};
 use pt_corridor::FixedRoute;
+use pt_desk_requests::{Caller, Read, Role};
 use pt_desk_rules::{
     BookingFacts, CallerFacts, CancelFacts, DayFacts, EntryFacts, PlaceFacts, ReadFacts,
-    RiderFacts, RouteFacts, Tallies, TravelFacts, VehicleFacts, WishFacts,
+    RiderFacts, RouteFacts, Tallies, TravelFacts, VehicleFacts, WishFacts, asked_booking,
+    asked_change,
 };
-use pt_records::Rows;
-use pt_requests::{Caller, Read, Role};
-use pt_rights::{CaseFile, Entry};
-use pt_scheduling::Plan;
+use pt_desk_scheduling::Plan;
+use pt_rights_files::{CaseFile, Entry};
 use std::alloc::Global;
 
 /// Whether the rider or the vehicle that a role names exists.
@@ -215,15 +218,15 @@ fn gather_plan<K: Keeper>(
     }
 }
 
-/// The facts for this rider's wish, with these about its day. `old` is the trip that it changes, if any.
+/// The facts for this rider's wish except those about its day. `old` is the trip that it changes, if any.
 fn gather_booking<K: Keeper>(
     alloc: Global,
     keeper: &mut K,
     found: &Option<Rider>,
-    day: DayFacts,
     old: &Option<Trip>,
 ) -> Result<BookingFacts, StoreFault>
-    ensures reads { Reads (K.store keeper.old) (K.store keeper.new) (booking_by day found.now old.now) result }
+    ensures reads { Reads (K.store keeper.old) (K.store keeper.new)
+        (λ s. record (booking_facts found.now 0 old.now s) { day = no_day }) result }
 {
     let last_trip = keeper.last_trip()?;
     let trips = gather_counted(alloc, keeper, found)?;
@@ -235,23 +238,22 @@ fn gather_booking<K: Keeper>(
         routes,
         last_trip,
         trips,
-        day,
+        day: DayFacts::none(alloc),
     })
 }
 
-/// The facts for a rider's wish, with these about the agency and the day.
+/// The facts about a rider's wish except those about its day. `old` is the trip that it changes, if any.
 fn gather_asked<K: Keeper>(
     alloc: Global,
     keeper: &mut K,
-    agency: WishFacts,
-    day: DayFacts,
     rider: RiderId,
     old: &Option<Trip>,
 ) -> Result<WishFacts, StoreFault>
-    ensures reads { Reads (K.store keeper.old) (K.store keeper.new) (wish_by agency day rider old.now) result }
+    ensures reads { Reads (K.store keeper.old) (K.store keeper.new) (asked_facts rider old.now) result }
 {
+    let agency = gather_agency(alloc, keeper)?;
     let (rider, file) = rider_with_file(alloc, keeper, rider)?;
-    let booking = gather_booking(alloc, keeper, &rider, day, old)?;
+    let booking = gather_booking(alloc, keeper, &rider, old)?;
     Ok(WishFacts {
         rider,
         file,
@@ -271,85 +273,72 @@ pub fn gather_wish<K: Keeper>(
 ) -> Result<WishFacts, StoreFault>
     ensures reads { Reads (K.store keeper.old) (K.store keeper.new) (wish_facts rider wish.now old.now) result }
 {
-    let agency = gather_agency(alloc, keeper)?;
+    let asked = gather_asked(alloc, keeper, rider, old)?;
     let day = gather_day(alloc, keeper, wish.day)?;
-    gather_asked(alloc, keeper, agency, day, rider, old)
+    Ok(with_day(asked, day))
 }
 
-/// The facts about a day, with the plans of these vehicles alone.
-fn gather_day_with<K: Keeper>(
-    alloc: Global,
-    keeper: &mut K,
-    vehicles: &[Vehicle],
-    day: Day,
-) -> Result<DayFacts, StoreFault>
-    ensures reads { Reads (K.store keeper.old) (K.store keeper.new) (day_with day vehicles.now) result }
-{
-    let travel = keeper.travel_on(alloc, day)?;
-    let trips = keeper.trips_on(alloc, day)?;
-    let plans = gather_plans(alloc, keeper, vehicles, day)?;
-    Ok(DayFacts {
-        travel,
-        trips,
-        plans,
-    })
-}
-
-/// The facts by which a rider's wish is decided. `old` is the trip that it changes, if any.
-fn gather_booked<K: Keeper>(
-    alloc: Global,
-    keeper: &mut K,
-    rider: RiderId,
-    wish: &Wish,
-    old: &Option<Trip>,
-) -> Result<WishFacts, StoreFault>
-    ensures reads { Reads (K.store keeper.old) (K.store keeper.new) (booked_facts rider wish.now old.now) result }
-{
-    let agency = gather_agency(alloc, keeper)?;
-    let vehicles = vehicles_for(alloc, agency.vehicles.as_slice(), wish)?;
-    let day = gather_day_with(alloc, keeper, &vehicles, wish.day)?;
-    gather_asked(alloc, keeper, agency, day, rider, old)
-}
-
-/// The facts that the rules of a booking need. The error is the store's or out of memory.
+/// The facts that the rules of a booking need by this caller at the moment `now`. The error is the store's or out of
+/// memory.
 pub fn gather_new_trip<K: Keeper>(
     alloc: Global,
     keeper: &mut K,
+    me: &Caller,
+    now: Moment,
     rider: RiderId,
     wish: &Wish,
 ) -> Result<WishFacts, StoreFault>
-    ensures reads { ReadsSome (K.store keeper.old) (K.store keeper.new) (IsEnoughFor (Book rider wish.now)) result }
+    ensures reads { ReadsSome (K.store keeper.old) (K.store keeper.new)
+        (IsEnoughFor (Book rider wish.now) me.now now) result }
 {
-    gather_booked(alloc, keeper, rider, wish, &None)
+    let facts = gather_asked(alloc, keeper, rider, &None)?;
+    match asked_booking(&facts, me, rider, wish) {
+        Ok((asking, number)) => gather_wished(
+            alloc, keeper, facts, &asking, number, &None, now.0, wish,
+        ),
+        Err(_) => Ok(facts),
+    }
 }
 
-/// The facts by which the change of a trip is decided.
-fn gather_rebooked<K: Keeper>(
+/// The facts about a wish that changes this trip, if the trip exists, except those about the wished day.
+fn gather_old<K: Keeper>(
     alloc: Global,
     keeper: &mut K,
     trip: TripId,
-    wish: &Wish,
 ) -> Result<WishFacts, StoreFault>
-    ensures reads { Reads (K.store keeper.old) (K.store keeper.new)
-        (λ s. rebooked_facts (trip_of trip s) wish.now s) result }
+    ensures reads { Reads (K.store keeper.old) (K.store keeper.new) (λ s. facts_of_old (trip_of trip s) s) result }
 {
     let old = keeper.trip(trip)?;
     match &old {
-        Some(there) => gather_booked(alloc, keeper, there.rider, wish, &old),
+        Some(there) => gather_asked(alloc, keeper, there.rider, &old),
         None => gather_agency(alloc, keeper),
     }
 }
 
-/// The facts that the rules of a change need. The error is the store's or out of memory.
+/// The facts that the rules of a change need by this caller at the moment `now`. The error is the store's or out of
+/// memory.
 pub fn gather_change<K: Keeper>(
     alloc: Global,
     keeper: &mut K,
+    me: &Caller,
+    now: Moment,
     trip: TripId,
     wish: &Wish,
 ) -> Result<WishFacts, StoreFault>
-    ensures reads { ReadsSome (K.store keeper.old) (K.store keeper.new) (IsEnoughFor (Change trip wish.now)) result }
+    ensures reads { ReadsSome (K.store keeper.old) (K.store keeper.new)
+        (IsEnoughFor (Change trip wish.now) me.now now) result }
 {
-    gather_rebooked(alloc, keeper, trip, wish)
+    let facts = gather_old(alloc, keeper, trip)?;
+    let today = now.0;
+    match asked_change(&facts, me, now, wish) {
+        Ok((asking, old)) => {
+            let left_out = Some(old.id);
+            gather_wished(
+                alloc, keeper, facts, &asking, old.id, &left_out, today, wish,
+            )
+        }
+        Err(_) => Ok(facts),
+    }
 }
 
 /// The trip's rider, if there is a trip.

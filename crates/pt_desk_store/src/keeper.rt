@@ -5,19 +5,19 @@ ghost use Rattle.pt_desk_rules.specs.Arrival.{arrival_of};
 ghost use Rattle.pt_desk_rules.specs.Fleet.{has_version};
 ghost use Rattle.pt_desk_rules.specs.Planned.{is_booked_from, planned_on, trips_of, trips_on};
 ghost use Rattle.pt_desk_rules.specs.Travel.{table_on};
-ghost use Rattle.pt_store.specs.Store.{Store, Reads, Refuses, Commits, Fits, IsByRules};
+ghost use Rattle.pt_desk_store.specs.Store.{Store, Reads, Refuses, Commits, Fits, IsByRules};
 
-use pt_base::{
+use pt_base_records::Rows;
+use pt_base_values::{
     CallerId, Day, Place, PlaceId, Policy, Rider, RiderId, RouteId, Trip, TripId, Vehicle,
     VehicleId,
 };
 use pt_corridor::FixedRoute;
+use pt_desk_requests::{Answer, Caller, Digest};
 use pt_desk_rules::{Arrival, Change, TravelTable};
-use pt_records::Rows;
-use pt_requests::{Answer, Caller, Digest};
-use pt_rights::CaseFile;
-use pt_scheduling::Plan;
-use pt_spelling::Spelling;
+use pt_desk_scheduling::Plan;
+use pt_desk_spelling::Spelling;
+use pt_rights_files::CaseFile;
 use std::alloc::{AllocError, Global};
 
 /// Why a store did not serve.
@@ -33,7 +33,7 @@ pub enum StoreFault {
 pub type Reply = Result<Answer, StoreFault>;
 
 impl From<AllocError> for StoreFault {
-    ghost use Rattle.pt_store.specs.declared.keeper.StoreFault.TheVariants.{Memory};
+    ghost use Rattle.pt_desk_store.specs.declared.keeper.StoreFault.TheVariants.{Memory};
 
     ghost from_gives = { λ _ fault. fault ≡ Memory };
 

@@ -1,21 +1,23 @@
-ghost use Rattle.std.specs.Prelude.{◌≡◌, IfOk, OnOk};
+ghost use Rattle.std.specs.Prelude.{◌≡◌, IfOk, OnOk, IfErr};
+ghost use Rattle.pt_base_values.specs.Fault.{fault};
+ghost use Rattle.pt_base_values.specs.declared.fault.Cause.TheVariants as cause;
 ghost use Rattle.pt_desk_rules.specs.State.{span_of};
 
 use crate::answers::{
     file_with, find_caller, is_booked_from, planned_on, table_count_before, trips_of, trips_on,
 };
 use crate::{Keeper, StoreFault};
-use pt_base::{
-    CallerId, Day, Place, PlaceId, Policy, Rider, RiderId, RouteId, Trip, TripId, Vehicle,
+use pt_base_records::{Edits, Key, Rows, Span, Table};
+use pt_base_values::{
+    CallerId, Day, Fault, Place, PlaceId, Policy, Rider, RiderId, RouteId, Trip, TripId, Vehicle,
     VehicleId,
 };
 use pt_corridor::FixedRoute;
+use pt_desk_requests::{Caller, Digest, Role};
 use pt_desk_rules::{Arrival, Change, FiledEntry, Kept, TravelTable, has_version, table_on};
-use pt_records::{Edits, Key, Rows, Span, Table};
-use pt_requests::{Caller, Digest, Role};
-use pt_rights::CaseFile;
-use pt_scheduling::Plan;
-use pt_spelling::Spelling;
+use pt_desk_scheduling::Plan;
+use pt_desk_spelling::Spelling;
+use pt_rights_files::CaseFile;
 use std::alloc::{AllocError, Global};
 use std::marker::Model;
 
@@ -54,7 +56,7 @@ pub struct ListKeeper {
 
 impl Model for ListKeeper {
     ghost use Rattle.std.specs.Option.{unwrap_or};
-    ghost use Rattle.pt_store.specs.Listed.{Listed};
+    ghost use Rattle.pt_desk_store.specs.Listed.{Listed};
 
     ghost Value = { Listed };
 
@@ -89,17 +91,18 @@ impl Model for ListKeeper {
 }
 
 impl ListKeeper {
-    ghost use Rattle.pt_store.specs.LeastState.{IsLeastState};
-    ghost use Rattle.pt_store.specs.Listed.{HasRoom, HasKnownRoom, known_of, with_known};
-    ghost use Rattle.pt_store.specs.Store.{IsSettled};
+    ghost use Rattle.pt_desk_store.specs.LeastState.{IsLeastState};
+    ghost use Rattle.pt_desk_store.specs.Listed.{HasRoom, HasKnownRoom, known_of, with_known};
+    ghost use Rattle.pt_desk_store.specs.Store.{IsSettled};
     ghost use Rattle.pt_desk_rules.specs.Sound.{IsSound};
     ghost use Rattle.pt_desk_rules.specs.State.{applied};
 
-    /// The least state, whose one caller is the admin with this key.
-    pub fn new(alloc: Global, admin_key: &[u8]) -> Result<Self, AllocError>
+    /// The least state, whose one caller is the admin with this key. The fault is out of memory.
+    pub fn new(alloc: Global, admin_key: &[u8]) -> Result<Self, Fault>
         ensures least { IfOk result (λ keeper. IsLeastState admin_key.now keeper.content) }
         ensures sound { IfOk result (λ keeper. IsSound keeper.content) }
         ensures settled { IfOk result (λ keeper. IsSettled (⟦<ListKeeper as Keeper>⟧.store keeper)) }
+        ensures memory { IfErr result (λ refused. refused ≡ fault cause.Memory) }
     {
         let admin = Caller {
             id: CallerId::of(1).unwrap(),

@@ -2,16 +2,16 @@
 ghost use Rattle.std.specs.Prelude.{◌≡◌, ◌==◌, IfOk, IfSome, [], ◌∷◌};
 ghost use Rattle.std.specs.List.{list_any};
 ghost use Rattle.pt_desk_rules.specs.State.{trip_key};
-ghost use Rattle.pt_records.specs.Records.{edited};
-ghost use Rattle.pt_requests.specs.declared.request.Read.TheVariants.{Manifest};
-ghost use Rattle.pt_store.specs.Enough.{are_met, is_met, tour_by, AreTripsIn, IsEnough, IsEnoughBy, IsTripIn};
-ghost use Rattle.pt_store.specs.Store.{Store, Reads, ReadsSome};
+ghost use Rattle.pt_base_records.specs.Records.{edited};
+ghost use Rattle.pt_desk_requests.specs.declared.request.Read.TheVariants.{Manifest};
+ghost use Rattle.pt_desk_store.specs.Enough.{are_met, is_met, tour_by, AreTripsIn, IsEnough, IsEnoughBy, IsTripIn};
+ghost use Rattle.pt_desk_store.specs.Store.{Store, Reads, ReadsSome};
 
 use crate::{Keeper, StoreFault};
-use pt_base::{Day, Trip, TripId, VehicleId};
+use pt_base_records::{Edits, Key, Keyed, Rows, Table};
+use pt_base_values::{Day, Trip, TripId, VehicleId};
 use pt_desk_rules::{DayFacts, ReadFacts};
-use pt_records::{Edits, Key, Keyed, Rows, Table};
-use pt_scheduling::{Plan, PlannedStop};
+use pt_desk_scheduling::{Plan, PlannedStop};
 use std::alloc::{AllocError, Global};
 
 /// Whether a trip of this number is among these.

@@ -2,7 +2,7 @@
 use Rattle.std.proofs.Common.{◌≡◌, ℕ, ◌+◌, zero, suc, List, [], ◌∷◌, ◌++◌, length, map, Some, slice_get, arith, refl}
 use Rattle.std.proofs.lemmas.Grind.{common_steps}
 use Rattle.std.proofs.lemmas.Option.{slice_get-map}
-use Rattle.pt_base.specs.declared.vehicle.Vehicle.{Vehicle}
+use Rattle.pt_base_values.specs.declared.vehicle.Vehicle.{Vehicle}
 use Rattle.pt_feasible.specs.declared.stop.Stop.{Stop}
 use Rattle.pt_feasible.specs.Visit.{visits, depot_visit, stop_visit}
 

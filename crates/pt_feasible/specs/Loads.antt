@@ -1,8 +1,8 @@
 -- The loads aboard never exceed the vehicle's room, in seats and in wheelchair places.
 use Rattle.std.specs.Prelude.{ℕ, ◌≤◌, List, [], ◌∷◌, length, take, filter}
-use Rattle.pt_base.specs.Load.{no_load, load_sum, load_difference, FitsWithin}
-use Rattle.pt_base.specs.declared.load.Load.{Load}
-use Rattle.pt_base.specs.declared.vehicle.Vehicle.{Vehicle}
+use Rattle.pt_base_values.specs.Load.{no_load, load_sum, load_difference, FitsWithin}
+use Rattle.pt_base_values.specs.declared.load.Load.{Load}
+use Rattle.pt_base_values.specs.declared.vehicle.Vehicle.{Vehicle}
 use Rattle.pt_feasible.specs.declared.stop.Stop.{Stop}
 use Rattle.pt_feasible.specs.Stop.{is_pickup, is_drop}
 

@@ -4,7 +4,7 @@ use Rattle.std.proofs.Common.{IsSomeAnd, arith, refl, ap, ◌∙◌}
 use Rattle.std.proofs.lemmas.Bool.{eqb-true, eq-eqb}
 use Rattle.std.proofs.lemmas.Option.{same_Some, none-some}
 use Rattle.std.specs.Prelude.{if◌then◌else◌, ◌==◌}
-use Rattle.pt_base.specs.Ranges.{last_minute}
+use Rattle.pt_base_values.specs.Ranges.{last_minute}
 
 -- how far apart two coordinates are
 abbrev pub apart : ℕ → ℕ → ℕ

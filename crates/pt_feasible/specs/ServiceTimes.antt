@@ -2,7 +2,7 @@
 -- minutes of the day. `b` lists one time for each visit: leaving the depot, each stop in turn, back at the depot.
 use Rattle.std.specs.Prelude.{◌≡◌, ℕ, ◌+◌, ◌-◌, ◌≤◌, IsTrue, List, length, Option, Some, IsSomeAnd, slice_get}
 use Rattle.std.specs.Prelude.{slice_index}
-use Rattle.pt_base.specs.declared.vehicle.Vehicle.{Vehicle}
+use Rattle.pt_base_values.specs.declared.vehicle.Vehicle.{Vehicle}
 use Rattle.pt_feasible.specs.declared.stop.Stop.{Stop}
 use Rattle.pt_feasible.specs.declared.visit.Visit.{Visit}
 use Rattle.pt_feasible.specs.Stop.{is_pickup, is_drop}

@@ -1,6 +1,6 @@
 -- The visits of a route one after the other.
 use Rattle.std.specs.Prelude.{◌≡◌, ℕ, ◌+◌, ◌<◌, ◌≤◌, List, length, Option, Some, slice_get, slice_index, slice_index_or}
-use Rattle.pt_base.specs.declared.vehicle.Vehicle.{Vehicle}
+use Rattle.pt_base_values.specs.declared.vehicle.Vehicle.{Vehicle}
 use Rattle.pt_feasible.specs.declared.limits.Limits.{Limits}
 use Rattle.pt_feasible.specs.declared.timeline.Timeline.{Timeline}
 use Rattle.pt_feasible.specs.declared.stop.Stop.{Stop}

@@ -7,7 +7,7 @@ use crate::limits::step_from;
 use crate::visit::visit_at;
 use crate::{Schedule, Stops};
 use arrayvec::ArrayVec;
-use pt_base::Vehicle;
+use pt_base_values::Vehicle;
 use pt_travel::Times;
 
 /// The result of a walk from the first visit of a route to the last.

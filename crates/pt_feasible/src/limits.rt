@@ -9,7 +9,7 @@ ghost use Rattle.pt_feasible.specs.Visit.{visits};
 
 use crate::visit::visit_at;
 use crate::{Stop, StopKind, Stops, Visit};
-use pt_base::Vehicle;
+use pt_base_values::Vehicle;
 use pt_travel::Times;
 
 /// The limits on the service time of a visit.

@@ -1,10 +1,10 @@
 ghost use Rattle.std.specs.Prelude.{◌≡◌, ◌+◌, ◌<◌, ◌≤◌, ◌↔◌, length, take, IsTrue, IfSome, IfNone};
-ghost use Rattle.pt_base.specs.Load.{IsLoad};
+ghost use Rattle.pt_base_values.specs.Load.{IsLoad};
 ghost use Rattle.pt_feasible.specs.Loads.{LoadsFit, load_aboard};
 ghost use Rattle.pt_feasible.specs.Pairing.{most_stops};
 
 use crate::{StopKind, Stops};
-use pt_base::{Load, Vehicle};
+use pt_base_values::{Load, Vehicle};
 
 /// Whether the load aboard after each stop fits within the vehicle. It takes no memory.
 pub fn loads_fit<S: Stops>(stops: &S, vehicle: &Vehicle) -> bool

@@ -22,7 +22,7 @@ impl<L: Ledger> Model for Passes<L> {
 
 impl<L: Ledger> Passes<L> {
     /// No pass yet, on an empty ledger.
-    pub fn none(blank: Blank) -> Self
+    pub fn new(blank: Blank) -> Self
         requires name { blank.name ≡ L.name }
         requires parts { blank.parts ≡ L.parts }
         requires some { 0 < L.parts }

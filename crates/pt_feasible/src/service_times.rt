@@ -5,7 +5,7 @@ ghost use Rattle.pt_feasible.specs.ServiceTimes.{TimesFit, IsNeverLater, IsLeast
 use crate::sweep::least_times;
 use crate::timeline::timeline_of;
 use crate::{Passes, Schedule, Stops};
-use pt_base::Vehicle;
+use pt_base_values::Vehicle;
 use pt_travel::Times;
 use std::marker::Brand;
 use std::sync::ledger::{Blank, Ledger};
@@ -18,7 +18,7 @@ pub fn settle<S: Stops, T: Times>(stops: &S, times: &T, vehicle: &Vehicle) -> Op
     ensures none { IfNone result
         ((b : List ℕ) → ¬ TimesFit (T.minutes times.now) vehicle.now (S.stops stops.now) b) }
 {
-    settle_uncounted::<Brand, S, T>(stops, times, vehicle, &[], Blank::new(1))
+    settle_uncounted::<Brand, S, T>(stops, times, vehicle, Blank::new(1))
 }
 
 /// The same as `settle`, from minutes before which no fitting service times begin. It takes no memory.
@@ -36,7 +36,7 @@ pub fn settle_from<S: Stops, T: Times>(
     ensures none { IfNone result
         ((b : List ℕ) → ¬ TimesFit (T.minutes times.now) vehicle.now (S.stops stops.now) b) }
 {
-    settle_uncounted::<Brand, S, T>(stops, times, vehicle, floor.as_slice(), Blank::new(1))
+    settle_from_uncounted::<Brand, S, T>(stops, times, vehicle, floor.as_slice(), Blank::new(1))
 }
 
 /// The same as `settle`, and counts its passes, each a walk over all constraints: at most three more than stops.
@@ -60,8 +60,27 @@ pub fn settle_counted<L: Ledger, S: Stops, T: Times>(
     settle_by(stops, times, vehicle, &[], passes)
 }
 
-/// The same, but the caller does not see the passes.
+/// The same as `settle_counted`, but the caller does not see the passes.
 fn settle_uncounted<L: Ledger, S: Stops, T: Times>(
+    stops: &S,
+    times: &T,
+    vehicle: &Vehicle,
+    blank: Blank,
+) -> Option<Schedule>
+    requires name { blank.name ≡ L.name }
+    requires parts { blank.parts ≡ L.parts }
+    requires some { 0 < L.parts }
+    requires few { length (S.stops stops.now) ≤ most_stops }
+    ensures least { IfSome result (λ schedule.
+        IsLeastSchedule (T.minutes times.now) vehicle.now (S.stops stops.now) schedule.items) }
+    ensures none { IfNone result
+        ((b : List ℕ) → ¬ TimesFit (T.minutes times.now) vehicle.now (S.stops stops.now) b) }
+{
+    settle_counted(stops, times, vehicle, &mut Passes::<L>::new(blank))
+}
+
+/// The same as `settle_from`, but the passes are counted, and the caller does not see them.
+fn settle_from_uncounted<L: Ledger, S: Stops, T: Times>(
     stops: &S,
     times: &T,
     vehicle: &Vehicle,
@@ -79,7 +98,7 @@ fn settle_uncounted<L: Ledger, S: Stops, T: Times>(
     ensures none { IfNone result
         ((b : List ℕ) → ¬ TimesFit (T.minutes times.now) vehicle.now (S.stops stops.now) b) }
 {
-    settle_by(stops, times, vehicle, floor, &mut Passes::<L>::none(blank))
+    settle_by(stops, times, vehicle, floor, &mut Passes::<L>::new(blank))
 }
 
 /// The least service times that fit, from lower bounds; it counts the passes.

@@ -1,4 +1,4 @@
-use pt_base::{Load, Minute, PlaceId, TripId};
+use pt_base_values::{Load, Minute, PlaceId, TripId};
 
 /// What happens at a stop.
 #[derive(Clone, Copy, PartialEq, Eq)]

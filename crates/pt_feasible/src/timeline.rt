@@ -8,7 +8,7 @@ use crate::limits::{Limits, since_at, step_from};
 use crate::visit::visit_at;
 use crate::{MAX_STOPS, Schedule, Stops};
 use arrayvec::ArrayVec;
-use pt_base::Vehicle;
+use pt_base_values::Vehicle;
 use pt_travel::Times;
 
 /// The visits of a route one after the other.

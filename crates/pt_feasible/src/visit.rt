@@ -2,7 +2,7 @@ ghost use Rattle.std.specs.Prelude.{◌≡◌, ◌+◌, ◌<◌, Some, length, s
 ghost use Rattle.pt_feasible.specs.Visit.{visits};
 
 use crate::Stops;
-use pt_base::{Minute, PlaceId, Vehicle};
+use pt_base_values::{Minute, PlaceId, Vehicle};
 
 /// A visit of a route, to a stop or to the depot.
 #[derive(Clone, Copy)]

@@ -2,30 +2,30 @@
 use Rattle.std.proofs.Common.{◌≡◌, ◌⊎◌, ◌∙◌, ℕ, false, List, Option, Some, None, option_map, Result, Ok, Err, ap, arith, inl, inr, sym, subst}
 use Rattle.std.proofs.lemmas.Result.{IfErr-weaker, on_ok_weaker}
 use Rattle.std.specs.Result.{IsErrAnd}
-use Rattle.pt_base.specs.declared.fault.Cause.TheVariants as cause
-use Rattle.pt_base.specs.Fault.{fault}
-use Rattle.pt_base.proofs.FaultLemmas.{other_fault}
-use Rattle.pt_base.specs.declared.fault.Fault.{Fault}
-use Rattle.pt_base.specs.declared.moment.Moment.{Moment}
+use Rattle.pt_base_values.specs.declared.fault.Cause.TheVariants as cause
+use Rattle.pt_base_values.specs.Fault.{fault}
+use Rattle.pt_base_values.proofs.FaultLemmas.{other_fault}
+use Rattle.pt_base_values.specs.declared.fault.Fault.{Fault}
+use Rattle.pt_base_values.specs.Moment.{Moment}
 use Rattle.pt_desk.proofs.CrashLemmas.{lasts_further, lasts_still}
-use Rattle.pt_store.specs.Store.{Answers, IsFault, IsLeft, Store}
-use Rattle.pt_http.specs.Answering.{AnswersOne, CanBeAskedAgain, ExchangesOne, GoesOn, TellsFailure}
+use Rattle.pt_desk_store.specs.Store.{Answers, IsFault, IsLeft, Store}
+use Rattle.pt_http_exchange.specs.Answering.{AnswersOne, CanBeAskedAgain, ExchangesOne, GoesOn, TellsFailure}
 use Rattle.pt_desk.specs.State.{State}
 use Rattle.pt_desk.specs.Step.{IsOutcome}
 use Rattle.pt_http_request.specs.declared.message.Message.{Message}
-use Rattle.pt_requests.specs.declared.request.Answer.{Answer}
-use Rattle.pt_store.specs.declared.keeper.StoreFault.{StoreFault}
-use Rattle.pt_http.specs.Exchange.{IsCommittedBy, IsCommittedFrom, IsExchangedOver, IsUnanswered, IsWritten, KeepsFound, ServesOver, desk_of}
-use Rattle.pt_http.specs.Input.{HasInput}
-use Rattle.pt_http.specs.Received.{BeginsWith, CommitsReceived, Responds, is_end}
-use Rattle.pt_http.specs.declared.received.Received.{Received}
-use Rattle.pt_http.specs.declared.received.Received.TheVariants as received
+use Rattle.pt_desk_requests.specs.declared.request.Answer.{Answer}
+use Rattle.pt_desk_store.specs.declared.keeper.StoreFault.{StoreFault}
+use Rattle.pt_http_exchange.specs.Exchange.{IsCommittedBy, IsCommittedFrom, IsExchangedOver, IsUnanswered, IsWritten, KeepsFound, ServesOver, desk_of}
+use Rattle.pt_http_exchange.specs.Input.{HasInput}
+use Rattle.pt_http_exchange.specs.Received.{BeginsWith, CommitsReceived, Responds, is_end}
+use Rattle.pt_http_exchange.specs.declared.received.Received.{Received}
+use Rattle.pt_http_exchange.specs.declared.received.Received.TheVariants as received
 use Rattle.pt_http_inbox.specs.Inbox.{reads_of}
 use Rattle.pt_http_inbox.specs.declared.inbox.Inbox.{Inbox}
 use Rattle.pt_http_reply.specs.Response.{IsReplyText}
 use Rattle.pt_http_reply.specs.declared.response.Response.{Response}
-use Rattle.pt_http.proofs.ExchangeLemmas.{exchanged, same_end, served}
-use Rattle.pt_http.proofs.ToldLemmas.{sent_responds}
+use Rattle.pt_http_exchange.proofs.ExchangeLemmas.{exchanged, same_end, served}
+use Rattle.pt_http_exchange.proofs.ToldLemmas.{sent_responds}
 use Rattle.pt_http_reply.specs.Reply.{IsSent}
 
 -- a fault as `?` returns it

@@ -1,13 +1,13 @@
 -- Exchanges, from what was received and the desk's response.
 use Rattle.std.proofs.Common.{◌≡◌, ℕ, List, refl, sym, ap, subst}
-use Rattle.pt_base.specs.declared.moment.Moment.{Moment}
+use Rattle.pt_base_values.specs.Moment.{Moment}
 use Rattle.pt_http_reply.specs.declared.response.Response.{Response}
 use Rattle.pt_http_reply.specs.declared.response.Response.TheVariants as response
-use Rattle.pt_http.specs.Exchange.{Desk, Exchanges, Serves, is_last}
-use Rattle.pt_http.specs.Message.{BeginsWithFault}
-use Rattle.pt_http.specs.Received.{BeginsWith, Responds, is_end}
-use Rattle.pt_http.specs.declared.received.Received.{Received}
-use Rattle.pt_http.specs.declared.received.Received.TheVariants as received
+use Rattle.pt_http_exchange.specs.Exchange.{Desk, Exchanges, Serves, is_last}
+use Rattle.pt_http_exchange.specs.Message.{BeginsWithFault}
+use Rattle.pt_http_exchange.specs.Received.{BeginsWith, Responds, is_end}
+use Rattle.pt_http_exchange.specs.declared.received.Received.{Received}
+use Rattle.pt_http_exchange.specs.declared.received.Received.TheVariants as received
 
 -- what was received is exchanged for the desk's response
 pub exchanged : (now : Moment) (input : List ℕ) (came : Received) (old new : Desk) (reply : Response)

@@ -1,20 +1,20 @@
 -- A reply that is out of memory leaves an opening what it found.
 use Rattle.std.proofs.Common.{◌≡◌, ◌∙◌, ℕ, true, List, Option, Some, None, Result, Ok, Err, ap, inl, inr, refl, subst, sym}
-use Rattle.pt_base.specs.declared.moment.Moment.{Moment}
-use Rattle.pt_store.specs.Store.{Answers, FindsContent, Goes, Store}
-use Rattle.pt_store.specs.declared.keeper.StoreFault.{StoreFault}
-use Rattle.pt_store.specs.declared.keeper.StoreFault.TheVariants.{Memory, Store as failed}
-use Rattle.pt_store.proofs.StoreLemmas.{leaves_nothing}
+use Rattle.pt_base_values.specs.Moment.{Moment}
+use Rattle.pt_desk_store.specs.Store.{Answers, FindsContent, Goes, Store}
+use Rattle.pt_desk_store.specs.declared.keeper.StoreFault.{StoreFault}
+use Rattle.pt_desk_store.specs.declared.keeper.StoreFault.TheVariants.{Memory, Store as failed}
+use Rattle.pt_desk_store.proofs.StoreLemmas.{leaves_nothing}
 use Rattle.pt_desk.specs.State.{State}
 use Rattle.pt_desk.specs.Step.{IsOutcome, sender, state_after}
-use Rattle.pt_requests.specs.declared.request.Answer.{Answer}
-use Rattle.pt_requests.specs.declared.request.Request.{Request}
+use Rattle.pt_desk_requests.specs.declared.request.Answer.{Answer}
+use Rattle.pt_desk_requests.specs.declared.request.Request.{Request}
 use Rattle.pt_desk_laws.proofs.OutcomeLemmas.{commits_nothing}
 use Rattle.pt_http_reply.specs.Reply.{IsSent, is_of_read, is_told}
 use Rattle.pt_http_reply.specs.declared.response.Response.{Response}
 use Rattle.pt_http_reply.specs.declared.response.Response.TheVariants as response
-use Rattle.pt_http.specs.Exchange.{KeepsFound}
-use Rattle.pt_http.proofs.ToldLemmas.{of_read}
+use Rattle.pt_http_exchange.specs.Exchange.{KeepsFound}
+use Rattle.pt_http_exchange.proofs.ToldLemmas.{of_read}
 
 -- a store that nothing was asked of
 pub keeps_still : (sent : Response) (store : Store) → KeepsFound sent store store

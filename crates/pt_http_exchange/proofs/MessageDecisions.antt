@@ -14,8 +14,8 @@ use Rattle.httparse.specs.Grammar.{print_blank, print_version, print_section, Re
 use Rattle.httparse.specs.Spans.{name_and_value}
 use Rattle.httparse.proofs.GrammarLemmas.{print_request-append}
 use Rattle.httparse.proofs.PieceLemmas.{print_field-append}
-use Rattle.pt_base.specs.SpelledNumber.{number_from}
-use Rattle.pt_base.proofs.NumberLemmas.{number_from-known, number_from-spelled}
+use Rattle.pt_base_values.specs.SpelledNumber.{number_from}
+use Rattle.pt_base_values.proofs.NumberLemmas.{number_from-known, number_from-spelled}
 use Rattle.pt_http_inbox.specs.Head.{BeginsWithHead, HasNoHead}
 use Rattle.pt_http_request.proofs.MessageLemmas.{body_length_unique, fault_of_parts, is_of_parts}
 use Rattle.pt_http_request.specs.declared.fault.RequestFault.{RequestFault}
@@ -31,14 +31,14 @@ use Rattle.pt_http_request.specs.Headers.{number_in}
 use Rattle.pt_http_request.specs.Messages.{Sent, by_field, write_with, request_in, message_in}
 use Rattle.pt_http_request.specs.Messages.{body_text, object_from, write_in, SpellsMessage, IsMessageFault}
 use Rattle.pt_http_request.specs.Targets.{desk_routes, target_in, path_of}
-use Rattle.pt_requests.specs.declared.request.Read.{Read}
-use Rattle.pt_requests.specs.declared.request.Request.{Request}
-use Rattle.pt_requests.specs.declared.request.Request.TheVariants as request
-use Rattle.pt_requests.specs.declared.request.Write.{Write}
+use Rattle.pt_desk_requests.specs.declared.request.Read.{Read}
+use Rattle.pt_desk_requests.specs.declared.request.Request.{Request}
+use Rattle.pt_desk_requests.specs.declared.request.Request.TheVariants as request
+use Rattle.pt_desk_requests.specs.declared.request.Write.{Write}
 use Rattle.serde_json.specs.Data.{Data}
-use Rattle.pt_http.proofs.HeadDecisions.{HasHead, head_or_none}
-use Rattle.pt_http.specs.Message.{BeginsWithMessage, BeginsWithFault, BeginsWithRefused, HasNoBody}
-use Rattle.pt_http.specs.Parts.{lines_of, BeginsWithParts}
+use Rattle.pt_http_exchange.proofs.HeadDecisions.{HasHead, head_or_none}
+use Rattle.pt_http_exchange.specs.Message.{BeginsWithMessage, BeginsWithFault, BeginsWithRefused, HasNoBody}
+use Rattle.pt_http_exchange.specs.Parts.{lines_of, BeginsWithParts}
 
 -- ---- the length that header lines give
 

@@ -19,18 +19,18 @@ use Rattle.pt_http_request.specs.Messages.{SpellsMessage, IsMessageFault}
 use Rattle.pt_http_request.specs.declared.message.Message.{Message}
 use Rattle.pt_http_request.specs.Targets.{desk_routes}
 use Rattle.pt_http_request.proofs.MessageLemmas.{body_length_unique, fault_of_parts}
-use Rattle.pt_http.specs.Input.{HasInput}
-use Rattle.pt_http.specs.Message.{HasNoBody, BeginsWithFault}
-use Rattle.pt_http.specs.Parts.{lines_of, AreParts, BeginsWithParts}
+use Rattle.pt_http_exchange.specs.Input.{HasInput}
+use Rattle.pt_http_exchange.specs.Message.{HasNoBody, BeginsWithFault}
+use Rattle.pt_http_exchange.specs.Parts.{lines_of, AreParts, BeginsWithParts}
 use Rattle.matchit.specs.Router.{RouteOf}
 use Rattle.matchit.specs.Rows.{RowsOf}
 use Rattle.pt_http_request.specs.Faults.{OnRefused}
 use Rattle.pt_http_request.specs.declared.fault.MessageFault.{MessageFault}
 use Rattle.pt_http_request.specs.declared.fault.MessageFault.TheVariants.{Refused}
 use Rattle.pt_http_request.specs.declared.targets.Path.{Path}
-use Rattle.pt_http.specs.Received.{IsSpelledBy, BeginsWith}
-use Rattle.pt_http.specs.declared.received.Received.{Received}
-use Rattle.pt_http.specs.declared.received.Received.TheVariants as received
+use Rattle.pt_http_exchange.specs.Received.{IsSpelledBy, BeginsWith}
+use Rattle.pt_http_exchange.specs.declared.received.Received.{Received}
+use Rattle.pt_http_exchange.specs.declared.received.Received.TheVariants as received
 
 -- reads leave the input as it is
 pub reads_input : {R : Type 0} (remaining : R → Option (List ℕ)) (old new : Inbox R) (input : List ℕ)

@@ -2,21 +2,21 @@
 use Rattle.std.proofs.Common.{◌≡◌, ℕ, true, false, List, Option, Some, None, Ok, Err, refl, sym, ap, ◌∙◌, subst, inl}
 use Rattle.std.proofs.Common.{inr}
 use Rattle.std.specs.Prelude.{option_map}
-use Rattle.pt_base.specs.declared.rule.Rule.TheVariants.{Key}
-use Rattle.pt_base.specs.declared.moment.Moment.{Moment}
-use Rattle.pt_store.specs.declared.keeper.StoreFault.TheVariants.{Memory}
+use Rattle.pt_base_values.specs.declared.rule.Rule.TheVariants.{Key}
+use Rattle.pt_base_values.specs.Moment.{Moment}
+use Rattle.pt_desk_store.specs.declared.keeper.StoreFault.TheVariants.{Memory}
 use Rattle.pt_desk.specs.Step.{sender, state_after}
-use Rattle.pt_requests.specs.declared.request.Answer.{Answer}
-use Rattle.pt_requests.specs.declared.request.Answer.TheVariants.{Booked, Denied, Done, Entered}
+use Rattle.pt_desk_requests.specs.declared.request.Answer.{Answer}
+use Rattle.pt_desk_requests.specs.declared.request.Answer.TheVariants.{Booked, Denied, Done, Entered}
 use Rattle.pt_desk_laws.proofs.OutcomeLemmas.{is_of_write, commits_nothing}
 use Rattle.pt_http_reply.specs.Reply.{is_of_read, is_told, IsSent}
 use Rattle.pt_http_reply.specs.declared.response.Response.{Response}
 use Rattle.pt_http_reply.specs.declared.response.Response.TheVariants as response
 use Rattle.pt_http_request.specs.declared.message.Message.{Message}
-use Rattle.pt_http.specs.Exchange.{Desk, AnswersWith}
-use Rattle.pt_http.specs.Received.{Responds}
-use Rattle.pt_http.specs.declared.received.Received.{Received}
-use Rattle.pt_http.specs.declared.received.Received.TheVariants as received
+use Rattle.pt_http_exchange.specs.Exchange.{Desk, AnswersWith}
+use Rattle.pt_http_exchange.specs.Received.{Responds}
+use Rattle.pt_http_exchange.specs.declared.received.Received.{Received}
+use Rattle.pt_http_exchange.specs.declared.received.Received.TheVariants as received
 
 -- the answer to a read is not that of an accepted write
 pub of_read : (told : Answer) → is_of_read told ≡ true → is_of_write told ≡ false

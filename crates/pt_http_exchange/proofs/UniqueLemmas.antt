@@ -17,9 +17,9 @@ use Rattle.pt_http_request.specs.declared.message.Message.{Message}
 use Rattle.pt_http_request.proofs.ListLemmas.{error-unique}
 use Rattle.pt_http_request.proofs.MessageLemmas.{body_length_unique, message_unique, message_or_fault}
 use Rattle.pt_http_reply.specs.declared.response.Response.TheVariants as response
-use Rattle.pt_http.specs.Exchange.{is_last}
-use Rattle.pt_http.specs.Message.{BeginsWithMessage, BeginsWithFault, BeginsWithRefused, HasNoBody}
-use Rattle.pt_http.specs.Parts.{lines_of, BeginsWithParts}
+use Rattle.pt_http_exchange.specs.Exchange.{is_last}
+use Rattle.pt_http_exchange.specs.Message.{BeginsWithMessage, BeginsWithFault, BeginsWithRefused, HasNoBody}
+use Rattle.pt_http_exchange.specs.Parts.{lines_of, BeginsWithParts}
 
 front_of : (body rest : List ℕ) → body ≡ take (length body) (body ++ rest)
 front_of body rest = sym (take-append_seam body rest)

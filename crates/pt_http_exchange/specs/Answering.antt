@@ -1,14 +1,14 @@
 -- What a call that answers one request ensures about the answer, an error, the store and the inbox.
 use Rattle.std.specs.Prelude.{◌≡◌, ◌⊎◌, ℕ, ◌≤◌, List, Option, Result, Err, IfOk, IfErr, OnOk}
-use Rattle.pt_base.specs.declared.fault.Cause.TheVariants as cause
-use Rattle.pt_base.specs.Fault.{fault}
-use Rattle.pt_base.specs.declared.fault.Fault.{Fault}
-use Rattle.pt_base.specs.declared.moment.Moment.{Moment}
+use Rattle.pt_base_values.specs.declared.fault.Cause.TheVariants as cause
+use Rattle.pt_base_values.specs.Fault.{fault}
+use Rattle.pt_base_values.specs.declared.fault.Fault.{Fault}
+use Rattle.pt_base_values.specs.Moment.{Moment}
 use Rattle.pt_desk.specs.Crash.{Lasts}
-use Rattle.pt_store.specs.Store.{IsSettled, Store}
+use Rattle.pt_desk_store.specs.Store.{IsSettled, Store}
 use Rattle.pt_desk.specs.State.{State}
-use Rattle.pt_http.specs.Exchange.{IsCommittedFrom, IsExchangedOver, IsUnanswered, IsWritten, ServesOver}
-use Rattle.pt_http.specs.Input.{HasInput}
+use Rattle.pt_http_exchange.specs.Exchange.{IsCommittedFrom, IsExchangedOver, IsUnanswered, IsWritten, ServesOver}
+use Rattle.pt_http_exchange.specs.Input.{HasInput}
 use Rattle.pt_http_inbox.specs.Inbox.{ReadsOn}
 use Rattle.pt_http_inbox.specs.declared.inbox.Inbox.{Inbox}
 use Rattle.pt_http_reply.specs.Response.{IsReplyText}

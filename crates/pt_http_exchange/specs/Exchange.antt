@@ -1,17 +1,17 @@
 -- How the desk answers the message at the front of some bytes.
 use Rattle.std.specs.Prelude.{◌≡◌, ◌⊎◌, ℕ, Bool, true, false, List, Option, Some, None, Result, Ok, Err, option_map}
-use Rattle.pt_base.specs.Fault.{fault}
-use Rattle.pt_base.specs.declared.fault.Fault.{Fault}
-use Rattle.pt_base.specs.declared.fault.Cause.TheVariants as cause
-use Rattle.pt_base.specs.declared.rule.Rule.TheVariants.{Key}
-use Rattle.pt_base.specs.declared.moment.Moment.{Moment}
-use Rattle.pt_store.specs.Store.{Store, FindsContent, IsLeft, TellsBy, Fails}
+use Rattle.pt_base_values.specs.Fault.{fault}
+use Rattle.pt_base_values.specs.declared.fault.Fault.{Fault}
+use Rattle.pt_base_values.specs.declared.fault.Cause.TheVariants as cause
+use Rattle.pt_base_values.specs.declared.rule.Rule.TheVariants.{Key}
+use Rattle.pt_base_values.specs.Moment.{Moment}
+use Rattle.pt_desk_store.specs.Store.{Store, FindsContent, IsLeft, TellsBy, Fails}
 use Rattle.pt_desk.specs.State.{State}
 use Rattle.pt_desk.specs.Step.{IsOutcome}
-use Rattle.pt_store.specs.declared.keeper.StoreFault.{StoreFault}
-use Rattle.pt_store.specs.declared.keeper.StoreFault.TheVariants.{Memory}
-use Rattle.pt_requests.specs.declared.request.Answer.{Answer}
-use Rattle.pt_requests.specs.declared.request.Answer.TheVariants.{Denied}
+use Rattle.pt_desk_store.specs.declared.keeper.StoreFault.{StoreFault}
+use Rattle.pt_desk_store.specs.declared.keeper.StoreFault.TheVariants.{Memory}
+use Rattle.pt_desk_requests.specs.declared.request.Answer.{Answer}
+use Rattle.pt_desk_requests.specs.declared.request.Answer.TheVariants.{Denied}
 use Rattle.pt_http_request.specs.declared.fault.RequestFault.TheVariants.{Head, Length}
 use Rattle.pt_http_reply.specs.declared.response.Response.{Response}
 use Rattle.pt_http_reply.specs.declared.response.Response.TheVariants as response
@@ -20,8 +20,8 @@ use Rattle.pt_http_inbox.specs.Inbox.{reads_of}
 use Rattle.pt_http_inbox.specs.declared.inbox.Inbox.{Inbox}
 use Rattle.pt_http_reply.specs.Response.{IsReplyText}
 use Rattle.std.specs.Io.KnownBytes.{Appends}
-use Rattle.pt_http.specs.Input.{HasInput}
-use Rattle.pt_http.specs.Message.{BeginsWithMessage, BeginsWithFault}
+use Rattle.pt_http_exchange.specs.Input.{HasInput}
+use Rattle.pt_http_exchange.specs.Message.{BeginsWithMessage, BeginsWithFault}
 
 -- the desk: its content, and whether its store has failed
 pub record Desk : Type 0 where

@@ -8,7 +8,7 @@ use Rattle.pt_http_request.specs.Headers.{IsBodyLength}
 use Rattle.pt_http_request.specs.Messages.{SpellsMessage, IsMessageFault}
 use Rattle.pt_http_request.specs.Targets.{desk_routes}
 use Rattle.pt_http_request.specs.declared.message.Message.{Message}
-use Rattle.pt_http.specs.Parts.{lines_of, BeginsWithParts}
+use Rattle.pt_http_exchange.specs.Parts.{lines_of, BeginsWithParts}
 
 -- the bytes begin with this message, and the rest follows it
 pub record BeginsWithMessage (bytes : List ℕ) (message : Message) (rest : List ℕ) : Type 0 where

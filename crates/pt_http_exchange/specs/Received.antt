@@ -1,17 +1,17 @@
 -- The result of reading a request from some bytes.
 use Rattle.std.specs.Prelude.{◌≡◌, ℕ, Bool, false, List, Option}
-use Rattle.pt_base.specs.declared.moment.Moment.{Moment}
+use Rattle.pt_base_values.specs.Moment.{Moment}
 use Rattle.pt_http_reply.specs.declared.response.Response.{Response}
 use Rattle.pt_http_reply.specs.declared.response.Response.TheVariants as response
 use Rattle.pt_desk.specs.State.{State}
-use Rattle.pt_http.specs.Exchange.{Desk, AnswersMessage, IsCommittedBy, is_last}
+use Rattle.pt_http_exchange.specs.Exchange.{Desk, AnswersMessage, IsCommittedBy, is_last}
 use Rattle.httparse.specs.Grammar.{RequestHead}
 use Rattle.pt_http_request.specs.Messages.{SpellsMessage, IsMessageFault}
 use Rattle.pt_http_request.specs.Targets.{desk_routes}
-use Rattle.pt_http.specs.Message.{BeginsWithMessage, BeginsWithFault}
-use Rattle.pt_http.specs.Parts.{lines_of}
-use Rattle.pt_http.specs.declared.received.Received.{Received}
-use Rattle.pt_http.specs.declared.received.Received.TheVariants as received
+use Rattle.pt_http_exchange.specs.Message.{BeginsWithMessage, BeginsWithFault}
+use Rattle.pt_http_exchange.specs.Parts.{lines_of}
+use Rattle.pt_http_exchange.specs.declared.received.Received.{Received}
+use Rattle.pt_http_exchange.specs.declared.received.Received.TheVariants as received
 
 -- a head and a body spell this message, or have this fault
 abbrev pub IsSpelledBy : RequestHead → List ℕ → Received → Type 0

@@ -1,26 +1,26 @@
 ghost use Rattle.std.specs.Prelude.{◌≡◌, ◌⊎◌, IfErr, OnOk, Option};
 ghost use Rattle.std.specs.Io.KnownBytes.{Appends};
-ghost use Rattle.pt_base.specs.declared.fault.Cause.TheVariants as cause;
-ghost use Rattle.pt_base.specs.Fault.{fault};
-ghost use Rattle.pt_store.specs.Store.{Store};
-ghost use Rattle.pt_http.specs.Answering.{AnswersOne, CanBeAskedAgain, ExchangesOne, GoesOn};
-ghost use Rattle.pt_http.specs.Exchange.{IsExchangedOver, KeepsFound, desk_of};
-ghost use Rattle.pt_http.specs.Input.{HasInput};
+ghost use Rattle.pt_base_values.specs.declared.fault.Cause.TheVariants as cause;
+ghost use Rattle.pt_base_values.specs.Fault.{fault};
+ghost use Rattle.pt_desk_store.specs.Store.{Store};
+ghost use Rattle.pt_http_exchange.specs.Answering.{AnswersOne, CanBeAskedAgain, ExchangesOne, GoesOn};
+ghost use Rattle.pt_http_exchange.specs.Exchange.{IsExchangedOver, KeepsFound, desk_of};
+ghost use Rattle.pt_http_exchange.specs.Input.{HasInput};
 ghost use Rattle.pt_desk.specs.State.{State};
-ghost use Rattle.pt_http.specs.Received.{CommitsReceived, Responds};
+ghost use Rattle.pt_http_exchange.specs.Received.{CommitsReceived, Responds};
 ghost use Rattle.pt_http_reply.specs.Reply.{IsSent, bytes_of};
 ghost use Rattle.pt_http_reply.specs.declared.response.Response.{Response};
 ghost use Rattle.pt_http_request.specs.Targets.{desk_routes};
 
 use crate::received::{Received, receive};
 use matchit::Router;
-use pt_base::{Cause, Fault, Moment, Rule};
+use pt_base_values::{Cause, Fault, Moment, Rule};
 use pt_desk::answer;
+use pt_desk_requests::Answer;
+use pt_desk_store::Keeper;
 use pt_http_inbox::Inbox;
 use pt_http_reply::{ReplyBytes, Response, reply_to};
 use pt_http_request::{Path, desk_router};
-use pt_requests::Answer;
-use pt_store::Keeper;
 use std::alloc::Global;
 use std::io::{Read, Write};
 

@@ -1,6 +1,6 @@
 ghost use Rattle.std.specs.Prelude.{◌≡◌, ◌⊎◌, ℕ, false, List};
-ghost use Rattle.pt_http.specs.Exchange.{is_last};
-ghost use Rattle.pt_http.specs.Message.{BeginsWithMessage, BeginsWithFault};
+ghost use Rattle.pt_http_exchange.specs.Exchange.{is_last};
+ghost use Rattle.pt_http_exchange.specs.Message.{BeginsWithMessage, BeginsWithFault};
 ghost use Rattle.pt_http_request.specs.declared.fault.RequestFault.{RequestFault};
 ghost use Rattle.pt_http_reply.specs.declared.response.Response.TheVariants as response;
 ghost use Rattle.pt_http_request.specs.Messages.{IsSameMessage};

@@ -1,16 +1,16 @@
 ghost use Rattle.std.specs.Prelude.{◌≡◌, ℕ, false, List, IfOk, IfErr, OnErr};
-ghost use Rattle.pt_http.specs.Exchange.{IsUnanswered};
-ghost use Rattle.pt_http.specs.Input.{HasInput};
+ghost use Rattle.pt_http_exchange.specs.Exchange.{IsUnanswered};
+ghost use Rattle.pt_http_exchange.specs.Input.{HasInput};
 ghost use Rattle.httparse.specs.Grammar.{RequestHead};
-ghost use Rattle.pt_base.specs.Fault.{fault};
-ghost use Rattle.pt_base.specs.declared.fault.Cause.TheVariants as cause;
-ghost use Rattle.pt_http.specs.Parts.{AreParts};
-ghost use Rattle.pt_http.specs.Received.{IsSpelledBy, BeginsWith, is_end};
+ghost use Rattle.pt_base_values.specs.Fault.{fault};
+ghost use Rattle.pt_base_values.specs.declared.fault.Cause.TheVariants as cause;
+ghost use Rattle.pt_http_exchange.specs.Parts.{AreParts};
+ghost use Rattle.pt_http_exchange.specs.Received.{IsSpelledBy, BeginsWith, is_end};
 ghost use Rattle.pt_http_inbox.specs.Inbox.{reads_of, ReadsOn};
 ghost use Rattle.pt_http_request.specs.Targets.{desk_routes};
 
 use matchit::Router;
-use pt_base::{Cause, Fault};
+use pt_base_values::{Cause, Fault};
 use pt_http_inbox::{Head, Inbox};
 use pt_http_request::{Message, MessageFault, Path, RequestFault, body_length, message_from};
 use std::alloc::Global;

@@ -7,7 +7,7 @@ use Rattle.std.proofs.lemmas.Bool.Decides.{nat_tests}
 use Rattle.std.proofs.lemmas.List.{length-take, drop_more, take-append-drop, get_or-take}
 use Rattle.std.proofs.lemmas.List.Elements.{All-head, All-tail, All-from_get_or}
 use Rattle.std.proofs.lemmas.List.Quantifiers.{position-Some}
-use Rattle.pt_rehearsal.specs.Moment.{BeginsWithLine}
+use Rattle.pt_http_rehearsal.specs.Moment.{BeginsWithLine}
 
 -- a list is cut at its first such element in one way
 pub cut_unique : (cut : ℕ) (front other rest more : List ℕ) → front ++ cut ∷ rest ≡ other ++ cut ∷ more

@@ -13,11 +13,11 @@ use Rattle.std.specs.Str.Lines.{strip_carriage_return}
 use Rattle.std.specs.Str.Pattern.{StripsPrefix, FindsTextPrefix}
 use Rattle.jiff_core.specs.Calendar.{IsYear}
 use Rattle.jiff_core.proofs.CalendarLemmas.{days_in_month_bounds}
-use Rattle.pt_base.specs.DateText.{IsDateText, text_of}
-use Rattle.pt_base.proofs.DateTextLemmas.{date_text-text_of, pos-unsigned_abs}
-use Rattle.pt_base.proofs.NumberLemmas.{digits-utf8}
-use Rattle.pt_rehearsal.specs.Moment.{IsMoment, AreParts, BeginsWithMoment}
-use Rattle.pt_rehearsal.proofs.LineLemmas.{cut_unique, line_of_front, length-strip_carriage_return}
+use Rattle.pt_base_values.specs.DateText.{IsDateText, text_of}
+use Rattle.pt_base_values.proofs.DateTextLemmas.{date_text-text_of, pos-unsigned_abs}
+use Rattle.pt_base_values.proofs.NumberLemmas.{digits-utf8}
+use Rattle.pt_http_rehearsal.specs.Moment.{IsMoment, AreParts, BeginsWithMoment}
+use Rattle.pt_http_rehearsal.proofs.LineLemmas.{cut_unique, line_of_front, length-strip_carriage_return}
 
 -- a byte of ASCII that is written, as a space is not
 abbrev IsGraphic : ℕ → Type 0

@@ -1,11 +1,11 @@
 -- The moment at the front of an input.
 use Rattle.std.proofs.Common.{◌≡◌, ◌≢◌, ℕ, ◌<◌, ◌≤◌, ◌+◌, List, [], ◌∷◌, ◌++◌, length, sym, ap, ◌∙◌, refl, arith}
 use Rattle.std.proofs.Common.{length-append, Bool, true, false, Option, Some, None, Result, Ok, inl, inr, ◌⊎◌}
-use Rattle.pt_base.specs.declared.moment.Moment.{Moment}
+use Rattle.pt_base_values.specs.Moment.{Moment}
 use Rattle.pt_http_inbox.specs.declared.inbox.Inbox.{Inbox}
-use Rattle.pt_rehearsal.specs.Moment.{BeginsWithMoment}
-use Rattle.pt_http.specs.Input.{HasInput}
-use Rattle.pt_rehearsal.specs.Moments.{IsNext}
+use Rattle.pt_http_rehearsal.specs.Moment.{BeginsWithMoment}
+use Rattle.pt_http_exchange.specs.Input.{HasInput}
+use Rattle.pt_http_rehearsal.specs.Moments.{IsNext}
 
 -- the test says which of the two holds
 pub one_of_two : {E P Q : Type 0} (came : Bool) (result : Result Bool E) → result ≡ Ok came → (result ≡ Ok true → P)
@@ -16,7 +16,7 @@ one_of_two false result is enough ended = inr (ended is)
 -- the input has a moment, or none
 pub next_some : {R : Type 0} (remaining : R → Option (List ℕ)) (inbox : Inbox R) (input : List ℕ)
     (found : Option Moment) (now : Moment) → found ≡ Some now → IsNext remaining inbox input found
-    → (rest : List ℕ) × HasInput remaining inbox rest × BeginsWithMoment input now.day now.minute rest
+    → (rest : List ℕ) × HasInput remaining inbox rest × BeginsWithMoment input now.0 now.1 rest
 next_some remaining inbox input found now is next = rw is at next
 
 pub next_none : {R : Type 0} (remaining : R → Option (List ℕ)) (inbox : Inbox R) (input : List ℕ)

@@ -5,17 +5,17 @@ use Rattle.std.specs.Prelude.{Option}
 use Rattle.std.specs.Io.KnownBytes.{Appends}
 use Rattle.std.proofs.KnownBytes.{Appends-nil, Appends-trans}
 use Rattle.pt_http_inbox.specs.declared.inbox.Inbox.{Inbox}
-use Rattle.pt_rehearsal.specs.Moment.{BeginsWithMoment}
+use Rattle.pt_http_rehearsal.specs.Moment.{BeginsWithMoment}
 use Rattle.pt_http_reply.specs.Response.{IsReplyText}
 use Rattle.pt_http_reply.specs.declared.response.Response.{Response}
-use Rattle.pt_base.specs.Fault.{fault}
-use Rattle.pt_base.proofs.FaultLemmas.{other_cause, other_fault}
-use Rattle.pt_base.specs.declared.fault.Fault.{Fault}
-use Rattle.pt_base.specs.declared.fault.Cause.TheVariants as cause
-use Rattle.pt_base.specs.declared.moment.Moment.{Moment}
-use Rattle.pt_http.specs.Exchange.{Desk, Exchanges, IsUnanswered, is_last}
-use Rattle.pt_http.specs.Input.{HasInput}
-use Rattle.pt_rehearsal.specs.Rehearsal.{most_messages, Exchanged, IsStep, Rehearses, HasBadLine}
+use Rattle.pt_base_values.specs.Fault.{code_of, fault}
+use Rattle.pt_base_values.proofs.FaultLemmas.{other_code, other_fault}
+use Rattle.pt_base_values.specs.declared.fault.Fault.{Fault}
+use Rattle.pt_base_values.specs.declared.fault.Cause.TheVariants as cause
+use Rattle.pt_base_values.specs.Moment.{Moment}
+use Rattle.pt_http_exchange.specs.Exchange.{Desk, Exchanges, IsUnanswered, is_last}
+use Rattle.pt_http_exchange.specs.Input.{HasInput}
+use Rattle.pt_http_rehearsal.specs.Rehearsal.{most_messages, Exchanged, IsStep, Rehearses, HasBadLine}
 
 -- The state of a rehearsal of this input after at most `count` messages: the remaining messages complete it.
 pub record StandsAt {R : Type 0} (remaining : R → Option (List ℕ)) (input : List ℕ) (old : Desk)
@@ -55,7 +55,7 @@ abbrev pub one_more : Moment → Response → List ℕ → Exchanged
 one_more now reply text = record { now = now; reply = reply; text = text }
 
 pub step_of : (at : Moment) (left between rest text : List ℕ) (now new : Desk) (reply : Response)
-    → BeginsWithMoment left at.day at.minute between → Exchanges at between now new reply rest
+    → BeginsWithMoment left at.0 at.1 between → Exchanges at between now new reply rest
     → IsReplyText reply text
     → IsStep (one_more at reply text) left now rest new
 step_of at left between rest text now new reply moment exchanged replied = record {
@@ -170,8 +170,8 @@ pub either : {P Q R : Type 0} → P ⊎ Q → (P → R) → (Q → R) → R
 either (inl p) one other = one p
 either (inr q) one other = other q
 
-pub read_cause_no_line : (error : Fault) → error.cause ≡ cause.ReadFailed → error ≡ fault cause.MomentLine → ⊥
-read_cause_no_line error is line = other_cause cause.ReadFailed cause.MomentLine (omega arith) (sym is ∙ ap (λ (e : Fault). e.cause) line)
+pub read_cause_no_line : (error : Fault) → error.code ≡ code_of cause.ReadFailed → error ≡ fault cause.MomentLine → ⊥
+read_cause_no_line error is line = other_code error.code cause.ReadFailed cause.MomentLine (omega arith) is (ap (λ (e : Fault). e.code) line)
 
-pub memory_cause_no_line : (error : Fault) → error.cause ≡ cause.Memory → error ≡ fault cause.MomentLine → ⊥
-memory_cause_no_line error is line = other_cause cause.Memory cause.MomentLine (omega arith) (sym is ∙ ap (λ (e : Fault). e.cause) line)
+pub memory_cause_no_line : (error : Fault) → error.code ≡ code_of cause.Memory → error ≡ fault cause.MomentLine → ⊥
+memory_cause_no_line error is line = other_code error.code cause.Memory cause.MomentLine (omega arith) is (ap (λ (e : Fault). e.code) line)

@@ -1,9 +1,9 @@
 -- The line before each message of a rehearsal, which gives the message's moment.
 use Rattle.std.specs.Prelude.{◌≡◌, ◌≢◌, ℕ, List, ◌∷◌, ◌++◌, codes, All}
 use Rattle.std.specs.Str.Lines.{strip_carriage_return}
-use Rattle.pt_base.specs.Ranges.{last_minute}
-use Rattle.pt_base.specs.SpelledDay.{SpellsDay}
-use Rattle.pt_base.specs.SpelledNumber.{SpellsNumber}
+use Rattle.pt_base_values.specs.Ranges.{last_minute}
+use Rattle.pt_base_values.specs.SpelledDay.{SpellsDay}
+use Rattle.pt_base_values.specs.SpelledNumber.{SpellsNumber}
 
 -- the text is `@`, a date and digits, with one space between them and none in the date
 pub record AreParts (text date digits : List ℕ) : Type 0 where

@@ -1,13 +1,14 @@
 -- Rehearsals: messages one after another, each after a line with its moment.
-use Rattle.std.specs.Prelude.{◌≡◌, ◌≢◌, ◌⊎◌, ℕ, true, List, [], ◌∷◌, ◌++◌}
-use Rattle.pt_base.specs.Fault.{fault}
-use Rattle.pt_base.specs.declared.moment.Moment.{Moment}
-use Rattle.pt_base.specs.declared.fault.Fault.{Fault}
-use Rattle.pt_base.specs.declared.fault.Cause.TheVariants as cause
-use Rattle.pt_rehearsal.specs.Moment.{BeginsWithMoment}
+use Rattle.std.specs.Prelude.{◌≡◌, ◌≢◌, ◌⊎◌, ℕ, ◌≤◌, true, List, [], ◌∷◌, ◌++◌, length, Option, Result, Err}
+use Rattle.std.specs.Io.KnownBytes.{Appends}
+use Rattle.pt_base_values.specs.Fault.{fault}
+use Rattle.pt_base_values.specs.Moment.{Moment}
+use Rattle.pt_base_values.specs.declared.fault.Fault.{Fault}
+use Rattle.pt_base_values.specs.declared.fault.Cause.TheVariants as cause
+use Rattle.pt_http_rehearsal.specs.Moment.{BeginsWithMoment}
 use Rattle.pt_http_reply.specs.Response.{IsReplyText}
 use Rattle.pt_http_reply.specs.declared.response.Response.{Response}
-use Rattle.pt_http.specs.Exchange.{Desk, Exchanges, IsUnanswered, is_last}
+use Rattle.pt_http_exchange.specs.Exchange.{Desk, Exchanges, IsUnanswered, Serves, is_last}
 
 -- the most messages of a rehearsal
 abbrev pub most_messages : ℕ
@@ -22,7 +23,7 @@ pub record Exchanged : Type 0 where
 -- the bytes begin with this message's moment and then the message, and leave this rest and this state
 pub record IsStep (one : Exchanged) (bytes : List ℕ) (old : Desk) (rest : List ℕ) (new : Desk) : Type 0 where
   pub after : List ℕ
-  pub moment : BeginsWithMoment bytes one.now.day one.now.minute after
+  pub moment : BeginsWithMoment bytes one.now.0 one.now.1 after
   pub exchanged : Exchanges one.now after old new one.reply rest
   pub replied : IsReplyText one.reply one.text
 
@@ -39,6 +40,27 @@ abbrev pub IsFinished : List Exchanged → List ℕ → Type 0
 IsFinished messages rest =
     (rest ≡ []) ⊎ ((front : List Exchanged) × (one : Exchanged) × (messages ≡ front ++ one ∷ [])
     × (is_last one.reply ≡ true))
+
+-- The desk answers some messages in turn, each at this moment with this reply, and leaves this state. The messages need
+-- not be those that came in.
+abbrev pub ServesEach : List (Moment × Response) → Desk → Desk → Type 0
+ServesEach [] old new = new ≡ old
+ServesEach (one ∷ later) old new =
+    (mid : Desk) × Serves one.0 old mid one.1 × (is_last one.1 ≡ true → later ≡ []) × ServesEach later mid new
+
+-- the bytes of these replies, one after another
+abbrev pub AreReplies : List (Moment × Response) → List ℕ → Type 0
+AreReplies [] written = written ≡ []
+AreReplies (one ∷ later) written =
+    (text : List ℕ) × (more : List ℕ) × IsReplyText one.1 text × AreReplies later more × (written ≡ text ++ more)
+
+-- What a rehearsal does whatever its reader gives, also if its bytes are not known: it answers some messages, and writes
+-- nothing but their replies. The last reply may not be wholly written if the error is a failed write.
+abbrev pub ServesSome : {T : Type 0} → Desk → Desk → Option (List ℕ) → Option (List ℕ) → Result T Fault → Type 0
+ServesSome old new out_old out_new result =
+    (replies : List (Moment × Response)) × ServesEach replies old new × (length replies ≤ most_messages)
+    × (result ≢ Err (fault cause.WriteFailed) → (written : List ℕ) × AreReplies replies written
+    × Appends out_old out_new written)
 
 -- the bytes do not begin with a line with a moment
 abbrev pub HasNoMoment : List ℕ → Type 0

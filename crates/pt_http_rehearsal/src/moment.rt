@@ -1,8 +1,8 @@
 ghost use Rattle.std.specs.Prelude.{◌≡◌, ℕ, ◌+◌, ◌≤◌, ◌==◌, List, drop, length, position, IfSome, IsNone};
 ghost use Rattle.std.specs.Str.Lines.{strip_carriage_return};
-ghost use Rattle.pt_rehearsal.specs.Moment.{IsMoment, AreParts, BeginsWithLine, BeginsWithMoment};
+ghost use Rattle.pt_http_rehearsal.specs.Moment.{IsMoment, AreParts, BeginsWithLine, BeginsWithMoment};
 
-use pt_base::{LAST_MINUTE, Minute, Moment, day_from, number_from};
+use pt_base_values::{LAST_MINUTE, Minute, Moment, day_from, number_from};
 use std::str;
 
 /// The most bytes of a line with a moment, including its newline.
@@ -52,23 +52,20 @@ fn parts_of(text: &str) -> Option<(&str, &str)>
 
 /// The moment that a line spells.
 fn moment_from(line: &[u8]) -> Option<Moment>
-    ensures moment { IfSome result (λ moment. IsMoment line.now moment.day moment.minute) }
+    ensures moment { IfSome result (λ moment. IsMoment line.now moment.0 moment.1) }
     ensures none { IsNone result → (day minute : ℕ) → ¬ (IsMoment line.now day minute) }
 {
     let text = str::from_utf8(line).ok()?;
     let (date, digits) = parts_of(text)?;
     let day = day_from(date)?;
     let minute = number_from(digits.as_bytes(), 4, u64::from(LAST_MINUTE))?;
-    Some(Moment {
-        day,
-        minute: Minute::of(minute as u32)?,
-    })
+    Some((day, Minute::of(minute as u32)?))
 }
 
 /// The moment in the line at the front of the bytes; `None` if no line with a moment is there.
 pub(crate) fn moment_at(bytes: &[u8]) -> Option<MomentLine>
-    ensures moment { IfSome result (λ found. BeginsWithMoment bytes.now found.moment.day
-        found.moment.minute (drop found.end bytes.now)) }
+    ensures moment { IfSome result (λ found. BeginsWithMoment bytes.now found.moment.0
+        found.moment.1 (drop found.end bytes.now)) }
     ensures within { IfSome result (λ found. found.end ≤ length bytes.now) }
     ensures short { IfSome result (λ found. found.end ≤ LONGEST_MOMENT_LINE) }
     ensures none { IsNone result → (day minute : ℕ) (rest : List ℕ) → ¬ (BeginsWithMoment bytes.now day minute rest) }

@@ -1,25 +1,25 @@
 ghost use Rattle.std.specs.Prelude.{◌≡◌, ◌≢◌, ◌⊎◌, ℕ, ◌≤◌, List, length, Err, IfOk, IfErr, OnOk};
 ghost use Rattle.std.specs.Io.KnownBytes.{Appends};
-ghost use Rattle.pt_base.specs.Fault.{fault};
-ghost use Rattle.pt_base.specs.declared.fault.Cause.TheVariants as cause;
+ghost use Rattle.pt_base_values.specs.Fault.{fault};
+ghost use Rattle.pt_base_values.specs.declared.fault.Cause.TheVariants as cause;
 ghost use Rattle.pt_http_inbox.specs.Inbox.{reads_of};
-ghost use Rattle.pt_http.specs.Answering.{GoesOn};
-ghost use Rattle.pt_http.specs.Exchange.{Desk, desk_of, IsUnanswered, is_last};
-ghost use Rattle.pt_store.specs.Store.{Store};
-ghost use Rattle.pt_http.specs.Input.{HasInput};
-ghost use Rattle.pt_rehearsal.specs.Moments.{IsNext};
+ghost use Rattle.pt_http_exchange.specs.Answering.{GoesOn};
+ghost use Rattle.pt_http_exchange.specs.Exchange.{Desk, desk_of, IsUnanswered, is_last};
+ghost use Rattle.pt_desk_store.specs.Store.{Store};
+ghost use Rattle.pt_http_exchange.specs.Input.{HasInput};
+ghost use Rattle.pt_http_rehearsal.specs.Moments.{IsNext};
 ghost use Rattle.pt_http_request.specs.Targets.{desk_routes};
-ghost use Rattle.pt_rehearsal.specs.Rehearsal.{most_messages, Exchanged, Rehearses, IsFinished, HasBadLine};
-ghost use Rattle.pt_rehearsal.specs.Rehearsal.{IsRehearsalFault};
+ghost use Rattle.pt_http_rehearsal.specs.Rehearsal.{most_messages, Exchanged, Rehearses, IsFinished, HasBadLine};
+ghost use Rattle.pt_http_rehearsal.specs.Rehearsal.{IsRehearsalFault, ServesSome};
 
 use crate::moment::{LONGEST_MOMENT_LINE, moment_at};
 use matchit::Router;
-use pt_base::{Cause, Fault, Moment};
-use pt_http::exchange;
+use pt_base_values::{Cause, Fault, Moment};
+use pt_desk_store::Keeper;
+use pt_http_exchange::exchange;
 use pt_http_inbox::Inbox;
 use pt_http_reply::Response;
 use pt_http_request::{Path, RequestFault, desk_router};
-use pt_store::Keeper;
 use std::alloc::Global;
 use std::io::{Read, Write};
 
@@ -80,6 +80,10 @@ fn go_through<K: Keeper, R: Read + Drop, W: Write>(
         × (error ≢ fault cause.WriteFailed → Appends (W.contents out.old) (W.contents out.new) written)
         × (error ≡ fault cause.MomentLine → HasBadLine rest)
         × (length messages ≤ most_messages)) }
+    // This holds whatever the reader gives, also if its bytes are not known.
+    ensures served { (K.store keeper.new).doubt ≡ 0
+        → ServesSome (desk_of (K.store keeper.old)) (desk_of (K.store keeper.new)) (W.contents out.old)
+        (W.contents out.new) result }
     ensures fault { IfErr result IsRehearsalFault }
     ensures goes { GoesOn (K.store keeper.old) (K.store keeper.new) }
 {
@@ -122,6 +126,10 @@ pub fn rehearse<K: Keeper, R: Read + Drop, W: Write>(
         × (error ≢ fault cause.WriteFailed → Appends (W.contents out.old) (W.contents out.new) written)
         × (error ≡ fault cause.MomentLine → HasBadLine rest)
         × (length messages ≤ most_messages)) }
+    // This holds whatever the reader gives, also if its bytes are not known.
+    ensures served { (K.store keeper.new).doubt ≡ 0
+        → ServesSome (desk_of (K.store keeper.old)) (desk_of (K.store keeper.new)) (W.contents out.old)
+        (W.contents out.new) result }
     ensures fault { IfErr result IsRehearsalFault }
     ensures goes { GoesOn (K.store keeper.old) (K.store keeper.new) }
 {

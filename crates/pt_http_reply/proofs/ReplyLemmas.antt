@@ -3,13 +3,13 @@ use Rattle.std.proofs.Common.{◌≡◌, ◌≤◌, List, [], ◌++◌, codes, l
 use denote.Ref.{Bor}
 use Rattle.std.specs.Prelude.{option_map}
 use Rattle.http.specs.StatusCode.{reason_phrase}
-use Rattle.pt_base.specs.declared.rule.Rule.TheVariants as rule
+use Rattle.pt_base_values.specs.declared.rule.Rule.TheVariants as rule
 use Rattle.pt_http_request.specs.declared.fault.RequestFault.TheVariants as fault
-use Rattle.pt_rights.specs.declared.case_file.Standing.{Standing}
-use Rattle.pt_rights.specs.declared.case_file.Standing.TheVariants as standing
-use Rattle.pt_store.specs.declared.keeper.StoreFault.TheVariants.{Memory, Store}
-use Rattle.pt_requests.specs.declared.request.Answer.{Answer}
-use Rattle.pt_requests.specs.declared.request.Answer.TheVariants as answer
+use Rattle.pt_rights_files.specs.declared.case_file.Standing.{Standing}
+use Rattle.pt_rights_files.specs.declared.case_file.Standing.TheVariants as standing
+use Rattle.pt_desk_store.specs.declared.keeper.StoreFault.TheVariants.{Memory, Store}
+use Rattle.pt_desk_requests.specs.declared.request.Answer.{Answer}
+use Rattle.pt_desk_requests.specs.declared.request.Answer.TheVariants as answer
 use Rattle.pt_http_reply.proofs.TripLemmas.{IsDateText-unique, trips_body-unique}
 use Rattle.pt_http_reply.specs.Body.{granted_body, IsStandingBody, IsAnswerBody, IsBody}
 use Rattle.pt_http_reply.specs.Reply.{bytes_in}

@@ -2,9 +2,9 @@
 use Rattle.std.proofs.Common.{◌≡◌, ℕ, ◌+◌, ◌<◌, ◌≤◌, List, [], ◌∷◌, ◌++◌, codes, length, get_or, take, ℤ, pos, refl, sym, ap, subst, ◌∙◌, arith, append_assoc, length-take}
 use Rattle.std.specs.List.{join_with_byte}
 use Rattle.std.proofs.lemmas.List.{take_more, nil_from_length}
-use Rattle.pt_base.proofs.CalendarLemmas.{IsDateText-text}
-use Rattle.pt_base.specs.DateText.{IsDateText}
-use Rattle.pt_base.specs.declared.trip.Trip.{Trip}
+use Rattle.pt_base_values.proofs.CalendarLemmas.{IsDateText-text}
+use Rattle.pt_base_values.specs.DateText.{IsDateText}
+use Rattle.pt_base_values.specs.declared.trip.Trip.{Trip}
 use Rattle.pt_http_reply.specs.Trips.{trip_object, IsTripText, AreTripTexts, IsTripsBody}
 
 -- a day has one text

@@ -1,19 +1,19 @@
 -- Bodies of replies: compact JSON with keys in byte order, and texts such as manifests and letters.
 use Rattle.std.specs.Prelude.{◌≡◌, ℕ, List, ◌++◌, Bool, true, false, map, codes, decimal, pos, Ok, Err}
 use Rattle.std.specs.List.{join_with_byte}
-use Rattle.pt_base.specs.DateText.{IsDateText}
-use Rattle.pt_base.specs.Rule.{name_of}
-use Rattle.pt_rights.specs.declared.case_file.Standing.{Standing}
-use Rattle.pt_rights.specs.declared.case_file.Standing.TheVariants as standing
-use Rattle.pt_rights.specs.declared.conditions.Condition.{Condition}
-use Rattle.pt_rights.specs.declared.entry.Grant.{Grant}
-use Rattle.pt_conditions.specs.Texts.{condition_text}
-use Rattle.pt_store.specs.declared.keeper.StoreFault.TheVariants.{Memory, Store}
+use Rattle.pt_base_values.specs.DateText.{IsDateText}
+use Rattle.pt_base_values.specs.Rule.{name_of}
+use Rattle.pt_rights_files.specs.declared.case_file.Standing.{Standing}
+use Rattle.pt_rights_files.specs.declared.case_file.Standing.TheVariants as standing
+use Rattle.pt_rights_files.specs.declared.conditions.Condition.{Condition}
+use Rattle.pt_rights_files.specs.declared.entry.Grant.{Grant}
+use Rattle.pt_rights_conditions.specs.Texts.{condition_text}
+use Rattle.pt_desk_store.specs.declared.keeper.StoreFault.TheVariants.{Memory, Store}
 use Rattle.pt_manifest.specs.Export.{trips_text}
 use Rattle.pt_manifest.specs.Letters.{letter_text}
 use Rattle.pt_manifest.specs.Manifests.{day_sheet_text, manifest_text}
-use Rattle.pt_requests.specs.declared.request.Answer.{Answer}
-use Rattle.pt_requests.specs.declared.request.Answer.TheVariants as answer
+use Rattle.pt_desk_requests.specs.declared.request.Answer.{Answer}
+use Rattle.pt_desk_requests.specs.declared.request.Answer.TheVariants as answer
 use Rattle.pt_http_request.specs.Names.{fault_name, field_name}
 use Rattle.pt_http_request.specs.declared.fault.RequestFault.{RequestFault}
 use Rattle.pt_http_request.specs.declared.fault.RequestFault.TheVariants as fault

@@ -1,8 +1,8 @@
 -- A reply before it is written.
 use Rattle.std.specs.Prelude.{◌≡◌, ◌≤◌, ◌⊎◌, ℕ, List, ◌++◌, length, Bool, true, false, Ok, Err}
-use Rattle.pt_store.specs.declared.keeper.StoreFault.TheVariants.{Memory}
-use Rattle.pt_requests.specs.declared.request.Answer.{Answer}
-use Rattle.pt_requests.specs.declared.request.Answer.TheVariants as answer
+use Rattle.pt_desk_store.specs.declared.keeper.StoreFault.TheVariants.{Memory}
+use Rattle.pt_desk_requests.specs.declared.request.Answer.{Answer}
+use Rattle.pt_desk_requests.specs.declared.request.Answer.TheVariants as answer
 use Rattle.pt_http_reply.specs.declared.body.Body.{Body}
 use Rattle.pt_http_reply.specs.declared.body.Body.TheVariants.{Fixed, Grown}
 use Rattle.pt_http_reply.specs.declared.reply_bytes.ReplyBytes.{ReplyBytes}

@@ -1,7 +1,7 @@
 -- Replies in bytes, as HTTP/1.1 messages (RFC 9112).
 use Rattle.std.specs.Prelude.{◌≡◌, ℕ, List, [], ◌++◌, length, codes, decimal, Ok, Err}
-use Rattle.pt_base.specs.declared.rule.Rule.TheVariants.{Key}
-use Rattle.pt_requests.specs.declared.request.Answer.TheVariants as answer
+use Rattle.pt_base_values.specs.declared.rule.Rule.TheVariants.{Key}
+use Rattle.pt_desk_requests.specs.declared.request.Answer.TheVariants as answer
 use Rattle.pt_http_request.specs.Names.{method_name, status_of_fault}
 use Rattle.pt_http_request.specs.declared.fault.RequestFault.TheVariants as fault
 use Rattle.http.specs.StatusCode.{status_text}

@@ -1,7 +1,7 @@
 -- Status codes of denials (RFC 9110, section 15).
 use Rattle.std.specs.Prelude.{ℕ}
-use Rattle.pt_base.specs.declared.rule.Rule.{Rule}
-use Rattle.pt_base.specs.declared.rule.Rule.TheVariants as rule
+use Rattle.pt_base_values.specs.declared.rule.Rule.{Rule}
+use Rattle.pt_base_values.specs.declared.rule.Rule.TheVariants as rule
 
 -- A wrong key, number or caller and a missing record have their own status. Every other rule has 422, Unprocessable
 -- Entity.

@@ -1,12 +1,12 @@
 -- Trips in replies: compact JSON with keys in byte order.
 use Rattle.std.specs.Prelude.{◌≡◌, ℕ, List, [], ◌∷◌, ◌++◌, Option, Some, None, codes, decimal, pos}
 use Rattle.std.specs.List.{join_with_byte}
-use Rattle.pt_base.specs.DateText.{IsDateText}
-use Rattle.pt_base.specs.declared.trip.Trip.{Trip}
-use Rattle.pt_base.specs.declared.trip_status.TripStatus.{TripStatus}
-use Rattle.pt_base.specs.declared.trip_status.TripStatus.TheVariants as status
-use Rattle.pt_booking.specs.Request.{party_of}
-use Rattle.pt_requests.specs.declared.request.Confirmation.{Confirmation}
+use Rattle.pt_base_values.specs.DateText.{IsDateText}
+use Rattle.pt_base_values.specs.declared.trip.Trip.{Trip}
+use Rattle.pt_base_values.specs.declared.trip_status.TripStatus.{TripStatus}
+use Rattle.pt_base_values.specs.declared.trip_status.TripStatus.TheVariants as status
+use Rattle.pt_desk_booking.specs.Request.{party_of}
+use Rattle.pt_desk_requests.specs.declared.request.Confirmation.{Confirmation}
 use Rattle.pt_http_request.specs.declared.field_name.FieldName.TheVariants as field
 use Rattle.pt_party.specs.Fare.{due_of}
 use Rattle.pt_http_reply.specs.Json.{truth_text, quoted, member, object}

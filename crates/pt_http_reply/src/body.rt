@@ -6,11 +6,12 @@ use crate::standing::{standing_body, visitor_body};
 use crate::trips::{confirmation_body, trips_body};
 use crate::{ReplyBuffer, Response};
 use itoa::Buffer;
+use pt_base_values::Fault;
+use pt_desk_requests::Answer;
+use pt_desk_store::StoreFault;
 use pt_http_request::RequestFault;
 use pt_manifest::{day_sheet, decision_letter, manifest, trips_csv};
-use pt_requests::Answer;
-use pt_store::StoreFault;
-use std::alloc::{AllocError, Global};
+use std::alloc::Global;
 
 /// The body of a reply.
 #[derive(Drop)]
@@ -22,7 +23,7 @@ pub(crate) enum Body {
 }
 
 /// The body of the reply. The error is out of memory for the answer to a read.
-pub(crate) fn body_of(alloc: Global, response: &Response) -> Result<Body, AllocError>
+pub(crate) fn body_of(alloc: Global, response: &Response) -> Result<Body, Fault>
     ensures text { IfOk result (λ body. IsBody response.now (bytes_in body)) }
     ensures short { IfOk result IsShort }
     ensures fixed { is_told response.now ≡ false → IfOk result IsFixed }

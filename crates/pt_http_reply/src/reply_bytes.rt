@@ -5,7 +5,7 @@ ghost use Rattle.pt_http_reply.specs.Response.{IsReplyText, head_text};
 use crate::body::{Body, body_of, denial_body};
 use crate::response::write_head;
 use crate::{ReplyBuffer, Response};
-use pt_store::StoreFault;
+use pt_desk_store::StoreFault;
 use std::alloc::Global;
 
 /// A reply in bytes, complete before any of them is written.

@@ -7,10 +7,10 @@ use crate::status::status_of_rule;
 use crate::{ContentType, ReplyBuffer};
 use http::StatusCode;
 use itoa::Buffer;
-use pt_base::Rule;
+use pt_base_values::Rule;
+use pt_desk_requests::Answer;
+use pt_desk_store::Reply;
 use pt_http_request::RequestFault;
-use pt_requests::Answer;
-use pt_store::Reply;
 
 /// The reply to the bytes of a request.
 #[derive(Drop)]

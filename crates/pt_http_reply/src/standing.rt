@@ -1,11 +1,12 @@
 ghost use Rattle.std.specs.Prelude.{◌≡◌, ◌++◌, ℕ, List, pos, IfOk, OnOk};
-ghost use Rattle.pt_base.specs.DateText.{IsDateText};
+ghost use Rattle.pt_base_values.specs.DateText.{IsDateText};
 ghost use Rattle.pt_http_reply.specs.Body.{condition_json, conditions_text, named_standing_body, granted_body};
 ghost use Rattle.pt_http_reply.specs.Body.{visitor_body, IsStandingBody};
 
 use crate::json::{push, truth_text};
-use pt_conditions::condition_text;
-use pt_rights::{Condition, Conditions, Grant, Standing};
+use pt_base_values::Fault;
+use pt_rights_conditions::condition_text;
+use pt_rights_files::{Condition, Conditions, Grant, Standing};
 use std::alloc::{AllocError, Global};
 
 /// The body with a resident's standing. The error is out of memory.
@@ -13,13 +14,13 @@ pub(crate) fn standing_body(
     alloc: Global,
     standing: &Standing,
     suspended: bool,
-) -> Result<Vec<u8>, AllocError>
+) -> Result<Vec<u8>, Fault>
     ensures { IfOk result (λ body. IsStandingBody standing.now suspended body.items) }
 {
     match standing {
-        Standing::Presumed => named_body(alloc, "presumed", suspended),
-        Standing::AppealOverdue => named_body(alloc, "appeal-overdue", suspended),
-        Standing::None => named_body(alloc, "none", suspended),
+        Standing::Presumed => Ok(named_body(alloc, "presumed", suspended)?),
+        Standing::AppealOverdue => Ok(named_body(alloc, "appeal-overdue", suspended)?),
+        Standing::None => Ok(named_body(alloc, "none", suspended)?),
         Standing::Granted(grant) => granted_body(alloc, grant, suspended),
     }
 }
@@ -46,7 +47,7 @@ fn named_body(alloc: Global, name: &str, suspended: bool) -> Result<Vec<u8>, All
 }
 
 /// The body of a grant.
-fn granted_body(alloc: Global, grant: &Grant, suspended: bool) -> Result<Vec<u8>, AllocError>
+fn granted_body(alloc: Global, grant: &Grant, suspended: bool) -> Result<Vec<u8>, Fault>
     ensures { IfOk result (λ body. (until : List ℕ) × IsDateText (pos grant.now.until) until
         × (body.items ≡ granted_body grant.now suspended until)) }
 {

@@ -2,7 +2,7 @@ ghost use Rattle.std.specs.Prelude.{◌≡◌};
 ghost use Rattle.pt_http_reply.specs.Status.{status_of_rule};
 
 use http::StatusCode;
-use pt_base::Rule;
+use pt_base_values::Rule;
 
 /// The status of a denial by this rule.
 pub(crate) fn status_of_rule(rule: Rule) -> StatusCode

@@ -5,13 +5,13 @@ ghost use Rattle.pt_http_reply.specs.Trips.{IsTripList, IsTripsBody};
 
 use crate::ReplyBuffer;
 use crate::json::{MemberValue, object, push};
-use pt_base::{Minute, Trip, TripStatus};
-use pt_booking::party_of;
+use pt_base_records::Rows;
+use pt_base_values::{Fault, Minute, Trip, TripStatus};
+use pt_desk_booking::party_of;
+use pt_desk_requests::Confirmation;
 use pt_http_request::FieldName;
 use pt_party::due;
-use pt_records::Rows;
-use pt_requests::Confirmation;
-use std::alloc::{AllocError, Global};
+use std::alloc::Global;
 
 /// The body with the confirmation of a booked trip.
 pub(crate) fn confirmation_body(told: &Confirmation) -> ReplyBuffer
@@ -38,7 +38,7 @@ pub(crate) fn confirmation_body(told: &Confirmation) -> ReplyBuffer
 }
 
 /// The body with a rider's trips. The error is out of memory.
-pub(crate) fn trips_body(alloc: Global, trips: &Rows<Trip>) -> Result<Vec<u8>, AllocError>
+pub(crate) fn trips_body(alloc: Global, trips: &Rows<Trip>) -> Result<Vec<u8>, Fault>
     ensures { IfOk result (λ body. IsTripsBody trips.now body.items) }
 {
     let mut body = Vec::new(alloc);
@@ -49,7 +49,7 @@ pub(crate) fn trips_body(alloc: Global, trips: &Rows<Trip>) -> Result<Vec<u8>, A
 }
 
 /// Adds the trips as JSON objects, with a comma between each two.
-fn write_trips(alloc: Global, trips: &[Trip], out: &mut Vec<u8>) -> Result<(), AllocError>
+fn write_trips(alloc: Global, trips: &[Trip], out: &mut Vec<u8>) -> Result<(), Fault>
     ensures { OnOk result ((text : List ℕ) × IsTripList trips.now text
         × (out.new.items ≡ out.old.items ++ text)) }
 {

@@ -5,15 +5,15 @@ use Rattle.std.proofs.lemmas.Bool.{cases_eq, leb-true, le-leb}
 use Rattle.std.proofs.lemmas.Slice.Eq.{bytes_eq-Decides}
 use Rattle.std.specs.List.{range_with_len}
 use Rattle.std.specs.Prelude.{bytes_eq, cond, filter, find, nat_le, Option, IsSome, IfSome, ◌↔◌}
-use Rattle.pt_conditions.proofs.TextLemmas.{condition_text-injective}
-use Rattle.pt_conditions.specs.Texts.{condition_text, SpellsCondition}
-use Rattle.pt_rights.specs.Conditions.{IsCondition, IsConditions}
-use Rattle.pt_rights.specs.Limits.{most_conditions}
-use Rattle.pt_rights.specs.Months.{numbers_of}
-use Rattle.pt_rights.specs.declared.conditions.Condition.{Condition}
-use Rattle.pt_rights.specs.declared.conditions.Condition.TheVariants.{Always, Months, Farther, NoLift}
-use Rattle.pt_base.proofs.ChoiceLemmas.{Decides-within, test-read}
-use Rattle.pt_base.specs.SpelledNumber.{is_within}
+use Rattle.pt_rights_conditions.proofs.TextLemmas.{condition_text-injective}
+use Rattle.pt_rights_conditions.specs.Texts.{condition_text, SpellsCondition}
+use Rattle.pt_rights_files.specs.Conditions.{IsCondition, IsConditions}
+use Rattle.pt_rights_files.specs.Limits.{most_conditions}
+use Rattle.pt_rights_files.specs.Months.{numbers_of}
+use Rattle.pt_rights_files.specs.declared.conditions.Condition.{Condition}
+use Rattle.pt_rights_files.specs.declared.conditions.Condition.TheVariants.{Always, Months, Farther, NoLift}
+use Rattle.pt_base_values.proofs.ChoiceLemmas.{Decides-within, test-read}
+use Rattle.pt_base_values.specs.SpelledNumber.{is_within}
 use Rattle.pt_http_request.specs.Entries.{few}
 use Rattle.pt_http_request.specs.Conditions.{mark_sets, month_sets, distances, conditions, condition_from}
 

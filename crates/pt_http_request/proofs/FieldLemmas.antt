@@ -10,13 +10,13 @@ use Rattle.std.specs.Prelude.{Decides, Result, Ok, Err, IfOk, IfErr, IsSome, IfS
 use Rattle.std.specs.Prelude.{option_and_then}
 use Rattle.serde_json.specs.Data.{Data}
 use Rattle.serde_json.specs.Find.{get}
-use Rattle.pt_base.specs.Place.{IsCoordinate}
-use Rattle.pt_base.specs.declared.place.Place.{Place}
-use Rattle.pt_base.specs.declared.policy.Policy.{Policy}
-use Rattle.pt_base.specs.declared.vehicle.Vehicle.{Vehicle}
-use Rattle.pt_base.proofs.ChoiceLemmas.{Decides-within, test-read}
-use Rattle.pt_base.specs.SpelledNumber.{is_within}
-use Rattle.pt_rights.specs.Reasons.{IsPrintable, IsReasons}
+use Rattle.pt_base_values.specs.Place.{IsCoordinate}
+use Rattle.pt_base_values.specs.declared.place.Place.{Place}
+use Rattle.pt_base_values.specs.declared.policy.Policy.{Policy}
+use Rattle.pt_base_values.specs.declared.vehicle.Vehicle.{Vehicle}
+use Rattle.pt_base_values.proofs.ChoiceLemmas.{Decides-within, test-read}
+use Rattle.pt_base_values.specs.SpelledNumber.{is_within}
+use Rattle.pt_rights_files.specs.Reasons.{IsPrintable, IsReasons}
 use Rattle.pt_http_request.specs.Names.{field_name}
 use Rattle.pt_http_request.specs.declared.field_name.FieldName.{FieldName}
 use Rattle.pt_http_request.specs.declared.field_name.FieldName.TheVariants as field

@@ -10,7 +10,7 @@ use Rattle.matchit.specs.Rows.{RowsOf}
 use Rattle.serde_json.specs.Data.{Data}
 use Rattle.serde_json.specs.Find.{as_object}
 use Rattle.serde_json.specs.Read.{read}
-use Rattle.pt_base.specs.SpelledNumber.{SpellsNumber}
+use Rattle.pt_base_values.specs.SpelledNumber.{SpellsNumber}
 use Rattle.pt_http_request.specs.declared.fault.AllowedMethod.{AllowedMethod}
 use Rattle.pt_http_request.specs.declared.fault.AllowedMethod.TheVariants as way
 use Rattle.pt_http_request.specs.declared.field_name.FieldName.{FieldName}

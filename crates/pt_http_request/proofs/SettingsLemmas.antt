@@ -3,10 +3,10 @@ use Rattle.std.proofs.Common.{◌≡◌, ◌∙◌, ℕ, zero, suc, ◌+◌, ◌
 use Rattle.std.proofs.Common.{false, length, get_or, map, take, ap, sym, refl, arith}
 use Rattle.std.proofs.lemmas.List.{map-append, take_more, take_all}
 use Rattle.std.specs.Prelude.{◌≤◌, ◌==◌, ◌||◌, option_map, option_and_then, slice_set}
-use Rattle.pt_base.specs.Weekday.{number_of}
-use Rattle.pt_base.specs.declared.weekday.Weekday.{Weekday}
-use Rattle.pt_base.specs.declared.weekday.Weekday.TheVariants.{Monday, Tuesday, Wednesday, Thursday, Friday, Saturday}
-use Rattle.pt_base.specs.declared.weekday.Weekday.TheVariants.{Sunday}
+use Rattle.pt_base_values.specs.Weekday.{number_of}
+use Rattle.pt_base_values.specs.declared.weekday.Weekday.{Weekday}
+use Rattle.pt_base_values.specs.declared.weekday.Weekday.TheVariants.{Monday, Tuesday, Wednesday, Thursday, Friday, Saturday}
+use Rattle.pt_base_values.specs.declared.weekday.Weekday.TheVariants.{Sunday}
 use Rattle.serde_json.specs.Data.{Data}
 use Rattle.serde_json.specs.View.{items_of}
 use Rattle.pt_http_request.specs.Routes.{values_in, each, point_of, is_among, set_of}

@@ -1,8 +1,8 @@
 -- The caller that a body spells. Fields are read in order, and the first bad field is the fault.
 use Rattle.std.specs.Prelude.{◌==◌, ℕ, List, codes, bytes_eq, Result, Ok, Err, if◌then◌else◌}
-use Rattle.pt_requests.specs.declared.caller.Caller.{Caller}
-use Rattle.pt_requests.specs.declared.caller.Role.{Role}
-use Rattle.pt_requests.specs.declared.caller.Role.TheVariants as role
+use Rattle.pt_desk_requests.specs.declared.caller.Caller.{Caller}
+use Rattle.pt_desk_requests.specs.declared.caller.Role.{Role}
+use Rattle.pt_desk_requests.specs.declared.caller.Role.TheVariants as role
 use Rattle.serde_json.specs.Data.{Data}
 use Rattle.pt_http_request.specs.Fields.{whole_at, text_at, id_at, digest_at, ◌>>=◌}
 use Rattle.pt_http_request.specs.declared.field_name.FieldName.{FieldName}

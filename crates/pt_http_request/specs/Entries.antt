@@ -1,14 +1,14 @@
 -- The entry of a case file that a body spells. Fields are read in order, and the first bad field is the fault.
 use Rattle.std.specs.Prelude.{ℕ, List, length, codes, bytes_eq, Option, Some, None, Result, Ok, if◌then◌else◌}
 use Rattle.std.specs.Prelude.{option_and_then}
-use Rattle.pt_rights.specs.Limits.{most_conditions}
-use Rattle.pt_rights.specs.declared.conditions.Condition.{Condition}
-use Rattle.pt_rights.specs.declared.entry.Entry.{Entry}
-use Rattle.pt_rights.specs.declared.entry.Entry.TheVariants as entry
-use Rattle.pt_rights.specs.declared.entry.Grant.{Grant}
+use Rattle.pt_rights_files.specs.Limits.{most_conditions}
+use Rattle.pt_rights_files.specs.declared.conditions.Condition.{Condition}
+use Rattle.pt_rights_files.specs.declared.entry.Entry.{Entry}
+use Rattle.pt_rights_files.specs.declared.entry.Entry.TheVariants as entry
+use Rattle.pt_rights_files.specs.declared.entry.Grant.{Grant}
 use Rattle.serde_json.specs.Data.{Data}
 use Rattle.serde_json.specs.Find.{get, as_str}
-use Rattle.pt_base.specs.SpelledNumber.{is_within}
+use Rattle.pt_base_values.specs.SpelledNumber.{is_within}
 use Rattle.pt_http_request.specs.Conditions.{condition_from}
 use Rattle.pt_http_request.specs.Fields.{text_at, day_at, reasons_at, number_within, needed, result_map, ◌>>=◌}
 use Rattle.pt_http_request.specs.Numbers.{last_position}

@@ -8,9 +8,9 @@ use Rattle.hex.specs.Hex.{decode_sized}
 use Rattle.hex.specs.declared.error.FromHexError.{FromHexError}
 use Rattle.serde_json.specs.Data.{Data}
 use Rattle.serde_json.specs.Find.{get, as_bool, as_null, as_number, as_u64, as_str}
-use Rattle.pt_base.specs.SpelledDay.{day_from}
-use Rattle.pt_base.specs.SpelledNumber.{is_within}
-use Rattle.pt_rights.specs.Reasons.{longest_reasons}
+use Rattle.pt_base_values.specs.SpelledDay.{day_from}
+use Rattle.pt_base_values.specs.SpelledNumber.{is_within}
+use Rattle.pt_rights_files.specs.Reasons.{longest_reasons}
 use Rattle.pt_http_request.specs.Numbers.{id_of}
 use Rattle.pt_http_request.specs.Names.{field_name}
 use Rattle.pt_http_request.specs.declared.field_name.FieldName.{FieldName}

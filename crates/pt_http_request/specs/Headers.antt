@@ -2,7 +2,7 @@
 use Rattle.std.specs.Prelude.{◌≡◌, ◌⊎◌, ◌<◌, ℕ, List, [], ◌∷◌, codes, map, filter, length, bytes_eq, Bool, Option, Some}
 use Rattle.std.specs.Prelude.{None, Result, Ok, Err}
 use Rattle.std.specs.Char.{to_ascii_lowercase}
-use Rattle.pt_base.specs.SpelledNumber.{SpellsNumber, number_from}
+use Rattle.pt_base_values.specs.SpelledNumber.{SpellsNumber, number_from}
 use Rattle.pt_http_inbox.specs.Reads.{longest_body}
 use Rattle.pt_http_request.specs.Fields.{needed}
 use Rattle.pt_http_request.specs.declared.field_name.FieldName.{FieldName}

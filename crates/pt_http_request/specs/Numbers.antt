@@ -1,8 +1,8 @@
 -- Numbers in decimal digits, as paths and headers have them.
 use Rattle.std.specs.Prelude.{ℕ, ◌^◌, ◌-◌, ◌&&◌, List, nat_lt, Option, Some, None}
 use Rattle.std.specs.Prelude.{option_and_then, if◌then◌else◌}
-use Rattle.pt_base.specs.SpelledNumber.{number_from}
-use Rattle.pt_rights.specs.Limits.{most_entries}
+use Rattle.pt_base_values.specs.SpelledNumber.{number_from}
+use Rattle.pt_rights_files.specs.Limits.{most_entries}
 
 -- the number, if a record may have it: 1 to 4,294,967,295
 abbrev pub id_of : ℕ → Option ℕ

@@ -4,8 +4,8 @@ use Rattle.std.specs.Prelude.{option_and_then, if◌then◌else◌}
 use Rattle.std.proofs.lemmas.Bool.{and_parts}
 use Rattle.std.proofs.lemmas.Float.{T_from_true}
 use Rattle.std.specs.Int.Signed.{le_z_yes}
-use Rattle.pt_base.specs.Place.{IsCoordinate}
-use Rattle.pt_base.specs.declared.place.Place.{Place}
+use Rattle.pt_base_values.specs.Place.{IsCoordinate}
+use Rattle.pt_base_values.specs.declared.place.Place.{Place}
 use Rattle.serde_json.specs.Data.{Data}
 use Rattle.serde_json.specs.Find.{get, as_number, as_i64}
 use Rattle.pt_http_request.specs.Fields.{truth_at, id_at, needed, tested, ◌>>=◌}

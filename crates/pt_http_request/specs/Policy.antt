@@ -1,7 +1,7 @@
 -- The policy that a body spells. Fields are read in order, and the first bad field is the fault.
 use Rattle.std.specs.Prelude.{Result, Ok}
-use Rattle.pt_base.specs.Ranges.{highest_fare}
-use Rattle.pt_base.specs.declared.policy.Policy.{Policy}
+use Rattle.pt_base_values.specs.Ranges.{highest_fare}
+use Rattle.pt_base_values.specs.declared.policy.Policy.{Policy}
 use Rattle.serde_json.specs.Data.{Data}
 use Rattle.pt_http_request.specs.Fields.{ranged_at, ◌>>=◌}
 use Rattle.pt_http_request.specs.declared.field_name.FieldName.{FieldName}

@@ -1,8 +1,8 @@
 -- The rider's record that a body spells. Fields are read in order, and the first bad field is the fault.
 use Rattle.std.specs.Prelude.{ℕ, List, codes, bytes_eq, Option, Some, None, Result, Ok, if◌then◌else◌}
-use Rattle.pt_base.specs.declared.rider.Residence.{Residence}
-use Rattle.pt_base.specs.declared.rider.Residence.TheVariants as residence
-use Rattle.pt_base.specs.declared.rider.Rider.{Rider}
+use Rattle.pt_base_values.specs.declared.rider.Residence.{Residence}
+use Rattle.pt_base_values.specs.declared.rider.Residence.TheVariants as residence
+use Rattle.pt_base_values.specs.declared.rider.Rider.{Rider}
 use Rattle.serde_json.specs.Data.{Data}
 use Rattle.pt_http_request.specs.Fields.{text_at, truth_at, truth_if_any_at, id_at, needed, ◌>>=◌}
 use Rattle.pt_http_request.specs.declared.field_name.FieldName.{FieldName}

@@ -11,8 +11,8 @@ use Rattle.matchit.specs.Router.{RouteOf, route_from}
 use Rattle.matchit.specs.Rows.{RowsOf}
 use Rattle.matchit.specs.Seek.{first}
 use Rattle.matchit.specs.declared.error.InsertError.{InsertError}
-use Rattle.pt_base.specs.SpelledDay.{day_from}
-use Rattle.pt_requests.specs.declared.request.Read.TheVariants as read
+use Rattle.pt_base_values.specs.SpelledDay.{day_from}
+use Rattle.pt_desk_requests.specs.declared.request.Read.TheVariants as read
 use Rattle.pt_http_request.specs.Numbers.{id_from, position_from}
 use Rattle.pt_http_request.specs.declared.targets.Path.{Path}
 use Rattle.pt_http_request.specs.declared.targets.Path.TheVariants as path

@@ -1,10 +1,10 @@
 -- The wish or the outcome of a trip that a body spells. Fields are read in order, and the first bad field is the fault.
 use Rattle.std.specs.Prelude.{ℕ, List, codes, bytes_eq, Option, Some, None, Result, Ok}
 use Rattle.std.specs.Prelude.{if◌then◌else◌}
-use Rattle.pt_base.specs.Ranges.{last_minute}
-use Rattle.pt_base.specs.declared.trip.Wish.{Wish}
-use Rattle.pt_rights.specs.declared.tally.Outcome.{Outcome}
-use Rattle.pt_rights.specs.declared.tally.Outcome.TheVariants as outcome
+use Rattle.pt_base_values.specs.Ranges.{last_minute}
+use Rattle.pt_base_values.specs.declared.trip.Wish.{Wish}
+use Rattle.pt_rights_files.specs.declared.tally.Outcome.{Outcome}
+use Rattle.pt_rights_files.specs.declared.tally.Outcome.TheVariants as outcome
 use Rattle.serde_json.specs.Data.{Data}
 use Rattle.serde_json.specs.Find.{get}
 use Rattle.pt_http_request.specs.Fields.{text_at, truth_at, id_at, day_at, number_within, holds_nothing, needed, ◌>>=◌}

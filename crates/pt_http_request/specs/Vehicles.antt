@@ -1,8 +1,8 @@
 -- The vehicle that a body spells. Fields are read in order, and the first bad field is the fault.
 use Rattle.std.specs.Prelude.{nat_le, if◌then◌else◌, Result, Ok, refl}
 use Rattle.std.proofs.lemmas.Bool.{leb-true}
-use Rattle.pt_base.specs.Ranges.{last_minute}
-use Rattle.pt_base.specs.declared.vehicle.Vehicle.{Vehicle}
+use Rattle.pt_base_values.specs.Ranges.{last_minute}
+use Rattle.pt_base_values.specs.declared.vehicle.Vehicle.{Vehicle}
 use Rattle.serde_json.specs.Data.{Data}
 use Rattle.serde_json.specs.Find.{get}
 use Rattle.pt_http_request.specs.Fields.{id_at, day_at, number_within, ranged_at, needed, tested, ◌>>=◌}

@@ -1,11 +1,11 @@
 ghost use Rattle.std.specs.Prelude.{◌≡◌};
-ghost use Rattle.pt_requests.specs.declared.caller.Role.{Role};
+ghost use Rattle.pt_desk_requests.specs.declared.caller.Role.{Role};
 ghost use Rattle.serde_json.specs.View.{view};
 ghost use Rattle.pt_http_request.specs.Callers.{role_alone, role_named, caller_in};
 
 use crate::FieldName;
 use crate::fields::{digest_at, id_at, text_at, whole_at};
-use pt_requests::{Caller, Role};
+use pt_desk_requests::{Caller, Role};
 use serde_json::Value;
 
 /// A role that names nobody: its subject must be 0.

@@ -5,8 +5,8 @@ ghost use Rattle.pt_http_request.specs.Entries.{condition_in, conditions_from, c
 use crate::FieldName;
 use crate::routes::values_of;
 use arrayvec::ArrayVec;
-use pt_conditions::condition_from;
-use pt_rights::{Condition, Conditions, MOST_CONDITIONS};
+use pt_rights_conditions::condition_from;
+use pt_rights_files::{Condition, Conditions, MOST_CONDITIONS};
 use serde_json::Value;
 
 /// The condition that a value of a list spells.

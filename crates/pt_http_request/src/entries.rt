@@ -10,7 +10,7 @@ use crate::conditions::conditions_at;
 use crate::fault::MessageFault;
 use crate::fields::{day_at, number_within, text_at};
 use crate::numbers::LAST_POSITION;
-use pt_rights::{Entry, Grant, Position, Reasons};
+use pt_rights_files::{Entry, Grant, Position, Reasons};
 use serde_json::Value;
 use std::alloc::Global;
 

@@ -1,6 +1,6 @@
 ghost use Rattle.std.specs.Prelude.{◌≡◌, Ok, Err, IfOk, IfErr};
 ghost use Rattle.std.specs.Int.{IsInRange};
-ghost use Rattle.pt_base.specs.Ranges.{last_minute};
+ghost use Rattle.pt_base_values.specs.Ranges.{last_minute};
 ghost use Rattle.serde_json.specs.View.{view};
 ghost use Rattle.serde_json.specs.Find.{get};
 ghost use Rattle.pt_http_request.specs.Names.{field_name};
@@ -10,8 +10,8 @@ ghost use Rattle.pt_http_request.specs.Numbers.{id_of};
 
 use crate::FieldName;
 use hex::FromHex;
-use pt_base::{Day, Id, LAST_MINUTE, Minute, day_from};
-use pt_requests::Digest;
+use pt_base_values::{Day, Id, LAST_MINUTE, Minute, day_from};
+use pt_desk_requests::Digest;
 use serde_json::Value;
 
 /// The whole number at a field of an object, or the field as a fault.

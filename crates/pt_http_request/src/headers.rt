@@ -7,7 +7,7 @@ ghost use Rattle.pt_http_request.specs.Headers.{same_name, values_named, IsGiven
 use crate::fault::MessageFault;
 use crate::{FieldName, RequestFault};
 use httparse::spans::HeaderSpan;
-use pt_base::number_from;
+use pt_base_values::number_from;
 use pt_http_inbox::LONGEST_BODY;
 use std::alloc::Global;
 

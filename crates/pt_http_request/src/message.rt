@@ -23,7 +23,7 @@ use crate::vehicles::vehicle_of;
 use crate::{AllowedMethod, FieldName, RequestFault};
 use httparse::spans::HeaderSpan;
 use matchit::Router;
-use pt_requests::{Read, Request, Write};
+use pt_desk_requests::{Read, Request, Write};
 use serde_json::Value;
 use std::alloc::Global;
 use std::str;

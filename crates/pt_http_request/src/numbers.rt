@@ -1,8 +1,8 @@
 ghost use Rattle.std.specs.Prelude.{◌≡◌};
 ghost use Rattle.pt_http_request.specs.Numbers.{id_from, position_from};
 
-use pt_base::{Id, number_from};
-use pt_rights::{MOST_ENTRIES, Position};
+use pt_base_values::{Id, number_from};
+use pt_rights_files::{MOST_ENTRIES, Position};
 
 /// The last position in a case file, counted from 0.
 pub(crate) const LAST_POSITION: u32 = MOST_ENTRIES as u32 - 1;

@@ -1,11 +1,11 @@
 ghost use Rattle.std.specs.Prelude.{◌≡◌, IfOk, IfErr, IfSome, Some, None, Ok, Err};
 ghost use Rattle.serde_json.specs.View.{view};
-ghost use Rattle.pt_base.specs.Place.{IsCoordinate};
+ghost use Rattle.pt_base_values.specs.Place.{IsCoordinate};
 ghost use Rattle.pt_http_request.specs.Places.{coordinate_from, coordinate, coordinate_at, place_in};
 
 use crate::FieldName;
 use crate::fields::{id_at, truth_at};
-use pt_base::{Place, Point};
+use pt_base_values::{Place, Point};
 use pt_corridor::MAX_COORDINATE;
 use serde_json::Value;
 

@@ -4,7 +4,7 @@ ghost use Rattle.pt_http_request.specs.Policy.{policy_in};
 
 use crate::FieldName;
 use crate::fields::ranged_at;
-use pt_base::{HIGHEST_FARE, Policy};
+use pt_base_values::{HIGHEST_FARE, Policy};
 use serde_json::Value;
 
 /// The policy that an object spells, or its first bad field.

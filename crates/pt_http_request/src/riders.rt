@@ -4,7 +4,7 @@ ghost use Rattle.pt_http_request.specs.Riders.{residence_named, residence_at, ri
 
 use crate::FieldName;
 use crate::fields::{id_at, text_at, truth_at, truth_if_any_at};
-use pt_base::{Residence, Rider};
+use pt_base_values::{Residence, Rider};
 use serde_json::Value;
 
 /// The residence of this name.

@@ -4,8 +4,8 @@ ghost use Rattle.pt_http_request.specs.Targets.{desk_routes, with_routes, AreTex
 
 use crate::numbers::{id_from, position_from};
 use matchit::{InsertError, ParamsIter, Router};
-use pt_base::{RiderId, TripId, day_from};
-use pt_requests::Read;
+use pt_base_values::{RiderId, TripId, day_from};
+use pt_desk_requests::Read;
 use std::alloc::Global;
 use std::str;
 

@@ -4,8 +4,8 @@ ghost use Rattle.pt_http_request.specs.Trips.{minute_if_any_at, wish_in, booking
 
 use crate::FieldName;
 use crate::fields::{day_at, id_at, minute_at, number_within, text_at, truth_at};
-use pt_base::{Minute, RiderId, Wish};
-use pt_rights::Outcome;
+use pt_base_values::{Minute, RiderId, Wish};
+use pt_rights_files::Outcome;
 use serde_json::Value;
 
 /// The minute of the day at a field of an object, or the field as a fault. It is `None` if the field is missing or

@@ -7,7 +7,7 @@ ghost use Rattle.pt_http_request.specs.Vehicles.{chairs_at, vehicle_in};
 use crate::FieldName;
 use crate::fields::{day_at, holds_nothing, id_at, minute_at, ranged_at};
 use crate::routes::days_of;
-use pt_base::{LAST_MINUTE, Vehicle};
+use pt_base_values::{LAST_MINUTE, Vehicle};
 use serde_json::Value;
 
 /// The number of a vehicle's wheelchair places, or the field as a fault. It is 0 if the field is missing or null.

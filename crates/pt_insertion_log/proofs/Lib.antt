@@ -1,3 +1,4 @@
+pub mod ExistenceLemmas
 pub mod FitLemmas
 pub mod RideLemmas
 pub mod TouchLemmas

@@ -7,7 +7,7 @@ use Rattle.pt_feasible.specs.Pairing.{IsPaired}
 use Rattle.pt_feasible.specs.Route.{stops_of}
 use Rattle.pt_feasible.proofs.LimitsLemmas.{pickup-place, picked_up_before}
 use Rattle.pt_feasible.proofs.LoadLemmas.{drop-place}
-use Rattle.pt_insertion.proofs.InsertionPairing.{IsPaired-with_trip}
+use Rattle.pt_insertion_search.proofs.InsertionPairing.{IsPaired-with_trip}
 use Rattle.pt_audit.specs.declared.insertion.Insertion.{Insertion}
 use Rattle.pt_audit.specs.Bounds.{RidesTo}
 use Rattle.pt_audit.specs.Insertion.{inserted_stops}

@@ -1,7 +1,7 @@
 -- After a raise most visits still keep their constraints.
 use Rattle.std.proofs.Common.{arith, ◌≡◌, ◌≢◌, ◌==◌, ℕ, ◌+◌, max, List, Option, length, inl, inr}
 use Rattle.std.proofs.lemmas.Bool.{cases_eq, ne_eqb, cond-false}
-use Rattle.pt_base.specs.declared.vehicle.Vehicle.{Vehicle}
+use Rattle.pt_base_values.specs.declared.vehicle.Vehicle.{Vehicle}
 use Rattle.pt_feasible.specs.declared.stop.Stop.{Stop}
 use Rattle.pt_audit.specs.declared.line.Raise.{Raise}
 use Rattle.pt_audit.specs.Bounds.{visit_of, minute_of, raised}

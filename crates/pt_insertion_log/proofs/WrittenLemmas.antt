@@ -11,8 +11,8 @@ use Rattle.pt_audit.specs.declared.line.Raise.{Raise}
 use Rattle.pt_audit.specs.declared.line.End.{End}
 use Rattle.pt_audit.specs.Bounds.{raised, IsRightRaise, IsRightEnd, AreRight}
 use Rattle.std.specs.Prelude.{Result, OnOk}
-use Rattle.pt_insertion.specs.declared.asked.Asked.{Asked}
-use Rattle.pt_insertion.specs.declared.duty.Duty.{Duty}
+use Rattle.pt_insertion_search.specs.declared.asked.Asked.{Asked}
+use Rattle.pt_insertion_search.specs.declared.duty.Duty.{Duty}
 use Rattle.pt_audit.specs.Cases.{Case, cases_of_day}
 use Rattle.pt_audit.specs.RightLog.{case_line, BeginsWithCases}
 use Rattle.pt_audit.specs.Text.{line_text, opening, closing, IsInForm}

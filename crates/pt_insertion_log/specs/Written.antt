@@ -6,8 +6,8 @@ use Rattle.pt_audit.specs.declared.line.Line.{Line}
 use Rattle.pt_audit.specs.Cases.{Case}
 use Rattle.pt_audit.specs.RightLog.{BeginsWithCases, IsRightLog}
 use Rattle.pt_audit.specs.Text.{line_text, IsInForm, IsLogText}
-use Rattle.pt_insertion.specs.declared.asked.Asked.{Asked}
-use Rattle.pt_insertion.specs.declared.duty.Duty.{Duty}
+use Rattle.pt_insertion_search.specs.declared.asked.Asked.{Asked}
+use Rattle.pt_insertion_search.specs.declared.duty.Duty.{Duty}
 
 -- the lines of these cases were written, each right
 pub record WritesCases (minutes : ℕ → ℕ → Option ℕ) (cases : List Case) (old new : Option (List ℕ)) : Type 0 where

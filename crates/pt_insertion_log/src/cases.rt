@@ -1,8 +1,8 @@
 ghost use Rattle.std.specs.Prelude.{◌≡◌, ℕ, ◌+◌, ◌<◌, ◌≤◌, [], ◌∷◌, length, IsSome, IsNone, IfSome, OnOk, IfErr};
-ghost use Rattle.pt_base.specs.Fault.{fault};
-ghost use Rattle.pt_base.specs.declared.fault.Cause.TheVariants as cause;
+ghost use Rattle.pt_base_values.specs.Fault.{fault};
+ghost use Rattle.pt_base_values.specs.declared.fault.Cause.TheVariants as cause;
 ghost use Rattle.pt_feasible.specs.Route.{stops_of};
-ghost use Rattle.pt_insertion.specs.Possible.{IsPossible};
+ghost use Rattle.pt_insertion_search.specs.Possible.{IsPossible};
 ghost use Rattle.pt_audit.specs.Insertion.{case_of, inserted_stops};
 ghost use Rattle.pt_insertion_log.specs.Steps.{IsLasting, IsClear};
 ghost use Rattle.pt_insertion_log.specs.Written.{WritesCases};
@@ -11,9 +11,9 @@ use crate::steps::{Step, next_step};
 use crate::touched::{first_touched, raised_visit};
 use crate::writing::write_line;
 use pt_audit::{End, Insertion, Line, MAX_VISITS, Raise, is_right_end, raise_bound};
-use pt_base::{Fault, Load};
+use pt_base_values::{Fault, Load};
 use pt_feasible::aboard_after;
-use pt_insertion::Spliced;
+use pt_insertion_search::Spliced;
 use pt_travel::Times;
 use std::io::Write;
 

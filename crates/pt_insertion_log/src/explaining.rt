@@ -1,9 +1,9 @@
 ghost use Rattle.std.specs.Prelude.{◌≡◌, ℕ, ◌≤◌, length, All, IsSome, OnOk, IfErr};
-ghost use Rattle.pt_base.specs.Fault.{fault};
-ghost use Rattle.pt_base.specs.declared.fault.Cause.TheVariants as cause;
+ghost use Rattle.pt_base_values.specs.Fault.{fault};
+ghost use Rattle.pt_base_values.specs.declared.fault.Cause.TheVariants as cause;
 ghost use Rattle.pt_feasible.specs.Route.{stops_of};
-ghost use Rattle.pt_insertion.specs.Insertion.{IsWithout};
-ghost use Rattle.pt_insertion.specs.Possible.{IsPossible};
+ghost use Rattle.pt_insertion_search.specs.Insertion.{IsWithout};
+ghost use Rattle.pt_insertion_search.specs.Possible.{IsPossible};
 ghost use Rattle.pt_audit.specs.Cases.{cases_of_pickup, cases_of_vehicle};
 ghost use Rattle.pt_audit.specs.RightLog.{IsNowherePossible};
 ghost use Rattle.pt_insertion_log.specs.Written.{WritesCases, WritesLines, WritesRightLog};
@@ -11,9 +11,9 @@ ghost use Rattle.pt_insertion_log.specs.Written.{WritesCases, WritesLines, Write
 use crate::cases::explain_case;
 use crate::writing::{write_bytes, write_line};
 use pt_audit::{Insertion, Line};
-use pt_base::Fault;
+use pt_base_values::Fault;
 use pt_feasible::Stops;
-use pt_insertion::{Asked, Duty};
+use pt_insertion_search::{Asked, Duty};
 use pt_travel::Times;
 use std::io::Write;
 

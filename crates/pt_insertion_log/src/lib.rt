@@ -2,9 +2,11 @@
 #![tactic(auto)]
 
 pub use explaining::explain;
+pub use law::refusals_have_logs;
 
 mod cases;
 mod explaining;
+mod law;
 mod limits;
 mod rides;
 mod steps;

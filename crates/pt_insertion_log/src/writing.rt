@@ -1,11 +1,11 @@
 ghost use Rattle.std.specs.Prelude.{◌≡◌, OnOk, IfErr};
 ghost use Rattle.std.specs.Io.KnownBytes.{Appends};
-ghost use Rattle.pt_base.specs.Fault.{fault};
-ghost use Rattle.pt_base.specs.declared.fault.Cause.TheVariants as cause;
+ghost use Rattle.pt_base_values.specs.Fault.{fault};
+ghost use Rattle.pt_base_values.specs.declared.fault.Cause.TheVariants as cause;
 ghost use Rattle.pt_audit.specs.Text.{line_text, IsInForm};
 
 use pt_audit::{Line, line_text};
-use pt_base::{Cause, Fault};
+use pt_base_values::{Cause, Fault};
 use std::io::Write;
 
 /// Writes a line; the fault is that of a failed write.

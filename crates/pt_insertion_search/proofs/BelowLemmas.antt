@@ -3,13 +3,13 @@ use Rattle.std.proofs.Common.{◌≡◌, ℕ, ◌+◌, ◌<◌, ◌≤◌, ◌�
 use Rattle.std.proofs.lemmas.Bool.{cases_lt}
 use Rattle.std.proofs.lemmas.Option.{IfSome_then}
 use Rattle.std.specs.Prelude.{⊤}
-use Rattle.pt_base.specs.declared.vehicle.Vehicle.{Vehicle}
+use Rattle.pt_base_values.specs.declared.vehicle.Vehicle.{Vehicle}
 use Rattle.pt_feasible.specs.declared.stop.Stop.{Stop}
-use Rattle.pt_insertion.specs.declared.asked.Asked.{Asked}
-use Rattle.pt_insertion.specs.declared.chosen.Chosen.{Chosen}
-use Rattle.pt_insertion.specs.Choice.{added_driving, IsChosenIn, IsNoWorseThan}
-use Rattle.pt_insertion.specs.BestBelow.{IsBestBelow, limit_after, later_of}
-use Rattle.pt_insertion.specs.Possible.{IsPossible}
+use Rattle.pt_insertion_search.specs.declared.asked.Asked.{Asked}
+use Rattle.pt_insertion_search.specs.declared.chosen.Chosen.{Chosen}
+use Rattle.pt_insertion_search.specs.Choice.{added_driving, IsChosenIn, IsNoWorseThan}
+use Rattle.pt_insertion_search.specs.BestBelow.{IsBestBelow, limit_after, later_of}
+use Rattle.pt_insertion_search.specs.Possible.{IsPossible}
 
 -- if a choice is no worse than a place, a choice that adds less driving is no worse either
 pub less_driving : (first second : Chosen) (added vehicle i j : ℕ) → second.added < first.added →

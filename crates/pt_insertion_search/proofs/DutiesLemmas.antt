@@ -4,13 +4,13 @@ use Rattle.std.specs.Prelude.{⊤, All, AllPairs, Any}
 use Rattle.std.proofs.lemmas.Bool.{cases_lt}
 use Rattle.std.proofs.lemmas.List.{get_or_read}
 use Rattle.pt_feasible.specs.Route.{stops_of}
-use Rattle.pt_insertion.specs.declared.asked.Asked.{Asked}
-use Rattle.pt_insertion.specs.declared.chosen.Chosen.{Chosen}
-use Rattle.pt_insertion.specs.declared.duty.Duty.{Duty}
-use Rattle.pt_insertion.specs.Choice.{IsChosenIn, IsNoWorseThan, IsBestIn}
-use Rattle.pt_insertion.specs.BestBelow.{IsBestBelow, limit_after, later_of}
-use Rattle.pt_insertion.specs.Possible.{IsPossible}
-use Rattle.pt_insertion.proofs.BelowLemmas.{less_driving}
+use Rattle.pt_insertion_search.specs.declared.asked.Asked.{Asked}
+use Rattle.pt_insertion_search.specs.declared.chosen.Chosen.{Chosen}
+use Rattle.pt_insertion_search.specs.declared.duty.Duty.{Duty}
+use Rattle.pt_insertion_search.specs.Choice.{IsChosenIn, IsNoWorseThan, IsBestIn}
+use Rattle.pt_insertion_search.specs.BestBelow.{IsBestBelow, limit_after, later_of}
+use Rattle.pt_insertion_search.specs.Possible.{IsPossible}
+use Rattle.pt_insertion_search.proofs.BelowLemmas.{less_driving}
 
 -- the best in the routes of the first n duties
 pub record IsBestSoFar (minutes : ℕ → ℕ → Option ℕ) (duties : List Duty) (asked : Asked) (n : ℕ) (best : Option Chosen) : Type 0 where

@@ -2,10 +2,10 @@
 use Rattle.std.proofs.Common.{◌≡◌, ℕ, suc, ◌+◌, ◌-◌, ◌<◌, ◌≤◌, List, ◌∷◌, ◌++◌, Some, length, take, drop, slice_get, ◌∙◌, arith, length-append, length-drop}
 use Rattle.std.proofs.lemmas.List.{length-take-le}
 use Rattle.pt_feasible.specs.declared.stop.Stop.{Stop}
-use Rattle.pt_insertion.specs.declared.asked.Asked.{Asked}
-use Rattle.pt_insertion.specs.Asked.{pickup_stop, drop_stop}
-use Rattle.pt_insertion.specs.Insertion.{with_trip}
-use Rattle.pt_insertion.proofs.ListLemmas.{slice_get-append_left, slice_get-append_right, slice_get-take, slice_get-drop}
+use Rattle.pt_insertion_search.specs.declared.asked.Asked.{Asked}
+use Rattle.pt_insertion_search.specs.Asked.{pickup_stop, drop_stop}
+use Rattle.pt_insertion_search.specs.Insertion.{with_trip}
+use Rattle.pt_insertion_search.proofs.ListLemmas.{slice_get-append_left, slice_get-append_right, slice_get-take, slice_get-drop}
 
 -- how many stops come before the drop
 length_before_drop : (asked : Asked) (i j : ℕ) (stops : List Stop) → i ≤ j → j ≤ length stops →

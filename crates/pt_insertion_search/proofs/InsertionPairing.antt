@@ -4,11 +4,11 @@ use Rattle.std.specs.List.{list_any}
 use Rattle.std.proofs.lemmas.Bool.{cases_lt, cases_eq, eq-eqb, and_from}
 use Rattle.pt_feasible.specs.declared.stop.Stop.{Stop}
 use Rattle.pt_feasible.specs.Pairing.{IsPickupThenDrop, is_partner, IsPaired}
-use Rattle.pt_insertion.specs.declared.asked.Asked.{Asked}
-use Rattle.pt_insertion.specs.Asked.{pickup_stop, drop_stop}
-use Rattle.pt_insertion.specs.Insertion.{with_trip, IsWithout}
-use Rattle.pt_insertion.proofs.ListLemmas.{list_any_from, list_any_to}
-use Rattle.pt_insertion.proofs.InsertionLemmas.{with_trip_before, with_trip_pickup, with_trip_between, with_trip_drop, with_trip_after}
+use Rattle.pt_insertion_search.specs.declared.asked.Asked.{Asked}
+use Rattle.pt_insertion_search.specs.Asked.{pickup_stop, drop_stop}
+use Rattle.pt_insertion_search.specs.Insertion.{with_trip, IsWithout}
+use Rattle.pt_insertion_search.proofs.ListLemmas.{list_any_from, list_any_to}
+use Rattle.pt_insertion_search.proofs.InsertionLemmas.{with_trip_before, with_trip_pickup, with_trip_between, with_trip_drop, with_trip_after}
 
 -- the place of an old stop after the trip is put in
 record IsMoved (i j old new : ℕ) : Type 0 where

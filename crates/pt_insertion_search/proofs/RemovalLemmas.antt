@@ -3,7 +3,7 @@ use Rattle.std.proofs.Common.{◌≡◌, ℕ, zero, suc, ◌+◌, ◌<◌, ◌�
 use Rattle.std.proofs.Common.{length, take, map, filter, slice_get, slice_index, inl, inr, refl, ap, sym, ◌∙◌, arith}
 use Rattle.std.proofs.lemmas.Bool.{cases_Bool}
 use Rattle.pt_feasible.specs.declared.stop.Stop.{Stop}
-use Rattle.pt_insertion.specs.Removal.{is_of_another, without_trip, times_at_others}
+use Rattle.pt_insertion_search.specs.Removal.{is_of_another, without_trip, times_at_others}
 
 -- the first place is kept, and each later one comes one after its place in the rest
 abbrev pub one_later : (ℕ → ℕ) → ℕ → ℕ

@@ -7,16 +7,16 @@ use Rattle.std.proofs.lemmas.Option.{slice_get_within}
 use Rattle.pt_feasible.specs.declared.stop.Stop.{Stop}
 use Rattle.pt_feasible.specs.declared.stop.StopKind.TheVariants.{Pickup, Drop}
 use Rattle.pt_feasible.specs.Stop.{is_pickup, is_drop, takes_aboard, lets_leave}
-use Rattle.pt_base.specs.Load.{IsWithin, FitsWithin, room_of}
-use Rattle.pt_base.specs.declared.load.Load.{Load}
-use Rattle.pt_base.proofs.LoadLemmas.{within_more}
+use Rattle.pt_base_values.specs.Load.{IsWithin, FitsWithin, room_of}
+use Rattle.pt_base_values.specs.declared.load.Load.{Load}
+use Rattle.pt_base_values.proofs.LoadLemmas.{within_more}
 use Rattle.pt_feasible.proofs.LoadLemmas.{total_of, aboard-within}
 use Rattle.pt_feasible.specs.Loads.{load_aboard}
 use Rattle.pt_feasible.specs.Pairing.{IsPickupThenDrop, is_partner, IsPaired}
-use Rattle.pt_insertion.specs.Removal.{is_of_another, without_trip, KeepsFittingLoads}
-use Rattle.pt_insertion.proofs.ListLemmas.{slice_get-take, list_any_to}
-use Rattle.pt_insertion.proofs.RemovalLemmas.{old_place, slice_get-filter, filter_keeps, old_place-rises, old_place-end, take-filter}
-use Rattle.pt_insertion.proofs.RemovalPairing.{partner_trip}
+use Rattle.pt_insertion_search.specs.Removal.{is_of_another, without_trip, KeepsFittingLoads}
+use Rattle.pt_insertion_search.proofs.ListLemmas.{slice_get-take, list_any_to}
+use Rattle.pt_insertion_search.proofs.RemovalLemmas.{old_place, slice_get-filter, filter_keeps, old_place-rises, old_place-end, take-filter}
+use Rattle.pt_insertion_search.proofs.RemovalPairing.{partner_trip}
 
 -- the stop belongs to the trip
 abbrev is_of : ℕ → Stop → Bool

@@ -3,9 +3,9 @@ use Rattle.std.proofs.Common.{◌≡◌, ℕ, true, not, ◌==◌, List, ap, sym
 use Rattle.std.proofs.lemmas.Bool.{and_parts, eqb-true}
 use Rattle.pt_feasible.specs.declared.stop.Stop.{Stop}
 use Rattle.pt_feasible.specs.Pairing.{is_partner, IsPaired}
-use Rattle.pt_insertion.specs.Removal.{is_of_another, without_trip}
-use Rattle.pt_insertion.proofs.ListLemmas.{list_any_from, list_any_to}
-use Rattle.pt_insertion.proofs.RemovalLemmas.{old_place, slice_get-filter, filter_keeps, old_place-rises}
+use Rattle.pt_insertion_search.specs.Removal.{is_of_another, without_trip}
+use Rattle.pt_insertion_search.proofs.ListLemmas.{list_any_from, list_any_to}
+use Rattle.pt_insertion_search.proofs.RemovalLemmas.{old_place, slice_get-filter, filter_keeps, old_place-rises}
 
 -- the partner of a stop belongs to the same trip
 pub partner_trip : (stop other : Stop) → is_partner stop other ≡ true → stop.trip ≡ other.trip

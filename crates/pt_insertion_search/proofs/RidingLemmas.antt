@@ -2,13 +2,13 @@
 use Rattle.std.proofs.Common.{◌≡◌, ℕ, zero, suc, get_or, ◌+◌, ◌-◌, ◌<◌, ◌≤◌, Bool, List, Option, Some, None, IsSomeAnd, length, take, slice_get, slice_index, refl, ap, sym, subst, ◌∙◌, arith, add-one}
 use Rattle.std.specs.Prelude.{filter}
 use Rattle.std.proofs.lemmas.Option.{same_Some, slice_get-get_or}
-use Rattle.pt_base.specs.Load.{load_sum, IsLoad, FitsWithin}
-use Rattle.pt_base.specs.Ranges.{last_minute}
-use Rattle.pt_base.specs.declared.load.Load.{Load}
-use Rattle.pt_base.specs.declared.vehicle.Vehicle.{Vehicle}
+use Rattle.pt_base_values.specs.Load.{load_sum, IsLoad, FitsWithin}
+use Rattle.pt_base_values.specs.Ranges.{last_minute}
+use Rattle.pt_base_values.specs.declared.load.Load.{Load}
+use Rattle.pt_base_values.specs.declared.vehicle.Vehicle.{Vehicle}
 use Rattle.pt_feasible.specs.declared.stop.Stop.{Stop}
 use Rattle.pt_feasible.specs.declared.visit.Visit.{Visit}
-use Rattle.pt_base.proofs.LoadLemmas.{fits-is_load}
+use Rattle.pt_base_values.proofs.LoadLemmas.{fits-is_load}
 use Rattle.pt_feasible.specs.Loads.{load_aboard, LoadsFit}
 use Rattle.pt_feasible.specs.Pairing.{IsPaired}
 use Rattle.pt_feasible.specs.ServiceTimes.{TimesFit}
@@ -16,20 +16,20 @@ use Rattle.pt_feasible.specs.Stop.{is_pickup, is_drop}
 use Rattle.pt_feasible.specs.Visit.{visits, depot_visit, stop_visit}
 use Rattle.pt_feasible.proofs.LoadLemmas.{total_of, aboard_of, aboard-more, load_if, total_of-next, dropped-le-picked, element_within}
 use Rattle.pt_feasible.proofs.VisitLemmas.{length-visits, visits-stop}
-use Rattle.pt_insertion.specs.declared.asked.Asked.{Asked}
-use Rattle.pt_insertion.specs.Asked.{pickup_stop, drop_stop}
-use Rattle.pt_insertion.specs.Insertion.{with_trip, IsWithout}
-use Rattle.pt_insertion.specs.Possible.{IsPossible}
-use Rattle.pt_insertion.specs.declared.bounds.Bounds.{Bounds}
-use Rattle.pt_insertion.specs.declared.window.ServiceWindow.{ServiceWindow}
-use Rattle.pt_insertion.specs.Bounds.{AreBounds, IsPickupWindow, IsDropWindow}
-use Rattle.pt_insertion.specs.Riding.{IsRiddenFor, IsServedUntil}
-use Rattle.pt_insertion.specs.TravelTimes.{KeepsTriangleLaw}
-use Rattle.pt_insertion.proofs.BetweenLemmas.{old_visit_at, old_time_between, drive_between, drop_at, drop_can_begin, is_ride, no_sooner, some_and_more}
-use Rattle.pt_insertion.proofs.InsertionLemmas.{length-with_trip, with_trip_before, with_trip_pickup, with_trip_between}
-use Rattle.pt_insertion.proofs.InsertionPairing.{IsPaired-with_trip}
-use Rattle.pt_insertion.proofs.PlaceLemmas.{without_with, old_visit-between}
-use Rattle.pt_insertion.proofs.RemovalLoads.{loads_stay}
+use Rattle.pt_insertion_search.specs.declared.asked.Asked.{Asked}
+use Rattle.pt_insertion_search.specs.Asked.{pickup_stop, drop_stop}
+use Rattle.pt_insertion_search.specs.Insertion.{with_trip, IsWithout}
+use Rattle.pt_insertion_search.specs.Possible.{IsPossible}
+use Rattle.pt_insertion_search.specs.declared.bounds.Bounds.{Bounds}
+use Rattle.pt_insertion_search.specs.declared.window.ServiceWindow.{ServiceWindow}
+use Rattle.pt_insertion_search.specs.Bounds.{AreBounds, IsPickupWindow, IsDropWindow}
+use Rattle.pt_insertion_search.specs.Riding.{IsRiddenFor, IsServedUntil}
+use Rattle.pt_insertion_search.specs.TravelTimes.{KeepsTriangleLaw}
+use Rattle.pt_insertion_search.proofs.BetweenLemmas.{old_visit_at, old_time_between, drive_between, drop_at, drop_can_begin, is_ride, no_sooner, some_and_more}
+use Rattle.pt_insertion_search.proofs.InsertionLemmas.{length-with_trip, with_trip_before, with_trip_pickup, with_trip_between}
+use Rattle.pt_insertion_search.proofs.InsertionPairing.{IsPaired-with_trip}
+use Rattle.pt_insertion_search.proofs.PlaceLemmas.{without_with, old_visit-between}
+use Rattle.pt_insertion_search.proofs.RemovalLoads.{loads_stay}
 
 -- before the pickup the load is that of the route without the trip
 load_before : (part : Load → ℕ) (p : Stop → Bool) (asked : Asked) (i j : ℕ) (stops : List Stop) (k : ℕ) → i ≤ j → j ≤ length stops → k ≤ i →

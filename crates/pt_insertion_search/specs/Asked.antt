@@ -1,7 +1,7 @@
 -- The two stops of a requested trip.
 use Rattle.pt_feasible.specs.declared.stop.Stop.{Stop}
 use Rattle.pt_feasible.specs.declared.stop.StopKind.TheVariants.{Pickup, Drop}
-use Rattle.pt_insertion.specs.declared.asked.Asked.{Asked}
+use Rattle.pt_insertion_search.specs.declared.asked.Asked.{Asked}
 
 -- the party comes aboard at the origin, in the requested window
 abbrev pub pickup_stop : Asked → Stop

@@ -1,13 +1,13 @@
 -- The choice among all places for a trip: least added driving, then the lowest vehicle, then the earliest places.
 use Rattle.std.specs.Prelude.{◌≡◌, ℕ, ◌-◌, ◌≤◌, List, Option}
-use Rattle.pt_base.specs.declared.vehicle.Vehicle.{Vehicle}
+use Rattle.pt_base_values.specs.declared.vehicle.Vehicle.{Vehicle}
 use Rattle.pt_feasible.specs.declared.stop.Stop.{Stop}
 use Rattle.pt_feasible.specs.ServiceTimes.{IsLeastSchedule}
-use Rattle.pt_insertion.specs.declared.asked.Asked.{Asked}
-use Rattle.pt_insertion.specs.declared.chosen.Chosen.{Chosen}
-use Rattle.pt_insertion.specs.Driving.{driving}
-use Rattle.pt_insertion.specs.Insertion.{with_trip}
-use Rattle.pt_insertion.specs.Possible.{IsPossible}
+use Rattle.pt_insertion_search.specs.declared.asked.Asked.{Asked}
+use Rattle.pt_insertion_search.specs.declared.chosen.Chosen.{Chosen}
+use Rattle.pt_insertion_search.specs.Driving.{driving}
+use Rattle.pt_insertion_search.specs.Insertion.{with_trip}
+use Rattle.pt_insertion_search.specs.Possible.{IsPossible}
 
 -- the driving minutes of the route with the trip less those of the route without it
 abbrev pub added_driving : (ℕ → ℕ → Option ℕ) → Vehicle → List Stop → Asked → ℕ → ℕ → ℕ

@@ -1,6 +1,6 @@
 -- The driving minutes of a route: the driving times from each visit to the next, from the depot and back to it.
 use Rattle.std.specs.Prelude.{◌≡◌, ℕ, ◌+◌, ◌-◌, List, [], ◌∷◌, ◌++◌, map, Option, Some, slice_get, unwrap_or}
-use Rattle.pt_base.specs.declared.vehicle.Vehicle.{Vehicle}
+use Rattle.pt_base_values.specs.declared.vehicle.Vehicle.{Vehicle}
 use Rattle.pt_feasible.specs.declared.stop.Stop.{Stop}
 use Rattle.pt_feasible.specs.declared.visit.Visit.{Visit}
 use Rattle.pt_feasible.specs.Visit.{visits}

@@ -1,9 +1,9 @@
 -- What is known of a search for a drop before it begins.
 use Rattle.std.specs.Prelude.{ℕ, Option}
 use Rattle.pt_feasible.specs.Route.{stops_of}
-use Rattle.pt_insertion.specs.declared.drop_search.DropSearch.{DropSearch}
-use Rattle.pt_insertion.specs.Bounds.{AreBounds, IsDropWindow}
-use Rattle.pt_insertion.specs.Insertion.{IsWithout}
+use Rattle.pt_insertion_search.specs.declared.drop_search.DropSearch.{DropSearch}
+use Rattle.pt_insertion_search.specs.Bounds.{AreBounds, IsDropWindow}
+use Rattle.pt_insertion_search.specs.Insertion.{IsWithout}
 
 -- the trip is new to the route, the bounds are the route's, and each possible drop begins in the window
 pub record IsDropSearch (minutes : ℕ → ℕ → Option ℕ) (drops : DropSearch) : Type 0 where

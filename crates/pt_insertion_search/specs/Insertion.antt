@@ -1,8 +1,8 @@
 -- A route's stops with a trip put in, the others kept in their order.
 use Rattle.std.specs.Prelude.{◌≡◌, ◌≢◌, ℕ, List, ◌∷◌, ◌++◌, Some, take, drop, slice_get}
 use Rattle.pt_feasible.specs.declared.stop.Stop.{Stop}
-use Rattle.pt_insertion.specs.declared.asked.Asked.{Asked}
-use Rattle.pt_insertion.specs.Asked.{pickup_stop, drop_stop}
+use Rattle.pt_insertion_search.specs.declared.asked.Asked.{Asked}
+use Rattle.pt_insertion_search.specs.Asked.{pickup_stop, drop_stop}
 
 -- the pickup after the first i old stops, and the drop after the first j
 unfoldable pub with_trip : Asked → ℕ → ℕ → List Stop → List Stop

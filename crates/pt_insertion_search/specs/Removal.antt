@@ -1,11 +1,11 @@
 -- A route's stops, loads and service times with a trip taken out, the others kept in their order.
 use Rattle.std.specs.Prelude.{ℕ, ◌≤◌, Bool, not, ◌==◌, if◌then◌else◌, List, [], ◌∷◌, filter, Option}
-use Rattle.pt_base.specs.Ranges.{last_minute}
-use Rattle.pt_base.specs.declared.vehicle.Vehicle.{Vehicle}
+use Rattle.pt_base_values.specs.Ranges.{last_minute}
+use Rattle.pt_base_values.specs.declared.vehicle.Vehicle.{Vehicle}
 use Rattle.pt_feasible.specs.declared.stop.Stop.{Stop}
 use Rattle.pt_feasible.specs.Loads.{LoadsFit}
 use Rattle.pt_feasible.specs.ServiceTimes.{TimesFit}
-use Rattle.pt_insertion.specs.TravelTimes.{KeepsTriangleLaw}
+use Rattle.pt_insertion_search.specs.TravelTimes.{KeepsTriangleLaw}
 
 -- the stop belongs to another trip
 abbrev pub is_of_another : ℕ → Stop → Bool

@@ -1,14 +1,14 @@
 -- The ride of a trip that is put into a route: who rides with it, and its least length.
 use Rattle.std.specs.Prelude.{◌≡◌, ℕ, ◌+◌, ◌≤◌, List, length, take, Option, Some, slice_get, slice_index}
-use Rattle.pt_base.specs.declared.vehicle.Vehicle.{Vehicle}
+use Rattle.pt_base_values.specs.declared.vehicle.Vehicle.{Vehicle}
 use Rattle.pt_feasible.specs.declared.stop.Stop.{Stop}
 use Rattle.pt_feasible.specs.declared.visit.Visit.{Visit}
 use Rattle.pt_feasible.specs.Loads.{load_aboard}
 use Rattle.pt_feasible.specs.ServiceTimes.{TimesFit}
 use Rattle.pt_feasible.specs.Visit.{visits}
-use Rattle.pt_insertion.specs.declared.asked.Asked.{Asked}
-use Rattle.pt_insertion.specs.declared.riding.Riding.{Riding}
-use Rattle.pt_insertion.specs.Insertion.{with_trip}
+use Rattle.pt_insertion_search.specs.declared.asked.Asked.{Asked}
+use Rattle.pt_insertion_search.specs.declared.riding.Riding.{Riding}
+use Rattle.pt_insertion_search.specs.Insertion.{with_trip}
 
 -- With the pickup after i old stops and the drop after j or more, the later of the pickup and the j-th visit is at this
 -- place. When its service ends, the ride has taken at least `ridden` minutes.

@@ -2,8 +2,8 @@
 use Rattle.std.specs.Prelude.{List}
 use Rattle.pt_feasible.specs.declared.stop.Stop.{Stop}
 use Rattle.pt_feasible.specs.Route.{stops_of}
-use Rattle.pt_insertion.specs.declared.spliced.Spliced.{Spliced}
-use Rattle.pt_insertion.specs.Insertion.{with_trip}
+use Rattle.pt_insertion_search.specs.declared.spliced.Spliced.{Spliced}
+use Rattle.pt_insertion_search.specs.Insertion.{with_trip}
 
 -- the stops in their order, without the depot
 abbrev pub spliced_stops : Spliced → List Stop

@@ -1,6 +1,6 @@
 -- The law of driving times on which the removal of stops from a route depends.
 use Rattle.std.specs.Prelude.{◌≡◌, ℕ, ◌+◌, ◌≤◌, Option, Some, IsSomeAnd}
-use Rattle.pt_base.specs.Ranges.{last_minute}
+use Rattle.pt_base_values.specs.Ranges.{last_minute}
 
 -- a way over a third place is never shorter than the driving time, within a day
 abbrev pub KeepsTriangleLaw : (ℕ → ℕ → Option ℕ) → Type 0

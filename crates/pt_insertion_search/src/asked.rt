@@ -1,7 +1,7 @@
 ghost use Rattle.std.specs.Prelude.{◌≡◌};
-ghost use Rattle.pt_insertion.specs.Asked.{pickup_stop, drop_stop};
+ghost use Rattle.pt_insertion_search.specs.Asked.{pickup_stop, drop_stop};
 
-use pt_base::{Load, Minute, PlaceId, TripId};
+use pt_base_values::{Load, Minute, PlaceId, TripId};
 use pt_feasible::{Stop, StopKind};
 
 /// A requested trip, as planning sees it.

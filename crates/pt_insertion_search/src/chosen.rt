@@ -1,4 +1,4 @@
-use pt_base::VehicleId;
+use pt_base_values::VehicleId;
 use pt_feasible::Schedule;
 
 /// A place for a trip: in which vehicle's route, and where in it.

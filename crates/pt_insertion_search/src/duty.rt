@@ -1,9 +1,9 @@
 ghost use Rattle.std.specs.Prelude.{ℕ, ◌<◌, ◌↔◌, All, AllPairs, IsTrue};
 ghost use Rattle.pt_feasible.specs.Route.{stops_of};
-ghost use Rattle.pt_insertion.specs.Insertion.{IsWithout};
+ghost use Rattle.pt_insertion_search.specs.Insertion.{IsWithout};
 
 use crate::RouteEdits;
-use pt_base::{TripId, Vehicle};
+use pt_base_values::{TripId, Vehicle};
 use pt_feasible::Route;
 
 /// A vehicle on duty on a day, and its route of that day.

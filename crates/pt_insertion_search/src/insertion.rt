@@ -1,5 +1,5 @@
 ghost use Rattle.std.specs.Prelude.{◌≡◌, ◌+◌, ◌<◌, ◌≤◌, Some, length, slice_get};
-ghost use Rattle.pt_insertion.specs.Insertion.{with_trip};
+ghost use Rattle.pt_insertion_search.specs.Insertion.{with_trip};
 
 use crate::Asked;
 use pt_feasible::{Stop, Stops};

@@ -1,17 +1,17 @@
 ghost use Rattle.std.specs.Prelude.{◌≡◌, ℕ, ◌+◌, ◌<◌, ◌≤◌, ◌↔◌, Option, length, take, IsTrue, IfSome, IfNone};
-ghost use Rattle.pt_base.specs.Load.{load_sum, FitsWithin};
-ghost use Rattle.pt_base.specs.Ranges.{last_minute};
+ghost use Rattle.pt_base_values.specs.Load.{load_sum, FitsWithin};
+ghost use Rattle.pt_base_values.specs.Ranges.{last_minute};
 ghost use Rattle.pt_feasible.specs.Loads.{load_aboard};
 ghost use Rattle.pt_feasible.specs.Route.{stops_of};
-ghost use Rattle.pt_insertion.specs.Bounds.{AreBounds, IsPickupWindow};
-ghost use Rattle.pt_insertion.specs.Insertion.{IsWithout};
-ghost use Rattle.pt_insertion.specs.Possible.{IsPossible};
-ghost use Rattle.pt_insertion.specs.Riding.{IsRiding};
+ghost use Rattle.pt_insertion_search.specs.Bounds.{AreBounds, IsPickupWindow};
+ghost use Rattle.pt_insertion_search.specs.Insertion.{IsWithout};
+ghost use Rattle.pt_insertion_search.specs.Possible.{IsPossible};
+ghost use Rattle.pt_insertion_search.specs.Riding.{IsRiding};
 
 use crate::drop_search::DropSearch;
 use crate::window::ServiceWindow;
 use crate::{Asked, Duty};
-use pt_base::{Load, PlaceId, Vehicle};
+use pt_base_values::{Load, PlaceId, Vehicle};
 use pt_feasible::{aboard_after, visit_at};
 use pt_travel::Times;
 

@@ -1,7 +1,7 @@
 ghost use Rattle.std.specs.Prelude.{◌≡◌, ◌≤◌, length};
 ghost use Rattle.pt_feasible.specs.Pairing.{IsPaired};
 ghost use Rattle.pt_feasible.specs.Route.{stops_of};
-ghost use Rattle.pt_insertion.specs.Insertion.{with_trip, IsWithout};
+ghost use Rattle.pt_insertion_search.specs.Insertion.{with_trip, IsWithout};
 
 use crate::Asked;
 use crate::insertion::stop_at;
@@ -20,7 +20,7 @@ pub struct Spliced<'a> {
 }
 
 impl<'a> Spliced<'a> {
-    ghost use Rattle.pt_insertion.specs.SplicedStops.{spliced_stops};
+    ghost use Rattle.pt_insertion_search.specs.SplicedStops.{spliced_stops};
 
     /// The route with the trip's pickup after its first `i` stops, and the drop after its first `j`.
     pub fn of(route: &'a Route, asked: &'a Asked, i: usize, j: usize) -> Self
@@ -34,7 +34,7 @@ impl<'a> Spliced<'a> {
 }
 
 impl Stops for Spliced<'_> {
-    ghost use Rattle.pt_insertion.specs.SplicedStops.{spliced_stops};
+    ghost use Rattle.pt_insertion_search.specs.SplicedStops.{spliced_stops};
 
     ghost stops = { spliced_stops };
 

@@ -1,9 +1,9 @@
 //! A desk in memory and one in a database answer a list of calls alike, and what was stored outlives the connection.
-use pt_base::{CallerId, Day, Minute, Moment, Residence, Rider, RiderId, Rule};
+use pt_base_values::{CallerId, Day, Minute, Moment, Residence, Rider, RiderId, Rule};
 use pt_desk::{Call, run};
-use pt_requests::{Answer, Caller, Digest, Request, Role, Write};
-use pt_rights::Entry;
-use pt_store::{Keeper, ListKeeper, Reply};
+use pt_desk_requests::{Answer, Caller, Digest, Request, Role, Write};
+use pt_desk_store::{Keeper, ListKeeper, Reply};
+use pt_rights_files::Entry;
 use pt_tables::{adopt, create};
 use sqlite::Connection;
 use std::alloc::Global;
@@ -33,10 +33,10 @@ fn said_in(reply: &Reply) -> Said {
 }
 
 fn eight_in_the_morning() -> Result<Moment, Fail> {
-    Ok(Moment {
-        day: Day::parse("2025-02-17")?,
-        minute: Minute::of(480).ok_or("a minute")?,
-    })
+    Ok((
+        Day::parse("2025-02-17")?,
+        Minute::of(480).ok_or("a minute")?,
+    ))
 }
 
 fn rider(number: u32) -> Result<RiderId, Fail> {

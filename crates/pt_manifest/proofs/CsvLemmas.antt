@@ -6,9 +6,9 @@ use Rattle.std.specs.Fmt.{digit_glyph, digits, digits_onto}
 use Rattle.std.specs.List.{join_with_byte, list_any}
 use Rattle.std.specs.Prelude.{nat_lt, if◌then◌else◌}
 use Rattle.csv.specs.Writing.{default_writer, field_text, fields_text, is_blank, needs_byte, row_text}
-use Rattle.pt_base.specs.declared.trip.Trip.{Trip}
-use Rattle.pt_base.specs.declared.trip_status.TripStatus.{TripStatus}
-use Rattle.pt_base.specs.declared.trip_status.TripStatus.TheVariants.{Booked, Cancelled, Ridden, MissedRider, MissedOperator}
+use Rattle.pt_base_values.specs.declared.trip.Trip.{Trip}
+use Rattle.pt_base_values.specs.declared.trip_status.TripStatus.{TripStatus}
+use Rattle.pt_base_values.specs.declared.trip_status.TripStatus.TheVariants.{Booked, Cancelled, Ridden, MissedRider, MissedOperator}
 use Rattle.pt_manifest.specs.Days.{day_text}
 use Rattle.pt_manifest.specs.Export.{header, status_text, trip_fields, trip_line}
 

@@ -7,7 +7,7 @@ use Rattle.std.specs.Prelude.{nat_lt, if◌then◌else◌}
 use Rattle.jiff_core.proofs.CalendarLemmas.{day_count-epoch, days_from_civil-day_count, day_count-later_year, day_count-next_year, day_count-day_of_year, day_count-end, days_in_month_bounds}
 use Rattle.jiff_core.proofs.DateLemmas.{epoch_day_range, days_from_civil-day, days_from_civil-next_month, days_from_civil-next_year}
 use Rattle.jiff_core.specs.Calendar.{days_from_civil, days_in_month}
-use Rattle.pt_base.specs.DateText.{IsDateText}
+use Rattle.pt_base_values.specs.DateText.{IsDateText}
 use Rattle.pt_manifest.specs.Days.{CivilDate, next_date, date_of, day_text, DayTextIsDate}
 
 -- the calendar has the date, and it is that of the day with this number

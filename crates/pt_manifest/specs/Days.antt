@@ -1,8 +1,8 @@
 -- Dates of days in the Gregorian calendar.
 use Rattle.std.specs.Prelude.{ℕ, zero, suc, ◌+◌, nat_lt, if◌then◌else◌, List, pos}
 use Rattle.jiff_core.specs.Calendar.{days_in_month}
-use Rattle.pt_base.specs.DateText.{IsDateText, text_of}
-use Rattle.pt_base.specs.Day.{IsDay}
+use Rattle.pt_base_values.specs.DateText.{IsDateText, text_of}
+use Rattle.pt_base_values.specs.Day.{IsDay}
 
 -- a date from 1970 on; month 1 is January
 pub record CivilDate : Type 0 where

@@ -5,11 +5,11 @@ use Rattle.std.specs.Global.{Vec}
 use Rattle.csv.specs.Writing.{default_writer, writer_setup, fields_written, has_written}
 use Rattle.csv.specs.Writing.{writer_under, writer_pending}
 use Rattle.csv.specs.declared.writer.Writer.{Writer}
-use Rattle.pt_base.specs.declared.trip.Trip.{Trip}
-use Rattle.pt_base.specs.declared.trip_status.TripStatus.{TripStatus}
-use Rattle.pt_base.specs.declared.trip_status.TripStatus.TheVariants.{Booked, Cancelled, Ridden}
-use Rattle.pt_base.specs.declared.trip_status.TripStatus.TheVariants.{MissedRider, MissedOperator}
-use Rattle.pt_booking.specs.Request.{party_of}
+use Rattle.pt_base_values.specs.declared.trip.Trip.{Trip}
+use Rattle.pt_base_values.specs.declared.trip_status.TripStatus.{TripStatus}
+use Rattle.pt_base_values.specs.declared.trip_status.TripStatus.TheVariants.{Booked, Cancelled, Ridden}
+use Rattle.pt_base_values.specs.declared.trip_status.TripStatus.TheVariants.{MissedRider, MissedOperator}
+use Rattle.pt_desk_booking.specs.Request.{party_of}
 use Rattle.pt_party.specs.Fare.{due_of}
 use Rattle.pt_manifest.specs.Days.{day_text}
 

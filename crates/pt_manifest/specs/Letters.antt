@@ -1,12 +1,12 @@
 -- Letters that give riders decisions (49 CFR 37.125(d), (e), (g), (h)). Every line ends with a newline.
 use Rattle.std.specs.Prelude.{ℕ, List, [], ◌++◌, Bool, true, false, codes, decimal}
 use Rattle.std.specs.List.{join_by}
-use Rattle.pt_conditions.specs.Texts.{condition_text}
-use Rattle.pt_rights.specs.declared.conditions.Condition.{Condition}
-use Rattle.pt_rights.specs.declared.entry.Grant.{Grant}
-use Rattle.pt_requests.specs.declared.letters.Determination.{Determination}
-use Rattle.pt_requests.specs.declared.letters.Determination.TheVariants as decision
-use Rattle.pt_requests.specs.declared.letters.Letter.{Letter}
+use Rattle.pt_rights_conditions.specs.Texts.{condition_text}
+use Rattle.pt_rights_files.specs.declared.conditions.Condition.{Condition}
+use Rattle.pt_rights_files.specs.declared.entry.Grant.{Grant}
+use Rattle.pt_desk_requests.specs.declared.letters.Determination.{Determination}
+use Rattle.pt_desk_requests.specs.declared.letters.Determination.TheVariants as decision
+use Rattle.pt_desk_requests.specs.declared.letters.Letter.{Letter}
 use Rattle.pt_manifest.specs.Days.{day_text}
 
 -- the words for a decision

@@ -2,12 +2,12 @@
 use Rattle.std.specs.Prelude.{ℕ, ◌/◌, ◌%◌, ◌==◌, if◌then◌else◌, List, [], ◌++◌, Option, None, Some, codes, decimal}
 use Rattle.std.specs.List.{flat_map}
 use Rattle.jiff_fmt.specs.Text.{pad2}
-use Rattle.pt_base.specs.declared.load.Load.{Load}
-use Rattle.pt_base.specs.declared.window.Window.{Window}
-use Rattle.pt_requests.specs.declared.sheets.DaySheet.{DaySheet}
-use Rattle.pt_requests.specs.declared.sheets.Tour.{Tour}
-use Rattle.pt_requests.specs.declared.sheets.TourStop.{TourStop}
-use Rattle.pt_requests.specs.declared.sheets.VehicleSheet.{VehicleSheet}
+use Rattle.pt_base_values.specs.declared.load.Load.{Load}
+use Rattle.pt_base_values.specs.declared.window.Window.{Window}
+use Rattle.pt_desk_requests.specs.declared.sheets.DaySheet.{DaySheet}
+use Rattle.pt_desk_requests.specs.declared.sheets.Tour.{Tour}
+use Rattle.pt_desk_requests.specs.declared.sheets.TourStop.{TourStop}
+use Rattle.pt_desk_requests.specs.declared.sheets.VehicleSheet.{VehicleSheet}
 use Rattle.pt_manifest.specs.Days.{day_text}
 
 -- a minute of the day as `HH:MM`, two digits each

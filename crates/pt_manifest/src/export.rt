@@ -1,5 +1,7 @@
-ghost use Rattle.std.specs.Prelude.{◌≡◌, [], ◌∷◌, ◌++◌, decimal, IfOk, OnOk};
+ghost use Rattle.std.specs.Prelude.{◌≡◌, [], ◌∷◌, ◌++◌, decimal, IfOk, OnOk, IfErr};
 ghost use Rattle.std.specs.List.{flat_map};
+ghost use Rattle.pt_base_values.specs.Fault.{fault};
+ghost use Rattle.pt_base_values.specs.declared.fault.Cause.TheVariants as cause;
 ghost use Rattle.csv.specs.Records.{fields_of, partial_of};
 ghost use Rattle.csv.specs.Writing.{default_writer, row_text};
 ghost use Rattle.pt_manifest.specs.Export as spec;
@@ -8,8 +10,8 @@ ghost use Rattle.pt_manifest.specs.Days.{day_text};
 use crate::writing::write_day;
 use csv::{ByteRecord, Writer};
 use itoa::Buffer;
-use pt_base::{Day, Trip, TripStatus};
-use pt_booking::party_of;
+use pt_base_values::{Cause, Day, Fault, Trip, TripStatus};
+use pt_desk_booking::party_of;
 use pt_party::due;
 use std::alloc::{AllocError, Global};
 
@@ -28,16 +30,17 @@ const FIELDS: [&[u8]; 11] = [
     b"status",
 ];
 
-/// The trips as CSV under a header, in the order given. Cancelled trips are included. The error is out of memory.
-pub fn trips_csv(alloc: Global, trips: &[Trip]) -> Result<Vec<u8>, AllocError>
+/// The trips as CSV under a header, in the order given. Cancelled trips are included. The fault is out of memory.
+pub fn trips_csv(alloc: Global, trips: &[Trip]) -> Result<Vec<u8>, Fault>
     ensures value { IfOk result (λ bytes. bytes.items ≡ spec.trips_text trips.now) }
+    ensures memory { IfErr result (λ refused. refused ≡ fault cause.Memory) }
 {
     let mut writer = Writer::from_writer(Vec::new(alloc));
     write_header(alloc, &mut writer)?;
     write_trips(alloc, trips, &mut writer)?;
     match writer.into_inner() {
         Ok(text) => Ok(text),
-        Err(_) => Err(AllocError),
+        Err(_) => Err(Fault::of(Cause::Memory)),
     }
 }
 

@@ -1,10 +1,13 @@
-ghost use Rattle.std.specs.Prelude.{◌≡◌, ◌++◌, IfOk, OnOk};
+ghost use Rattle.std.specs.Prelude.{◌≡◌, ◌++◌, IfOk, OnOk, IfErr};
+ghost use Rattle.pt_base_values.specs.Fault.{fault};
+ghost use Rattle.pt_base_values.specs.declared.fault.Cause.TheVariants as cause;
 ghost use Rattle.pt_manifest.specs.Letters as spec;
 
 use crate::writing::{write_day, write_number};
-use pt_conditions::condition_text;
-use pt_requests::{Determination, Letter};
-use pt_rights::{Conditions, Grant, Reasons};
+use pt_base_values::Fault;
+use pt_desk_requests::{Determination, Letter};
+use pt_rights_conditions::condition_text;
+use pt_rights_files::{Conditions, Grant, Reasons};
 use std::alloc::{AllocError, Global};
 
 /// The words for a decision.
@@ -22,9 +25,10 @@ fn words_of(decision: &Determination) -> &'static [u8]
     }
 }
 
-/// The letter that gives a rider a decision (49 CFR 37.125(d), (e), (g), (h)). The error is out of memory.
-pub fn decision_letter(alloc: Global, letter: &Letter) -> Result<Vec<u8>, AllocError>
+/// The letter that gives a rider a decision (49 CFR 37.125(d), (e), (g), (h)). The fault is out of memory.
+pub fn decision_letter(alloc: Global, letter: &Letter) -> Result<Vec<u8>, Fault>
     ensures value { IfOk result (λ bytes. bytes.items ≡ spec.letter_text letter.now) }
+    ensures memory { IfErr result (λ refused. refused ≡ fault cause.Memory) }
 {
     let mut out = Vec::new(alloc);
     write_number(b"RIDER ", letter.rider.id.number(), &mut out)?;

@@ -1,26 +1,30 @@
-ghost use Rattle.std.specs.Prelude.{◌≡◌, ◌++◌, Some, IfOk, OnOk};
+ghost use Rattle.std.specs.Prelude.{◌≡◌, ◌++◌, Some, IfOk, OnOk, IfErr};
 ghost use Rattle.std.specs.List.{flat_map};
+ghost use Rattle.pt_base_values.specs.Fault.{fault};
+ghost use Rattle.pt_base_values.specs.declared.fault.Cause.TheVariants as cause;
 ghost use Rattle.pt_manifest.specs.Manifests.{day_sheet_text, manifest_text, tour_text};
 ghost use Rattle.pt_manifest.specs.Manifests.{stop_line, depot_line, stop_word, load_text, window_text};
 
 use crate::writing::{write_day, write_minute, write_number};
 use itoa::Buffer;
-use pt_base::{Day, Load, Minute, PlaceId, Window};
-use pt_requests::{DaySheet, Tour, TourStop, VehicleSheet};
+use pt_base_values::{Day, Fault, Load, Minute, PlaceId, Window};
+use pt_desk_requests::{DaySheet, Tour, TourStop, VehicleSheet};
 use std::alloc::{AllocError, Global};
 
-/// The manifest of the vehicle's driver on the day. The error is out of memory.
-pub fn manifest(alloc: Global, day: Day, sheet: &VehicleSheet) -> Result<Vec<u8>, AllocError>
+/// The manifest of the vehicle's driver on the day. The fault is out of memory.
+pub fn manifest(alloc: Global, day: Day, sheet: &VehicleSheet) -> Result<Vec<u8>, Fault>
     ensures value { IfOk result (λ bytes. bytes.items ≡ manifest_text day sheet.now) }
+    ensures memory { IfErr result (λ refused. refused ≡ fault cause.Memory) }
 {
     let mut out = Vec::new(alloc);
     write_manifest(day, sheet, &mut out)?;
     Ok(out)
 }
 
-/// The manifests of all vehicles on duty on a day, and the number of its trips. The error is out of memory.
-pub fn day_sheet(alloc: Global, sheet: &DaySheet) -> Result<Vec<u8>, AllocError>
+/// The manifests of all vehicles on duty on a day, and the number of its trips. The fault is out of memory.
+pub fn day_sheet(alloc: Global, sheet: &DaySheet) -> Result<Vec<u8>, Fault>
     ensures value { IfOk result (λ bytes. bytes.items ≡ day_sheet_text sheet.now) }
+    ensures memory { IfErr result (λ refused. refused ≡ fault cause.Memory) }
 {
     let mut out = Vec::new(alloc);
     write_manifests(sheet.day, &sheet.vehicles, &mut out)?;

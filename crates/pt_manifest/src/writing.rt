@@ -3,7 +3,7 @@ ghost use Rattle.pt_manifest.specs.Days.{day_text};
 ghost use Rattle.pt_manifest.specs.Manifests.{minute_text};
 
 use itoa::Buffer;
-use pt_base::{Day, Minute};
+use pt_base_values::{Day, Minute};
 use std::alloc::AllocError;
 
 /// Adds a minute of the day as `HH:MM`.
@@ -35,7 +35,10 @@ pub(crate) fn write_day(label: &[u8], day: Day, out: &mut Vec<u8>) -> Result<(),
     ensures text { OnOk result (out.new.items ≡ out.old.items ++ label.now ++ day_text day) }
 {
     out.extend_from_slice(label)?;
-    day.write(out)
+    match day.write(out) {
+        Ok(()) => Ok(()),
+        Err(_) => Err(AllocError),
+    }
 }
 
 /// Adds a label and a number in decimal digits.

@@ -1,6 +1,6 @@
 -- Fares in whole cents (49 CFR 37.131(c)).
 use Rattle.std.specs.Prelude.{ℕ, ◌+◌, ◌*◌, Bool, min, if◌then◌else◌}
-use Rattle.pt_base.specs.declared.policy.Policy.{Policy}
+use Rattle.pt_base_values.specs.declared.policy.Policy.{Policy}
 use Rattle.pt_party.specs.declared.party.Party.{Party}
 use Rattle.pt_party.specs.Party.{payers_of}
 

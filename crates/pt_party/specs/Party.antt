@@ -1,7 +1,7 @@
 -- The persons of a trip: the rider, an attendant or none, and companions.
 use Rattle.std.specs.Prelude.{ℕ, ◌+◌, ◌-◌, ◌≤◌, Bool, true, false, IsTrue, if◌then◌else◌}
-use Rattle.pt_base.specs.declared.load.Load.{Load}
-use Rattle.pt_base.specs.declared.rider.Rider.{Rider}
+use Rattle.pt_base_values.specs.declared.load.Load.{Load}
+use Rattle.pt_base_values.specs.declared.rider.Rider.{Rider}
 use Rattle.pt_party.specs.declared.party.Party.{Party}
 
 -- the rider may bring one companion, and an attendant if the rider's record names one (49 CFR 37.123(f), 37.125(i))

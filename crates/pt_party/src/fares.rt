@@ -1,9 +1,9 @@
 ghost use Rattle.std.specs.Prelude.{◌≡◌, ◌*◌, ◌≤◌};
-ghost use Rattle.pt_base.specs.Ranges.{highest_fare};
+ghost use Rattle.pt_base_values.specs.Ranges.{highest_fare};
 ghost use Rattle.pt_party.specs.Fare.{due_of, fare_of, fixed_fare_of};
 
 use crate::Party;
-use pt_base::Policy;
+use pt_base_values::Policy;
 
 /// The fare of one person, in cents.
 ///

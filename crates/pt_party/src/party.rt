@@ -2,7 +2,7 @@ ghost use Rattle.std.specs.Prelude.{◌≡◌, ◌↔◌, IsNone, IfSome};
 ghost use Rattle.std.specs.Int.{IsInRange};
 ghost use Rattle.pt_party.specs.Party.{MayTravel, persons_of, load_of};
 
-use pt_base::{Load, Rider, Rule};
+use pt_base_values::{Load, Rider, Rule};
 
 /// Who comes along with a rider, as a trip was asked for. It may be more than the rules allow.
 #[derive(Clone, Copy)]

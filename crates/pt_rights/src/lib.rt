@@ -1,24 +1,12 @@
-//! Case files of riders under 49 CFR 37.125: applications, decisions, and the standing they give.
+//! Who may ride: case files, the days of visitors, and the conditions of grants. One door to the crates that hold them.
 #![tactic(auto)]
 
-pub use case_file::{CaseFile, MOST_ENTRIES, Standing};
-pub use conditions::{Condition, Conditions, MOST_CONDITIONS};
-pub use entry::{Entered, Entry, Grant};
-pub use feet::Feet;
-pub use months::Months;
-pub use position::Position;
-pub use reasons::Reasons;
-pub use tally::{Outcome, Tally};
-
-mod appeals;
-mod case_file;
-mod conditions;
-mod entry;
-mod feet;
-mod months;
-mod notices;
-mod position;
-mod reasons;
-mod suspensions;
-mod tally;
-mod walk;
+pub use pt_rights_conditions::{
+    LONGEST_CONDITION, condition_from, condition_text, condition_text_tells_its_condition,
+    qualifies,
+};
+pub use pt_rights_files::{
+    CaseFile, Condition, Conditions, Entered, Entry, Feet, Grant, MOST_CONDITIONS, MOST_ENTRIES,
+    Months, Outcome, Position, Reasons, Standing, Tally, standing, suspended,
+};
+pub use pt_rights_visitors::visitor_may;

@@ -11,9 +11,9 @@ use Rattle.std.specs.Int.{IsInRange}
 use Rattle.std.specs.List.{All, slice_split}
 use Rattle.std.specs.Prelude.{◌==◌, Result, Option, IsSome, IfSome}
 use Rattle.std.specs.Str.Parse.{AllDigits, ParsesUnsigned}
-use Rattle.pt_rights.proofs.MonthMarks.{AreMonths-numbers_of, length-numbers_from}
-use Rattle.pt_rights.specs.Months.{numbers_from, numbers_of, AreMonths, IsMonthSet}
-use Rattle.pt_conditions.specs.Texts.{numbers_text}
+use Rattle.pt_rights_files.proofs.MonthMarks.{AreMonths-numbers_of, length-numbers_from}
+use Rattle.pt_rights_files.specs.Months.{numbers_from, numbers_of, AreMonths, IsMonthSet}
+use Rattle.pt_rights_conditions.specs.Texts.{numbers_text}
 
 -- a decimal digit is no comma
 digit-apart : (c : ℕ) → digit_value c < 10 → (c == 44) ≡ false

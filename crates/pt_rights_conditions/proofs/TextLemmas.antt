@@ -1,11 +1,11 @@
 -- No two conditions have the same text.
 use Rattle.std.proofs.Common.{◌≡◌, get_or, refl, ap, arith}
 use Rattle.std.proofs.lemmas.Fmt.{decimal_injective}
-use Rattle.pt_rights.specs.Conditions.{IsCondition}
-use Rattle.pt_rights.specs.declared.conditions.Condition.{Condition}
-use Rattle.pt_rights.specs.declared.conditions.Condition.TheVariants.{Always, Months, Farther, NoLift}
-use Rattle.pt_conditions.proofs.NumbersLemmas.{months_text-injective}
-use Rattle.pt_conditions.specs.Texts.{condition_text}
+use Rattle.pt_rights_files.specs.Conditions.{IsCondition}
+use Rattle.pt_rights_files.specs.declared.conditions.Condition.{Condition}
+use Rattle.pt_rights_files.specs.declared.conditions.Condition.TheVariants.{Always, Months, Farther, NoLift}
+use Rattle.pt_rights_conditions.proofs.NumbersLemmas.{months_text-injective}
+use Rattle.pt_rights_conditions.specs.Texts.{condition_text}
 
 pub condition_text-injective : (one other : Condition) → IsCondition one → IsCondition other → condition_text one ≡ condition_text other → one ≡ other
 condition_text-injective Always Always ones others e = refl

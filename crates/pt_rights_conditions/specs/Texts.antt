@@ -1,10 +1,10 @@
 -- Conditions of a grant (49 CFR 37.123(b), (e)) as texts.
 use Rattle.std.specs.Prelude.{◌≡◌, ℕ, List, ◌++◌, map, codes, decimal}
 use Rattle.std.specs.List.{join_with_byte}
-use Rattle.pt_rights.specs.Conditions.{IsCondition}
-use Rattle.pt_rights.specs.Months.{numbers_of}
-use Rattle.pt_rights.specs.declared.conditions.Condition.{Condition}
-use Rattle.pt_rights.specs.declared.conditions.Condition.TheVariants.{Always, Months, Farther, NoLift}
+use Rattle.pt_rights_files.specs.Conditions.{IsCondition}
+use Rattle.pt_rights_files.specs.Months.{numbers_of}
+use Rattle.pt_rights_files.specs.declared.conditions.Condition.{Condition}
+use Rattle.pt_rights_files.specs.declared.conditions.Condition.TheVariants.{Always, Months, Farther, NoLift}
 
 -- numbers in decimal digits, with a comma (byte 44) between each two
 abbrev pub numbers_text : List ℕ → List ℕ

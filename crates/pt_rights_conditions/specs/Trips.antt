@@ -6,9 +6,9 @@ use Rattle.pt_corridor.specs.Point.{Point}
 use Rattle.pt_corridor.specs.Near.{IsNearLine}
 use Rattle.pt_corridor.specs.Route.{FixedRoute}
 use Rattle.pt_corridor.specs.Corridor.{IsRunning, Joins}
-use Rattle.pt_rights.specs.Months.{numbers_of}
-use Rattle.pt_rights.specs.declared.conditions.Condition.{Condition}
-use Rattle.pt_rights.specs.declared.conditions.Condition.TheVariants as condition
+use Rattle.pt_rights_files.specs.Months.{numbers_of}
+use Rattle.pt_rights_files.specs.declared.conditions.Condition.{Condition}
+use Rattle.pt_rights_files.specs.declared.conditions.Condition.TheVariants as condition
 
 -- the day is in one of the months
 abbrev pub IsInMonths : List ℕ → ℕ → Type 0

@@ -1,4 +1,4 @@
-ghost use Rattle.pt_conditions.specs.Texts.{TextTellsCondition};
+ghost use Rattle.pt_rights_conditions.specs.Texts.{TextTellsCondition};
 
 /// A law: no two conditions have the same text.
 pub fn condition_text_tells_its_condition()

@@ -1,13 +1,13 @@
 ghost use Rattle.std.specs.Prelude.{◌≡◌, ◌↔◌, IsTrue, ℕ, Bool, List, Some, IfSome, IsNone, decimal};
-ghost use Rattle.pt_rights.specs.Conditions.{IsCondition};
-ghost use Rattle.pt_rights.specs.Feet.{IsFeet};
-ghost use Rattle.pt_rights.specs.Months.{numbers_of, IsMonthSet};
-ghost use Rattle.pt_rights.specs.declared.conditions.Condition.{Condition};
-ghost use Rattle.pt_conditions.specs.Texts.{numbers_text, condition_text, SpellsCondition};
+ghost use Rattle.pt_rights_files.specs.Conditions.{IsCondition};
+ghost use Rattle.pt_rights_files.specs.Feet.{IsFeet};
+ghost use Rattle.pt_rights_files.specs.Months.{numbers_of, IsMonthSet};
+ghost use Rattle.pt_rights_files.specs.declared.conditions.Condition.{Condition};
+ghost use Rattle.pt_rights_conditions.specs.Texts.{numbers_text, condition_text, SpellsCondition};
 
 use crate::condition_text;
 use arrayvec::ArrayVec;
-use pt_rights::{Condition, Feet, Months};
+use pt_rights_files::{Condition, Feet, Months};
 
 /// The condition that a text spells.
 pub fn condition_from(text: &str) -> Option<Condition>

@@ -1,10 +1,10 @@
 ghost use Rattle.std.specs.Prelude.{◌↔◌, IsTrue};
-ghost use Rattle.pt_rights.specs.Months.{numbers_of};
-ghost use Rattle.pt_conditions.specs.Trips.{IsInMonths, IsFarther, HasLift, HoldsFor, Qualifies};
+ghost use Rattle.pt_rights_files.specs.Months.{numbers_of};
+ghost use Rattle.pt_rights_conditions.specs.Trips.{IsInMonths, IsFarther, HasLift, HoldsFor, Qualifies};
 
-use pt_base::{Day, Minute, Place, Point};
+use pt_base_values::{Day, Minute, Place, Point};
 use pt_corridor::{FixedRoute, is_running, joins, within};
-use pt_rights::{Condition, Feet, Grant, Months};
+use pt_rights_files::{Condition, Feet, Grant, Months};
 
 /// Whether the grant covers a trip between the two places at the day and the wished minute: one of
 /// its conditions holds.

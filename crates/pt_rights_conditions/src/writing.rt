@@ -1,12 +1,12 @@
 ghost use Rattle.std.specs.Prelude.{◌≡◌, ◌≤◌, ◌+◌, ◌++◌, codes, length};
-ghost use Rattle.pt_rights.specs.Conditions.{IsCondition};
-ghost use Rattle.pt_rights.specs.Months.{numbers_of, IsMonthSet};
-ghost use Rattle.pt_conditions.specs.Texts as spec;
-ghost use Rattle.pt_conditions.specs.declared.writing.TheConstants.{LONGEST_CONDITION};
+ghost use Rattle.pt_rights_files.specs.Conditions.{IsCondition};
+ghost use Rattle.pt_rights_files.specs.Months.{numbers_of, IsMonthSet};
+ghost use Rattle.pt_rights_conditions.specs.Texts as spec;
+ghost use Rattle.pt_rights_conditions.specs.declared.writing.TheConstants.{LONGEST_CONDITION};
 
 use arrayvec::ArrayVec;
 use itoa::Buffer;
-use pt_rights::{Condition, Months};
+use pt_rights_files::{Condition, Months};
 
 /// The most bytes in the text of a condition.
 pub const LONGEST_CONDITION: usize = 43;

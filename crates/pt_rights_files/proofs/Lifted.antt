@@ -3,7 +3,7 @@ use Rattle.std.specs.Prelude.{◌≡◌, ℕ, ◌-◌, ◌<◌, Bool, true, fals
 use Rattle.std.specs.List.{list_any, find}
 use Rattle.std.specs.Option.{option_map_or}
 use Rattle.std.proofs.Common.{zero, suc, arith, get_or, drop, drop-cons, ◌∙◌}
-use Rattle.pt_rights.specs.Positions.{some_position, is_open}
+use Rattle.pt_rights_files.specs.Positions.{some_position, is_open}
 
 -- the first item that closes passes the test
 abbrev pub is_first : {X : Type 0} → (X → Bool) → (X → Bool) → List X → Bool

@@ -9,7 +9,7 @@ use Rattle.std.specs.List.Sorted.{IsStrictlyIncreasing}
 use Rattle.std.proofs.lemmas.Bool.{cases_lt}
 use Rattle.std.proofs.lemmas.List.{get_or_past, take_more}
 use Rattle.std.proofs.lemmas.List.Elements.{All-nil, All-cons, All-weaker, All-from_get_or, All-get_or, Contains-append_cases, Contains-append_right}
-use Rattle.pt_rights.specs.Months.{numbers_from, numbers_of, AreMonths}
+use Rattle.pt_rights_files.specs.Months.{numbers_from, numbers_of, AreMonths}
 
 -- a mark that is true gives its number
 pub number_of_mark : (n : ℕ) (marks : List Bool) (i m : ℕ) → m ≡ n + i → get_or marks i false ≡ true → Contains (numbers_from n marks) m

@@ -4,14 +4,14 @@ use Rattle.std.specs.List.{list_any, filter_map, last_or, cons_option}
 use Rattle.std.proofs.Common.{zero, suc, arith, ap, ◌∙◌, inl, inr}
 use Rattle.std.proofs.lemmas.Bool.{and_parts, and_from, or_cases, or_parts, or_left, or_right, or_from, false≢true}
 use Rattle.std.proofs.lemmas.Bool.Decides.{nat_tests}
-use Rattle.pt_rights.specs.declared.entry.Grant.{Grant}
-use Rattle.pt_rights.specs.declared.entry.Entered.{Entered}
-use Rattle.pt_rights.specs.declared.case_file.Standing.TheVariants as standing
-use Rattle.pt_rights.specs.Kinds.{is_complete, is_decision, grant_of}
-use Rattle.pt_rights.specs.Positions.{some_position}
-use Rattle.pt_rights.specs.Standing.{is_unanswered, is_waiting, is_presumed, standing_by}
-use Rattle.pt_rights.specs.ByPosition.{IsUnansweredAt, IsWaiting, IsPresumed, IsLastGrantAt}
-use Rattle.pt_rights.specs.Limits.{days_to_presumption}
+use Rattle.pt_rights_files.specs.declared.entry.Grant.{Grant}
+use Rattle.pt_rights_files.specs.declared.entry.Entered.{Entered}
+use Rattle.pt_rights_files.specs.declared.case_file.Standing.TheVariants as standing
+use Rattle.pt_rights_files.specs.Kinds.{is_complete, is_decision, grant_of}
+use Rattle.pt_rights_files.specs.Positions.{some_position}
+use Rattle.pt_rights_files.specs.Standing.{is_unanswered, is_waiting, is_presumed, standing_by}
+use Rattle.pt_rights_files.specs.ByPosition.{IsUnansweredAt, IsWaiting, IsPresumed, IsLastGrantAt}
+use Rattle.pt_rights_files.specs.Limits.{days_to_presumption}
 
 pub not_true : (b : Bool) → not b ≡ true → b ≡ false
 not_true true h = cc

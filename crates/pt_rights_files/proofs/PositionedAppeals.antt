@@ -5,17 +5,17 @@ use Rattle.std.specs.Option.{option_map_or}
 use Rattle.std.proofs.Common.{zero, suc, arith, sym, ap, ◌∙◌, inl, inr}
 use Rattle.std.proofs.lemmas.Bool.{and_parts, and_from, or_cases, or_parts, or_left, or_right, or_from, false≢true}
 use Rattle.std.proofs.lemmas.Bool.Decides.{nat_tests}
-use Rattle.pt_rights.specs.declared.entry.Entry.{Entry}
-use Rattle.pt_rights.specs.declared.entry.Entry.TheVariants as kind
-use Rattle.pt_rights.specs.declared.entry.Entered.{Entered}
-use Rattle.pt_rights.specs.Appeals.{appeals_against, disputes, some_pending, is_heard_by, is_overdue, is_overturned}
-use Rattle.pt_rights.specs.ByPosition.{IsPendingAt, IsPendingAgainst, IsOverdue, IsOverturned, IsSuspended}
-use Rattle.pt_rights.specs.Kinds.{is_refusal, against_of, is_overturn, decides_appeal, suspends}
-use Rattle.pt_rights.specs.Positions.{is_open, is_followed, some_numbered}
-use Rattle.pt_rights.specs.Suspension.{is_lifted, is_suspended}
-use Rattle.pt_rights.proofs.Positioned.{not_true, not_false, at_most, at_most_test, numbered_position, numbered_test, none_after, none_after_test}
-use Rattle.pt_rights.proofs.Lifted.{is_first}
-use Rattle.pt_rights.specs.Limits.{days_to_decide}
+use Rattle.pt_rights_files.specs.declared.entry.Entry.{Entry}
+use Rattle.pt_rights_files.specs.declared.entry.Entry.TheVariants as kind
+use Rattle.pt_rights_files.specs.declared.entry.Entered.{Entered}
+use Rattle.pt_rights_files.specs.Appeals.{appeals_against, disputes, some_pending, is_heard_by, is_overdue, is_overturned}
+use Rattle.pt_rights_files.specs.ByPosition.{IsPendingAt, IsPendingAgainst, IsOverdue, IsOverturned, IsSuspended}
+use Rattle.pt_rights_files.specs.Kinds.{is_refusal, against_of, is_overturn, decides_appeal, suspends}
+use Rattle.pt_rights_files.specs.Positions.{is_open, is_followed, some_numbered}
+use Rattle.pt_rights_files.specs.Suspension.{is_lifted, is_suspended}
+use Rattle.pt_rights_files.proofs.Positioned.{not_true, not_false, at_most, at_most_test, numbered_position, numbered_test, none_after, none_after_test}
+use Rattle.pt_rights_files.proofs.Lifted.{is_first}
+use Rattle.pt_rights_files.specs.Limits.{days_to_decide}
 
 module _ {X : Type 0} (p : X → Bool) where
   -- some item passes, by the test and by numbers

@@ -2,15 +2,15 @@
 use Rattle.std.specs.Prelude.{◌≡◌, ℕ, ◌↔◌, Bool, true, false, List, Option, Some, None, nat_le, if◌then◌else◌, refl}
 use Rattle.std.proofs.Common.{sym, ◌∙◌, inl, inr}
 use Rattle.std.proofs.lemmas.Bool.{false≢true}
-use Rattle.pt_rights.specs.declared.entry.Grant.{Grant}
-use Rattle.pt_rights.specs.declared.entry.Entered.{Entered}
-use Rattle.pt_rights.specs.declared.case_file.Standing.{Standing}
-use Rattle.pt_rights.specs.declared.case_file.Standing.TheVariants as standing
-use Rattle.pt_rights.specs.Appeals.{is_overdue}
-use Rattle.pt_rights.specs.Standing.{is_presumed, last_grant, standing_by, standing_of}
-use Rattle.pt_rights.specs.ByPosition.{IsPresumed, IsOverdue, IsGrantedFor}
-use Rattle.pt_rights.proofs.Positioned.{presumed_position, presumed_test, granted_test, granted_value, last_position, last_value}
-use Rattle.pt_rights.proofs.PositionedAppeals.{untrue, overdue-law}
+use Rattle.pt_rights_files.specs.declared.entry.Grant.{Grant}
+use Rattle.pt_rights_files.specs.declared.entry.Entered.{Entered}
+use Rattle.pt_rights_files.specs.declared.case_file.Standing.{Standing}
+use Rattle.pt_rights_files.specs.declared.case_file.Standing.TheVariants as standing
+use Rattle.pt_rights_files.specs.Appeals.{is_overdue}
+use Rattle.pt_rights_files.specs.Standing.{is_presumed, last_grant, standing_by, standing_of}
+use Rattle.pt_rights_files.specs.ByPosition.{IsPresumed, IsOverdue, IsGrantedFor}
+use Rattle.pt_rights_files.proofs.Positioned.{presumed_position, presumed_test, granted_test, granted_value, last_position, last_value}
+use Rattle.pt_rights_files.proofs.PositionedAppeals.{untrue, overdue-law}
 
 -- the first of presumed, overdue and what the last grant gives
 abbrev first_of_three : Bool → Bool → Standing → Standing

@@ -4,15 +4,15 @@ use Rattle.std.specs.List.{list_any, filter_map, last_or, cons_option}
 use Rattle.std.proofs.Common.{arith, ap, ◌∙◌, length-append}
 use Rattle.std.proofs.lemmas.Bool.Decides.{nat_tests}
 use Rattle.std.proofs.lemmas.List.Folds.{list_any-append}
-use Rattle.pt_rights.specs.declared.entry.Grant.{Grant}
-use Rattle.pt_rights.specs.declared.entry.Entry.{Entry}
-use Rattle.pt_rights.specs.declared.entry.Entry.TheVariants as kind
-use Rattle.pt_rights.specs.declared.entry.Entered.{Entered}
-use Rattle.pt_rights.specs.Appeals.{is_overdue}
-use Rattle.pt_rights.specs.Kinds.{is_complete, is_decision, grant_of}
-use Rattle.pt_rights.specs.Standing.{is_waiting, is_presumed, last_grant}
-use Rattle.pt_rights.specs.Marks.{AreMarks, has_come, earlier, waiting_with}
-use Rattle.pt_rights.specs.Limits.{days_to_decide, days_to_presumption, most_entries}
+use Rattle.pt_rights_files.specs.declared.entry.Grant.{Grant}
+use Rattle.pt_rights_files.specs.declared.entry.Entry.{Entry}
+use Rattle.pt_rights_files.specs.declared.entry.Entry.TheVariants as kind
+use Rattle.pt_rights_files.specs.declared.entry.Entered.{Entered}
+use Rattle.pt_rights_files.specs.Appeals.{is_overdue}
+use Rattle.pt_rights_files.specs.Kinds.{is_complete, is_decision, grant_of}
+use Rattle.pt_rights_files.specs.Standing.{is_waiting, is_presumed, last_grant}
+use Rattle.pt_rights_files.specs.Marks.{AreMarks, has_come, earlier, waiting_with}
+use Rattle.pt_rights_files.specs.Limits.{days_to_decide, days_to_presumption, most_entries}
 
 -- the test of a position, of the later positions and of the new one, before and after the new entry
 waiting_step : (completes decided decides rest new : Bool)

@@ -4,7 +4,7 @@ use Rattle.std.proofs.Common.{take, get_or, sym, ◌∙◌}
 use Rattle.std.proofs.lemmas.List.{take_more}
 use Rattle.std.specs.List.{list_any}
 use Rattle.std.proofs.lemmas.List.Folds.{list_any-append}
-use Rattle.pt_rights.specs.Positions.{some_position, is_open, is_followed}
+use Rattle.pt_rights_files.specs.Positions.{some_position, is_open, is_followed}
 
 open_new : (o : Bool) → ((o && not false) || false) ≡ (false || o)
 open_new true = refl

@@ -1,18 +1,18 @@
 -- Which entries a case file admits.
 use Rattle.std.specs.Prelude.{ℕ, Bool, true, false, ◌&&◌, not, List, [], ◌∷◌, nat_le}
-use Rattle.pt_base.specs.declared.policy.Policy.{Policy}
-use Rattle.pt_base.specs.declared.rider.Rider.{Rider}
-use Rattle.pt_base.specs.declared.rider.Residence.{Residence}
-use Rattle.pt_base.specs.declared.rider.Residence.TheVariants.{Resident, Visitor}
-use Rattle.pt_base.specs.declared.rule.Rule.{Rule}
-use Rattle.pt_base.specs.declared.rule.Rule.TheVariants as rule
-use Rattle.pt_rights.specs.declared.entry.Entry.{Entry}
-use Rattle.pt_rights.specs.declared.entry.Entry.TheVariants as kind
-use Rattle.pt_rights.specs.declared.entry.Entered.{Entered}
-use Rattle.pt_rights.specs.declared.tally.Tally.{Tally}
-use Rattle.pt_rights.specs.Appeals.{may_appeal, awaits_hearing, may_decide}
-use Rattle.pt_rights.specs.Notices.{is_pattern, awaits_notice_hearing, may_suspend, is_term}
-use Rattle.pt_rights.specs.Standing.{is_waiting}
+use Rattle.pt_base_values.specs.declared.policy.Policy.{Policy}
+use Rattle.pt_base_values.specs.declared.rider.Rider.{Rider}
+use Rattle.pt_base_values.specs.declared.rider.Residence.{Residence}
+use Rattle.pt_base_values.specs.declared.rider.Residence.TheVariants.{Resident, Visitor}
+use Rattle.pt_base_values.specs.declared.rule.Rule.{Rule}
+use Rattle.pt_base_values.specs.declared.rule.Rule.TheVariants as rule
+use Rattle.pt_rights_files.specs.declared.entry.Entry.{Entry}
+use Rattle.pt_rights_files.specs.declared.entry.Entry.TheVariants as kind
+use Rattle.pt_rights_files.specs.declared.entry.Entered.{Entered}
+use Rattle.pt_rights_files.specs.declared.tally.Tally.{Tally}
+use Rattle.pt_rights_files.specs.Appeals.{may_appeal, awaits_hearing, may_decide}
+use Rattle.pt_rights_files.specs.Notices.{is_pattern, awaits_notice_hearing, may_suspend, is_term}
+use Rattle.pt_rights_files.specs.Standing.{is_waiting}
 
 -- the rider has a case file (37.127: visitors have none)
 abbrev pub is_resident : Residence → Bool

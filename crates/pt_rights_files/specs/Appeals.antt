@@ -2,13 +2,13 @@
 use Rattle.std.specs.Prelude.{ℕ, ◌+◌, Bool, false, ◌&&◌, ◌||◌, not, List, ◌==◌, nat_le, slice_get, Option, None}
 use Rattle.std.specs.List.{list_any, find}
 use Rattle.std.specs.Option.{option_map_or}
-use Rattle.pt_rights.specs.declared.entry.Entry.{Entry}
-use Rattle.pt_rights.specs.declared.entry.Entry.TheVariants as kind
-use Rattle.pt_rights.specs.declared.entry.Entered.{Entered}
-use Rattle.pt_rights.specs.Kinds.{is_refusal, is_suspension, against_of, is_appeal, is_hearing, is_overturn}
-use Rattle.pt_rights.specs.Kinds.{decides_appeal}
-use Rattle.pt_rights.specs.Positions.{some_position, is_open, is_followed}
-use Rattle.pt_rights.specs.Limits.{days_to_appeal, days_to_decide}
+use Rattle.pt_rights_files.specs.declared.entry.Entry.{Entry}
+use Rattle.pt_rights_files.specs.declared.entry.Entry.TheVariants as kind
+use Rattle.pt_rights_files.specs.declared.entry.Entered.{Entered}
+use Rattle.pt_rights_files.specs.Kinds.{is_refusal, is_suspension, against_of, is_appeal, is_hearing, is_overturn}
+use Rattle.pt_rights_files.specs.Kinds.{decides_appeal}
+use Rattle.pt_rights_files.specs.Positions.{some_position, is_open, is_followed}
+use Rattle.pt_rights_files.specs.Limits.{days_to_appeal, days_to_decide}
 
 -- the entry is an appeal against the entry at the position
 abbrev pub appeals_against : ℕ → Entry → Bool

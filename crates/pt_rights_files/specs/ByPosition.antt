@@ -1,10 +1,10 @@
 -- A rider's standing and suspension by the numbered positions of the case file, counted from 0.
 use Rattle.std.specs.Prelude.{◌≡◌, ℕ, ◌+◌, ◌<◌, ◌≤◌, true, false, List, Some, None, slice_get}
-use Rattle.pt_rights.specs.declared.entry.Grant.{Grant}
-use Rattle.pt_rights.specs.declared.entry.Entered.{Entered}
-use Rattle.pt_rights.specs.Kinds.{is_complete, is_decision, grant_of, is_refusal, against_of, is_hearing}
-use Rattle.pt_rights.specs.Kinds.{is_overturn, decides_appeal, suspends}
-use Rattle.pt_rights.specs.Limits.{days_to_decide, days_to_presumption}
+use Rattle.pt_rights_files.specs.declared.entry.Grant.{Grant}
+use Rattle.pt_rights_files.specs.declared.entry.Entered.{Entered}
+use Rattle.pt_rights_files.specs.Kinds.{is_complete, is_decision, grant_of, is_refusal, against_of, is_hearing}
+use Rattle.pt_rights_files.specs.Kinds.{is_overturn, decides_appeal, suspends}
+use Rattle.pt_rights_files.specs.Limits.{days_to_decide, days_to_presumption}
 
 -- the entry at the position completes an application, and no later entry decides one
 pub record IsUnansweredAt (file : List Entered) (position : ℕ) (application : Entered) : Type 0 where

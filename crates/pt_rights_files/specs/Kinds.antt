@@ -1,8 +1,8 @@
 -- The kinds of entries of a case file.
 use Rattle.std.specs.Prelude.{ℕ, Bool, true, false, ◌&&◌, Option, Some, None, nat_le}
-use Rattle.pt_rights.specs.declared.entry.Grant.{Grant}
-use Rattle.pt_rights.specs.declared.entry.Entry.{Entry}
-use Rattle.pt_rights.specs.declared.entry.Entry.TheVariants as kind
+use Rattle.pt_rights_files.specs.declared.entry.Grant.{Grant}
+use Rattle.pt_rights_files.specs.declared.entry.Entry.{Entry}
+use Rattle.pt_rights_files.specs.declared.entry.Entry.TheVariants as kind
 
 -- the entry completes an application
 abbrev pub is_complete : Entry → Bool

@@ -1,13 +1,13 @@
 -- What a case file stores together with its entries.
 use Rattle.std.specs.Prelude.{◌≡◌, ℕ, Bool, ◌+◌, ◌≤◌, false, List, length, Option, Some, None, is_some, nat_le, min}
 use Rattle.std.specs.Option.{option_map_or}
-use Rattle.pt_rights.specs.declared.entry.Grant.{Grant}
-use Rattle.pt_rights.specs.declared.entry.Entry.{Entry}
-use Rattle.pt_rights.specs.declared.entry.Entry.TheVariants as kind
-use Rattle.pt_rights.specs.declared.entry.Entered.{Entered}
-use Rattle.pt_rights.specs.Appeals.{is_overdue}
-use Rattle.pt_rights.specs.Standing.{is_waiting, is_presumed, last_grant}
-use Rattle.pt_rights.specs.Limits.{days_to_decide, days_to_presumption, most_entries}
+use Rattle.pt_rights_files.specs.declared.entry.Grant.{Grant}
+use Rattle.pt_rights_files.specs.declared.entry.Entry.{Entry}
+use Rattle.pt_rights_files.specs.declared.entry.Entry.TheVariants as kind
+use Rattle.pt_rights_files.specs.declared.entry.Entered.{Entered}
+use Rattle.pt_rights_files.specs.Appeals.{is_overdue}
+use Rattle.pt_rights_files.specs.Standing.{is_waiting, is_presumed, last_grant}
+use Rattle.pt_rights_files.specs.Limits.{days_to_decide, days_to_presumption, most_entries}
 
 -- today is `days` days after the day of the mark, or later; false if there is no mark
 abbrev pub has_come : ℕ → Option ℕ → ℕ → Bool

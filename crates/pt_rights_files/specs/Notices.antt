@@ -1,14 +1,14 @@
 -- Patterns of missed trips, notices of suspension and their hearings (49 CFR 37.125(h)).
 use Rattle.std.specs.Prelude.{ℕ, ◌+◌, ◌*◌, Bool, true, false, ◌&&◌, ◌||◌, List, nat_le}
 use Rattle.std.specs.List.{count_by}
-use Rattle.pt_base.specs.declared.policy.Policy.{Policy}
-use Rattle.pt_rights.specs.declared.tally.Outcome.{Outcome}
-use Rattle.pt_rights.specs.declared.tally.Outcome.TheVariants as outcome
-use Rattle.pt_rights.specs.declared.tally.Tally.{Tally}
-use Rattle.pt_rights.specs.declared.entry.Entered.{Entered}
-use Rattle.pt_rights.specs.Kinds.{is_notice, is_notice_hearing, is_suspension}
-use Rattle.pt_rights.specs.Positions.{some_position, is_open, is_followed}
-use Rattle.pt_rights.specs.Limits.{days_after_first}
+use Rattle.pt_base_values.specs.declared.policy.Policy.{Policy}
+use Rattle.pt_rights_files.specs.declared.tally.Outcome.{Outcome}
+use Rattle.pt_rights_files.specs.declared.tally.Outcome.TheVariants as outcome
+use Rattle.pt_rights_files.specs.declared.tally.Tally.{Tally}
+use Rattle.pt_rights_files.specs.declared.entry.Entered.{Entered}
+use Rattle.pt_rights_files.specs.Kinds.{is_notice, is_notice_hearing, is_suspension}
+use Rattle.pt_rights_files.specs.Positions.{some_position, is_open, is_followed}
+use Rattle.pt_rights_files.specs.Limits.{days_after_first}
 
 -- the rider missed the trip; what the operator missed, or was beyond the rider's control, never counts
 abbrev pub is_missed : Outcome → Bool

@@ -1,14 +1,14 @@
 -- A rider's standing (49 CFR 37.125(c), (e) and (g)), by each entry of the case file and those after it.
 use Rattle.std.specs.Prelude.{ℕ, ◌+◌, Bool, ◌&&◌, not, List, Option, Some, None, nat_le, if◌then◌else◌}
 use Rattle.std.specs.List.{list_any, filter_map, last_or}
-use Rattle.pt_rights.specs.declared.entry.Grant.{Grant}
-use Rattle.pt_rights.specs.declared.entry.Entered.{Entered}
-use Rattle.pt_rights.specs.declared.case_file.Standing.{Standing}
-use Rattle.pt_rights.specs.declared.case_file.Standing.TheVariants as standing
-use Rattle.pt_rights.specs.Appeals.{is_overdue}
-use Rattle.pt_rights.specs.Kinds.{is_complete, is_decision, grant_of}
-use Rattle.pt_rights.specs.Positions.{some_position}
-use Rattle.pt_rights.specs.Limits.{days_to_presumption}
+use Rattle.pt_rights_files.specs.declared.entry.Grant.{Grant}
+use Rattle.pt_rights_files.specs.declared.entry.Entered.{Entered}
+use Rattle.pt_rights_files.specs.declared.case_file.Standing.{Standing}
+use Rattle.pt_rights_files.specs.declared.case_file.Standing.TheVariants as standing
+use Rattle.pt_rights_files.specs.Appeals.{is_overdue}
+use Rattle.pt_rights_files.specs.Kinds.{is_complete, is_decision, grant_of}
+use Rattle.pt_rights_files.specs.Positions.{some_position}
+use Rattle.pt_rights_files.specs.Limits.{days_to_presumption}
 
 -- an application is unanswered if no later entry decides one
 abbrev pub is_unanswered : Entered → List Entered → Bool

@@ -1,9 +1,9 @@
 -- Suspension of a rider (49 CFR 37.125(h)), by the entries of the case file.
 use Rattle.std.specs.Prelude.{ℕ, Bool, ◌&&◌, ◌||◌, not, List}
-use Rattle.pt_rights.specs.declared.entry.Entered.{Entered}
-use Rattle.pt_rights.specs.Kinds.{suspends}
-use Rattle.pt_rights.specs.Appeals.{appeals_against, some_pending, is_overturned}
-use Rattle.pt_rights.specs.Positions.{some_numbered}
+use Rattle.pt_rights_files.specs.declared.entry.Entered.{Entered}
+use Rattle.pt_rights_files.specs.Kinds.{suspends}
+use Rattle.pt_rights_files.specs.Appeals.{appeals_against, some_pending, is_overturned}
+use Rattle.pt_rights_files.specs.Positions.{some_numbered}
 
 -- the suspension at the position has no effect: an appeal against it is pending, or has overturned it
 abbrev pub is_lifted : List Entered → ℕ → Bool

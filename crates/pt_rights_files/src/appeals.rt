@@ -1,13 +1,13 @@
 ghost use Rattle.std.specs.Prelude.{◌≡◌, ℕ, ◌+◌, ◌&&◌, ◌||◌, not, ◌==◌, nat_le, option_copied};
-ghost use Rattle.pt_rights.specs.Appeals.{disputed, disputes, is_appealable, is_appealed, may_appeal};
-ghost use Rattle.pt_rights.specs.Appeals.{may_answer, some_pending, awaits_hearing, may_decide, is_overdue};
-ghost use Rattle.pt_rights.specs.Kinds.{is_appeal, is_refusal, is_hearing, decides_appeal};
-ghost use Rattle.pt_rights.specs.Marks.{earlier, has_come};
-ghost use Rattle.pt_rights.specs.Limits.{days_to_decide};
+ghost use Rattle.pt_rights_files.specs.Appeals.{disputed, disputes, is_appealable, is_appealed, may_appeal};
+ghost use Rattle.pt_rights_files.specs.Appeals.{may_answer, some_pending, awaits_hearing, may_decide, is_overdue};
+ghost use Rattle.pt_rights_files.specs.Kinds.{is_appeal, is_refusal, is_hearing, decides_appeal};
+ghost use Rattle.pt_rights_files.specs.Marks.{earlier, has_come};
+ghost use Rattle.pt_rights_files.specs.Limits.{days_to_decide};
 
 use crate::walk::{followed_after, open_after};
 use crate::{Entered, Entry, Position};
-use pt_base::{CallerId, Day};
+use pt_base_values::{CallerId, Day};
 
 /// How many days after a decision an appeal against it may be entered.
 const APPEAL_WITHIN: u32 = 60;

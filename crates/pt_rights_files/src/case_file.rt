@@ -1,17 +1,18 @@
 ghost use Rattle.std.specs.Prelude.{◌≡◌, ◌<◌, ◌≤◌, ◌↔◌, [], ◌∷◌, ◌++◌, length, IsTrue, IfErr, OnOk, OnErr};
-ghost use Rattle.pt_base.specs.declared.fault.Cause.TheVariants as cause;
-ghost use Rattle.pt_rights.specs.Admission.{admission_rules};
-ghost use Rattle.pt_rights.specs.ByPosition.{IsWaiting, IsPresumed, IsOverdue, IsGrantedFor, IsSuspended};
-ghost use Rattle.pt_rights.specs.Kinds.{grant_of};
-ghost use Rattle.pt_rights.specs.Marks.{has_come, waiting_with};
-ghost use Rattle.pt_rights.specs.Rules.{first_failing};
-ghost use Rattle.pt_rights.specs.Standing.{is_waiting, standing_of};
-ghost use Rattle.pt_rights.specs.Suspension.{is_suspended};
-ghost use Rattle.pt_rights.specs.declared.entry.Grant.{Grant};
-ghost use Rattle.pt_rights.specs.Limits.{most_entries};
+ghost use Rattle.pt_base_values.specs.Fault.{fault_at};
+ghost use Rattle.pt_base_values.specs.declared.fault.Cause.TheVariants as cause;
+ghost use Rattle.pt_rights_files.specs.Admission.{admission_rules};
+ghost use Rattle.pt_rights_files.specs.ByPosition.{IsWaiting, IsPresumed, IsOverdue, IsGrantedFor, IsSuspended};
+ghost use Rattle.pt_rights_files.specs.Kinds.{grant_of};
+ghost use Rattle.pt_rights_files.specs.Marks.{has_come, waiting_with};
+ghost use Rattle.pt_rights_files.specs.Rules.{first_failing};
+ghost use Rattle.pt_rights_files.specs.Standing.{is_waiting, standing_of};
+ghost use Rattle.pt_rights_files.specs.Suspension.{is_suspended};
+ghost use Rattle.pt_rights_files.specs.declared.entry.Grant.{Grant};
+ghost use Rattle.pt_rights_files.specs.Limits.{most_entries};
 
 use crate::{Entered, Entry, Grant, Tally, appeals, notices, suspensions};
-use pt_base::{CallerId, Cause, Day, Fault, Policy, Residence, Rider, Rule};
+use pt_base_values::{CallerId, Cause, Day, Fault, Policy, Residence, Rider, Rule};
 use std::alloc::{AllocError, Global};
 use std::marker::Model;
 
@@ -51,11 +52,11 @@ pub struct CaseFile {
 
 impl Model for CaseFile {
     ghost use Rattle.std.specs.Prelude.{List};
-    ghost use Rattle.pt_rights.specs.declared.entry.Entered.{Entered};
+    ghost use Rattle.pt_rights_files.specs.declared.entry.Entered.{Entered};
 
     ghost Value = { List Entered };
 
-    ghost use Rattle.pt_rights.specs.Marks.{AreMarks};
+    ghost use Rattle.pt_rights_files.specs.Marks.{AreMarks};
 
     ghost view = { λ file. file.entries.items };
 
@@ -173,7 +174,7 @@ impl CaseFile {
             ≡ self.old ++ record { entry = entry; day = today; author = author } ∷ []) }
         ensures unchanged { OnErr result (self.new ≡ self.old) }
         ensures returned { IfErr result (λ refused. refused.0 ≡ entry) }
-        ensures fault { IfErr result (λ refused. refused.1 ≡ record { cause = cause.Memory; row = 0 }) }
+        ensures fault { IfErr result (λ refused. refused.1 ≡ fault_at cause.Memory 0) }
     {
         let waiting = waiting_after(self.waiting, &entry, today);
         let granted = entry.grant();

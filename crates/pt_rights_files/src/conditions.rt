@@ -1,6 +1,6 @@
 ghost use Rattle.std.specs.Prelude.{⊤, ◌≡◌, ◌↔◌, IsSome, IfSome};
 ghost use Rattle.std.specs.Cmp.Lexicographic.{pointwise, lists_per, lists_equiv};
-ghost use Rattle.pt_rights.specs.Conditions.{IsConditions};
+ghost use Rattle.pt_rights_files.specs.Conditions.{IsConditions};
 
 use crate::{Feet, Months};
 use arrayvec::ArrayVec;
@@ -33,11 +33,11 @@ pub struct Conditions {
 
 impl Model for Conditions {
     ghost use Rattle.std.specs.Prelude.{List};
-    ghost use Rattle.pt_rights.specs.declared.conditions.Condition.{Condition};
+    ghost use Rattle.pt_rights_files.specs.declared.conditions.Condition.{Condition};
 
     ghost Value = { List Condition };
 
-    ghost use Rattle.pt_rights.specs.Conditions.{IsConditions};
+    ghost use Rattle.pt_rights_files.specs.Conditions.{IsConditions};
 
     ghost view = { λ conditions. conditions.members.items };
 
@@ -88,7 +88,7 @@ impl Clone for Conditions {
 }
 
 impl PartialEq for Conditions {
-    ghost use Rattle.pt_rights.specs.contracts.conditions.ConditionPartialEq.TheImpl.Laws.{laws-law};
+    ghost use Rattle.pt_rights_files.specs.contracts.conditions.ConditionPartialEq.TheImpl.Laws.{laws-law};
 
     ghost eq = { pointwise ⟦<Condition as PartialEq>⟧.eq };
 
@@ -100,7 +100,7 @@ impl PartialEq for Conditions {
 }
 
 impl Eq for Conditions {
-    ghost use Rattle.pt_rights.specs.contracts.conditions.ConditionEq.TheImpl.Laws.{laws-law};
+    ghost use Rattle.pt_rights_files.specs.contracts.conditions.ConditionEq.TheImpl.Laws.{laws-law};
 
     ghost laws = { lists_equiv laws-law };
 }

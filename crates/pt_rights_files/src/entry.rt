@@ -1,10 +1,10 @@
 ghost use Rattle.std.specs.Prelude.{⊤, ◌≡◌, ◌||◌};
-ghost use Rattle.pt_rights.specs.Appeals.{appeals_against, may_answer};
-ghost use Rattle.pt_rights.specs.Kinds.{grant_of, is_refusal, is_appeal, is_hearing, is_overturn};
-ghost use Rattle.pt_rights.specs.Kinds.{decides_appeal, is_notice, is_notice_hearing, is_suspension, suspends};
+ghost use Rattle.pt_rights_files.specs.Appeals.{appeals_against, may_answer};
+ghost use Rattle.pt_rights_files.specs.Kinds.{grant_of, is_refusal, is_appeal, is_hearing, is_overturn};
+ghost use Rattle.pt_rights_files.specs.Kinds.{decides_appeal, is_notice, is_notice_hearing, is_suspension, suspends};
 
 use crate::{Conditions, Position, Reasons};
-use pt_base::{CallerId, Day};
+use pt_base_values::{CallerId, Day};
 use std::alloc::AllocError;
 
 /// What a grant of eligibility allows.

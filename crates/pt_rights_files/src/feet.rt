@@ -1,5 +1,5 @@
 ghost use Rattle.std.specs.Prelude.{◌≡◌, ◌↔◌, IsSome, IfSome};
-ghost use Rattle.pt_rights.specs.Feet.{IsFeet};
+ghost use Rattle.pt_rights_files.specs.Feet.{IsFeet};
 
 use std::marker::Model;
 
@@ -14,7 +14,7 @@ pub struct Feet {
 
 impl Model for Feet {
     ghost use Rattle.std.specs.Prelude.{ℕ};
-    ghost use Rattle.pt_rights.specs.Feet.{IsFeet};
+    ghost use Rattle.pt_rights_files.specs.Feet.{IsFeet};
 
     ghost Value = { ℕ };
 

@@ -1,5 +1,5 @@
 ghost use Rattle.std.specs.Prelude.{◌≡◌, ◌≤◌, ◌↔◌, length, IsTrue, IsSome, IfSome, Contains};
-ghost use Rattle.pt_rights.specs.Months.{numbers_of, IsMonthSet, AreMonths};
+ghost use Rattle.pt_rights_files.specs.Months.{numbers_of, IsMonthSet, AreMonths};
 
 use arrayvec::ArrayVec;
 use std::marker::Model;
@@ -12,7 +12,7 @@ pub struct Months {
 
 impl Model for Months {
     ghost use Rattle.std.specs.Prelude.{List, Bool};
-    ghost use Rattle.pt_rights.specs.Months.{IsMonthSet};
+    ghost use Rattle.pt_rights_files.specs.Months.{IsMonthSet};
 
     ghost Value = { List Bool };
 

@@ -1,10 +1,10 @@
 ghost use Rattle.std.specs.Prelude.{◌≡◌};
-ghost use Rattle.pt_rights.specs.Notices.{is_missed, is_recent, recent, missed, is_pattern};
-ghost use Rattle.pt_rights.specs.Notices.{awaits_notice_hearing, may_suspend, is_term};
+ghost use Rattle.pt_rights_files.specs.Notices.{is_missed, is_recent, recent, missed, is_pattern};
+ghost use Rattle.pt_rights_files.specs.Notices.{awaits_notice_hearing, may_suspend, is_term};
 
 use crate::walk::{followed_after, open_after};
 use crate::{Entered, Outcome, Tally};
-use pt_base::{Day, Policy};
+use pt_base_values::{Day, Policy};
 
 /// The most days from the first day of a suspension to its last.
 const MOST_FURTHER_DAYS: u32 = 29;

@@ -1,5 +1,5 @@
 ghost use Rattle.std.specs.Prelude.{◌≡◌, ◌<◌, ◌↔◌, IsSome, IfSome};
-ghost use Rattle.pt_rights.specs.Limits.{most_entries};
+ghost use Rattle.pt_rights_files.specs.Limits.{most_entries};
 
 use crate::MOST_ENTRIES;
 use std::marker::Model;
@@ -12,7 +12,7 @@ pub struct Position {
 
 impl Model for Position {
     ghost use Rattle.std.specs.Prelude.{ℕ, ◌<◌};
-    ghost use Rattle.pt_rights.specs.Limits.{most_entries};
+    ghost use Rattle.pt_rights_files.specs.Limits.{most_entries};
 
     ghost Value = { ℕ };
 

@@ -1,7 +1,7 @@
 ghost use Rattle.std.specs.Prelude.{◌≡◌, ℕ, ◌↔◌, List, IsSome, IfSome, nat_eq};
 ghost use Rattle.std.specs.Cmp.{partial_equiv_from_equiv};
 ghost use Rattle.std.specs.Cmp.Lexicographic.{nat_list_eq_equiv, pointwise};
-ghost use Rattle.pt_rights.specs.Reasons.{IsReasons};
+ghost use Rattle.pt_rights_files.specs.Reasons.{IsReasons};
 
 use std::alloc::AllocError;
 use std::marker::Model;
@@ -20,7 +20,7 @@ impl Model for Reasons {
 
     ghost Value = { List ℕ };
 
-    ghost use Rattle.pt_rights.specs.Reasons.{IsReasons};
+    ghost use Rattle.pt_rights_files.specs.Reasons.{IsReasons};
 
     ghost view = { λ reasons. reasons.bytes.items };
 

@@ -1,12 +1,12 @@
 ghost use Rattle.std.specs.Prelude.{◌≡◌, ℕ, ◌<◌, ◌≤◌, ◌&&◌, ◌||◌, false, length, slice_index_or, if◌then◌else◌};
-ghost use Rattle.pt_rights.specs.Appeals.{appeals_against};
-ghost use Rattle.pt_rights.specs.Kinds.{is_overturn, decides_appeal};
-ghost use Rattle.pt_rights.specs.Suspension.{is_lifted, is_suspended};
-ghost use Rattle.pt_rights.specs.declared.suspensions.TheConstants.{POSITIONS};
-ghost use Rattle.pt_rights.specs.Limits.{most_entries};
+ghost use Rattle.pt_rights_files.specs.Appeals.{appeals_against};
+ghost use Rattle.pt_rights_files.specs.Kinds.{is_overturn, decides_appeal};
+ghost use Rattle.pt_rights_files.specs.Suspension.{is_lifted, is_suspended};
+ghost use Rattle.pt_rights_files.specs.declared.suspensions.TheConstants.{POSITIONS};
+ghost use Rattle.pt_rights_files.specs.Limits.{most_entries};
 
 use crate::{Entered, Entry, MOST_ENTRIES};
-use pt_base::Day;
+use pt_base_values::Day;
 
 /// The number of positions that an appeal can name.
 const POSITIONS: usize = MOST_ENTRIES;

@@ -1,4 +1,4 @@
-use pt_base::Day;
+use pt_base_values::Day;
 
 /// How a trip ended.
 #[derive(Clone, Copy, PartialEq, Eq)]

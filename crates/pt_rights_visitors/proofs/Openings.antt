@@ -5,7 +5,7 @@ use Rattle.std.specs.List.{All, Contains, filter}
 use Rattle.std.proofs.lemmas.Bool.{cases_lt}
 use Rattle.std.proofs.lemmas.Bool.Decides.{nat_tests}
 use Rattle.std.proofs.lemmas.List.Elements.{All-nil, All-cons, All-weaker, All-filter, All-contains, All-contains_itself, Contains-append_cases, Contains-append_left, Contains-append_right}
-use Rattle.pt_visitors.specs.Periods.{days_with, IsOpening, first, next, OpensPeriodOf}
+use Rattle.pt_rights_visitors.specs.Periods.{days_with, IsOpening, first, next, OpensPeriodOf}
 
 -- a member is the day or one of the uses
 pub days_with_cases : (uses : List ℕ) (day member : ℕ) → Contains (days_with uses day) member → (member ≡ day) ⊎ Contains uses member

@@ -11,8 +11,8 @@ use Rattle.std.proofs.lemmas.List.Elements.{Contains-get_or}
 use Rattle.std.proofs.lemmas.List.Kept.{AllPairs-from_increasing}
 use Rattle.std.proofs.lemmas.List.Recursion.{is_count_by}
 use Rattle.std.proofs.lemmas.List.Sums.{count_by_more_yes, count_by_more_no, sum_by-cons}
-use Rattle.pt_visitors.specs.Periods.{days_with, IsLeastFrom, IsOpening, first, next, is_in_period, days_of_period, MayUse}
-use Rattle.pt_visitors.proofs.Openings.{days_with_cases, days_with_day, days_with_used, opens_period, opens_period_unique}
+use Rattle.pt_rights_visitors.specs.Periods.{days_with, IsLeastFrom, IsOpening, first, next, is_in_period, days_of_period, MayUse}
+use Rattle.pt_rights_visitors.proofs.Openings.{days_with_cases, days_with_day, days_with_used, opens_period, opens_period_unique}
 
 -- a use other than the day lies in the period
 abbrev pub is_other : ℕ → ℕ → ℕ → Bool

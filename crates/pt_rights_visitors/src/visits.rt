@@ -1,8 +1,8 @@
 ghost use Rattle.std.specs.Prelude.{◌≡◌, ◌↔◌, IsTrue};
 ghost use Rattle.std.specs.List.Sorted.{IsStrictlyIncreasing};
-ghost use Rattle.pt_visitors.specs.Periods.{MayUse, is_in_period};
+ghost use Rattle.pt_rights_visitors.specs.Periods.{MayUse, is_in_period};
 
-use pt_base::Day;
+use pt_base_values::Day;
 
 /// The number of days in a period.
 const PERIOD: u32 = 365;

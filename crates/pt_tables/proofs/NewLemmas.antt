@@ -8,9 +8,9 @@ use Rattle.sqlite.specs.Store.{Ghosts}
 use Rattle.sqlite.specs.Held.{Held, state}
 use Rattle.sqlite.specs.Schema.{Schema}
 use Rattle.sqlite.proofs.Callers.{survives_begin}
-use Rattle.pt_requests.specs.Sha256.{sha256}
-use Rattle.pt_base.specs.declared.policy.Policy.{Policy}
-use Rattle.pt_store.specs.LeastState.{IsLeastPolicy, IsLeastState}
+use Rattle.pt_desk_requests.specs.Sha256.{sha256}
+use Rattle.pt_base_values.specs.declared.policy.Policy.{Policy}
+use Rattle.pt_desk_store.specs.LeastState.{IsLeastPolicy, IsLeastState}
 use Rattle.pt_tables_keeper.specs.State.{State}
 use Rattle.pt_tables_writing.specs.Least.{IsNew, IsAsBefore, IsDeskDatabase, IsInUse, IsUndone, IsNewDesk, IsLeastDesk, first_admin}
 use Rattle.pt_tables_rows.specs.Rows.{desk_row, caller_row}

@@ -1,9 +1,9 @@
 //! Creates the tables of a new desk.
 
 ghost use Rattle.std.specs.Prelude.{◌≡◌, ◌⊎◌, ◌↔◌, IsTrue, IfOk, IfErr, OnOk, OnErr, MatchResult, false};
-ghost use Rattle.pt_base.specs.declared.fault.Cause.TheVariants as cause;
-ghost use Rattle.pt_store.specs.LeastState.{IsLeastState};
-ghost use Rattle.pt_store.specs.Store.{IsSettled};
+ghost use Rattle.pt_base_values.specs.declared.fault.Cause.TheVariants as cause;
+ghost use Rattle.pt_desk_store.specs.LeastState.{IsLeastState};
+ghost use Rattle.pt_desk_store.specs.Store.{IsSettled};
 ghost use Rattle.pt_tables_keeper.specs.Sound.{IsSound};
 ghost use Rattle.pt_tables_keeper.specs.State.{State};
 ghost use Rattle.sqlite.specs.Held.{state};
@@ -17,9 +17,9 @@ ghost use Rattle.pt_tables_rows.specs.Schema.{no_schema};
 ghost use Rattle.pt_tables_rows.specs.Tables.{IsKept};
 
 use crate::keeping::keeper_of;
-use pt_base::Policy;
-use pt_requests::Digest;
-use pt_store::{Keeper, ListKeeper};
+use pt_base_values::Policy;
+use pt_desk_requests::Digest;
+use pt_desk_store::{Keeper, ListKeeper};
 use pt_tables_keeper::SqlKeeper;
 use pt_tables_opening::{OpenFault, fault_of};
 use pt_tables_rows::create_tables;

@@ -1,15 +1,15 @@
 //! The store over tables whose content was just created or read.
 
 ghost use Rattle.std.specs.Prelude.{◌≡◌, false};
-ghost use Rattle.pt_store.specs.Store.{IsSettled};
+ghost use Rattle.pt_desk_store.specs.Store.{IsSettled};
 ghost use Rattle.sqlite.specs.Held.{state};
 ghost use Rattle.sqlite.specs.State.{HasCleanDisk};
-ghost use Rattle.pt_store.specs.Records.{Each};
+ghost use Rattle.pt_desk_store.specs.Records.{Each};
 ghost use Rattle.pt_tables_opening.specs.Plans.{HasVersionAmong};
 ghost use Rattle.pt_tables_rows.specs.Tables.{IsWellFormed, IsKept};
 ghost use Rattle.pt_tables_writing.specs.Committing.{LeavesDesk};
 
-use pt_store::{Keeper, ListKeeper};
+use pt_desk_store::{Keeper, ListKeeper};
 use pt_tables_keeper::{Content, Known, SqlKeeper};
 use sqlite::{Alter, Connection};
 use std::alloc::Global;

@@ -4,6 +4,8 @@
 pub use adopting::adopt;
 pub use creating::create;
 pub use migration::migrate;
+pub use pt_tables_keeper::SqlKeeper;
+pub use pt_tables_opening::OpenFault;
 
 mod adopting;
 mod creating;

@@ -1,8 +1,10 @@
 ghost use Rattle.std.specs.Prelude.{◌≡◌, ◌⊎◌, ℕ, IsTrue, IfOk, IfErr, OnOk, OnErr, false};
 ghost use Rattle.sqlite.specs.Held.{state};
 ghost use Rattle.sqlite.specs.State.{HasCleanDisk, Survives};
-ghost use Rattle.pt_base.specs.declared.fault.Cause.TheVariants as cause;
+ghost use Rattle.pt_base_values.specs.Fault.{code_of};
+ghost use Rattle.pt_base_values.specs.declared.fault.Cause.TheVariants as cause;
 ghost use Rattle.pt_tables.specs.Migration.{IsMigrated, IsMigratedDesk, IsMigratedFrom, IsRaised};
+ghost use Rattle.pt_tables_opening.specs.Asking.{HasCause};
 ghost use Rattle.pt_tables_opening.specs.Faults.{fault};
 ghost use Rattle.pt_tables_opening.specs.Opening.{IsEarlierVersion};
 ghost use Rattle.pt_tables_rows.specs.Schema.{IsEarlier, schema_of};
@@ -45,8 +47,14 @@ pub fn migrate<S: Alter>(alloc: Global, conn: &mut Connection<S>) -> Result<(), 
     ensures in_use { IsTrue (state S.Store conn.old).in_transaction → result ≡ Err (fault cause.StoreFailed) }
     ensures faults { IfErr result (λ refused. (refused ≡ fault cause.Memory)
         ⊎ ((refused ≡ fault cause.StoreFailed) ⊎ (refused ≡ fault cause.OtherTables))) }
+    // The reads blame the store only with a cause. Where the tables are of no earlier version, nothing else is done.
+    ensures caused { HasCleanDisk (state S.Store conn.new) → IfErr result (λ refused. refused ≡ fault cause.StoreFailed
+        → IsTrue (state S.Store conn.old).in_transaction
+        ⊎ (HasCause (state S.Store conn.old) (state S.Store conn.new)
+        ⊎ (version : ℕ) × IsEarlierVersion version (state S.Store conn.old).now)) }
     ensures other_tables { HasCleanDisk (state S.Store conn.new) → IfErr result (λ refused.
-        refused.cause ≡ cause.OtherTables → (version : ℕ) → IsEarlierVersion version (state S.Store conn.old).now → ⊥) }
+        refused.code ≡ code_of cause.OtherTables
+        → (version : ℕ) → IsEarlierVersion version (state S.Store conn.old).now → ⊥) }
     ensures unchanged { HasCleanDisk (state S.Store conn.new)
         → OnErr result (IsAsBefore (state S.Store conn.old) (state S.Store conn.new)) }
     ensures crash { Survives (state S.Store conn.old) (state S.Store conn.new)

@@ -6,13 +6,13 @@ use Rattle.sqlite.specs.Effect.{Database}
 use Rattle.sqlite.specs.Order.{Row}
 use Rattle.sqlite.specs.Table.{Table}
 use Rattle.sqlite_keyed.proofs.ListLemmas.{filter-map, IsPermutation-filter}
-use Rattle.pt_records.specs.Records.{Each, IsInOrder}
-use Rattle.pt_records.proofs.TableLemmas.{Each-filter, IsInOrder-filter}
+use Rattle.pt_base_records.specs.Records.{Each, IsInOrder}
+use Rattle.pt_base_records.proofs.TableLemmas.{Each-filter, IsInOrder-filter}
 use Rattle.pt_tables_rows.specs.Schema.{desk_schema}
 use Rattle.pt_tables_rows.specs.Tables.{AreRows, columns_of}
 use Rattle.pt_tables_rows.proofs.ColumnLemmas.{number_in}
 use Rattle.pt_tables_asking.specs.Asking.{AreInOrder, HasAnswer}
-use Rattle.pt_tables_asking.proofs.AskedQueries.{AsksFor, answers_passing}
+use Rattle.pt_tables_asking.proofs.AskedQueries.{AsksFor, answers_passing, is_served}
 use Rattle.pt_tables_asking.proofs.OrderedLemmas.{IsCounted, IsPaired, count_le, double_key, keeps_order, pair_le}
 
 -- ---- orders
@@ -38,6 +38,7 @@ module _ {A : Type 0} (key : A → ℕ) (row_of : A → Row) (Fits : A → Type 
       → HasAnswer text params db (map row_of xs)
   has_answer xs each order are = record {
     schema = has;
+    served = is_served desk_schema columns home text params passes_row asks;
     shown = λ rows h.
         let both = answers_passing desk_schema columns home text params passes_row asks db rows h in
         let there = filter passes_row (map (columns_of home) (db.trees home.tree)) in

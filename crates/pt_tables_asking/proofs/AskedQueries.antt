@@ -1,13 +1,13 @@
 -- The answer to a query for the rows of a table that pass a test, in the order of its first columns.
-use Rattle.std.proofs.Common.{◌≡◌, ◌+◌, ◌<◌, zero, suc, ℕ, pos, negsuc, List, [], ◌∷◌, map, filter, flat_map, get_or, length, Bool, true, false, cond, None, refl, sym, ap, ap₂, subst, ◌∙◌, arith}
-use Rattle.std.specs.Prelude.{IsPermutation, IsSorted, replicate}
+use Rattle.std.proofs.Common.{◌≡◌, ◌+◌, ◌<◌, zero, suc, ℕ, pos, negsuc, List, [], ◌∷◌, map, filter, flat_map, get_or, length, Bool, true, false, cond, None, inl, inr, refl, sym, ap, ap₂, subst, ◌∙◌, arith}
+use Rattle.std.specs.Prelude.{Any, IsPermutation, IsSorted, replicate}
 use Rattle.std.specs.List.{AllByRecursion, list_all}
 use Rattle.std.specs.Ordering.{is_lt, ordering_then}
 use Rattle.std.proofs.lemmas.List.Sorted.{IsPermutation-map}
 use Rattle.sqlite.specs.Collation.TheVariants.{Binary}
 use Rattle.sqlite.specs.Command.TheVariants.{Select}
 use Rattle.sqlite.specs.Given.{IsPlain}
-use Rattle.sqlite.specs.Effect.{Database, Reads}
+use Rattle.sqlite.specs.Effect.{Database, IsShown, Reads, RefusesToRead}
 use Rattle.sqlite.specs.Listing.{understood, reads_listing}
 use Rattle.sqlite.specs.Order.{Row, column}
 use Rattle.sqlite.specs.Program.{overlay}
@@ -24,7 +24,7 @@ use Rattle.sqlite_value.specs.declared.keys.Key.{Key}
 use Rattle.pt_tables_rows.specs.Schema.{desk_schema}
 use Rattle.pt_tables_rows.specs.Tables.{columns_of}
 use Rattle.pt_tables_rows.proofs.NumberQueries.{bare}
-use Rattle.pt_tables_asking.specs.Asking.{AreInOrder, command_in}
+use Rattle.pt_tables_asking.specs.Asking.{AreInOrder, IsServedIn, Takes, command_in}
 
 -- these fields of the rows of a table that pass these tests, in an order
 abbrev pub where_query : ℕ → List Term → List Term → List (Term × Key) → Query
@@ -49,6 +49,14 @@ abbrev pub AreAlike : ℕ → ℕ → Row → Row → Type 0
 AreAlike at zero one other = Unit {0}
 AreAlike at (suc n) one other = (column one at ≡ column other at) × AreAlike (suc at) n one other
 
+-- the types of its terms do not fit
+abbrev pub IsMistyped : Schema → Trees → Query → Row → Type 0
+IsMistyped schema trees query params = IsShown (λ (r : Row). r) (record { schema = schema; trees = trees }) (record { lets = []; body = query }) params None
+
+-- what is computed to be true is not false
+pub untrue : true ≡ false → ⊥
+untrue lie = absurd (cc)
+
 -- The query with these parameters asks for the rows of the table that pass, with all their columns, in the order of
 -- this many first columns. The tables have this schema.
 pub record AsksForIn (schema : Schema) (columns : ℕ) (table : Table) (text : List ℕ) (params : Row) (passes : Row → Bool) : Type 0 where
@@ -59,6 +67,8 @@ pub record AsksForIn (schema : Schema) (columns : ℕ) (table : Table) (text : L
   pub is : command_in (understood schema text) ≡ Select (record { lets = []; body = where_query table.tree tests fields order }) names
   pub plain : IsPlain (understood schema text)
   pub unlisted : reads_listing schema text ≡ false
+  pub takes : Takes text params (understood schema text)
+  pub typed : (trees : Trees) → IsMistyped schema trees (where_query table.tree tests fields order) params → ⊥
   pub shows : (r : Row) → eval_all fields (params ∷ r ∷ []) ≡ columns_of table r
   pub says : (r : Row) → list_all (holds (params ∷ r ∷ [])) tests ≡ passes (columns_of table r)
   pub keys : map (λ k. k.1) order ≡ keys_of columns
@@ -67,6 +77,31 @@ pub record AsksForIn (schema : Schema) (columns : ℕ) (table : Table) (text : L
 -- and where they are the desk's
 abbrev pub AsksFor : ℕ → Table → List ℕ → Row → (Row → Bool) → Type 0
 AsksFor columns table text params passes = AsksForIn desk_schema columns table text params passes
+
+-- ---- refusals
+
+none_overflows : (P : Row → Type 0) → ((r : Row) → P r → ⊥) → (rows : List Row) → Any P rows → ⊥
+none_overflows P never rows h = never h.1 h.4
+
+-- such a query is refused only where its steps are limited
+pub is_served : (schema : Schema) (columns : ℕ) (table : Table) (text : List ℕ) (params : Row) (passes : Row → Bool) → AsksForIn schema columns table text params passes
+    → IsServedIn schema text params
+is_served schema columns table text params passes it = record {
+  takes = it.takes;
+  refused = λ limit db e has h.
+      let query = where_query table.tree it.tests it.fields it.order in
+      let read : RefusesToRead limit (Select (record { lets = []; body = query }) it.names) db params e = subst (λ k. RefusesToRead limit k db params e) it.is h in
+      elim read [
+        | inl mismatch ↦ absurd (it.typed db.trees (subst (λ s. IsMistyped s db.trees query params) has mismatch.1))
+        | inr other ↦ elim other [
+          | inl overflows ↦ elim overflows.1 [
+            | inl groups ↦ absurd groups
+            | inr folds ↦ absurd (none_overflows (λ r. ⊥) (λ r no. no) (overlay db.trees [] table.tree) folds)
+          ]
+          | inr limited ↦ limited.1
+        ]
+      ];
+}
 
 -- ---- orders
 

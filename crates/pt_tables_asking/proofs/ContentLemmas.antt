@@ -7,18 +7,18 @@ use Rattle.sqlite.specs.Effect.{Database}
 use Rattle.sqlite.specs.Order.{Row}
 use Rattle.sqlite.specs.State.{State as Connected, HasCleanDisk}
 use Rattle.sqlite.specs.Table.{Table}
-use Rattle.pt_base.specs.declared.rider.Rider.{Rider}
-use Rattle.pt_base.specs.declared.trip.Trip.{Trip}
+use Rattle.pt_base_values.specs.declared.rider.Rider.{Rider}
+use Rattle.pt_base_values.specs.declared.trip.Trip.{Trip}
 use Rattle.pt_desk_rules.specs.Parts as part
 use Rattle.pt_desk_rules.specs.Planned.{trips_of, trips_on}
 use Rattle.pt_desk_rules.specs.State.{State, entries_of, entry_key, kept_key, rider_key, span_of, trip_key}
 use Rattle.pt_desk_rules.specs.declared.change.FiledEntry.{FiledEntry}
 use Rattle.pt_desk_rules.specs.declared.kept.Kept.{Kept}
 use Rattle.pt_desk_rules.specs.declared.table_name.TableName.TheVariants as name
-use Rattle.pt_records.specs.Keys.{pair_key}
-use Rattle.pt_records.specs.Records.{Each, IsInOrder, is_within, within}
-use Rattle.pt_records.proofs.OrderLemmas.{Each-weaker}
-use Rattle.pt_records.proofs.TableLemmas.{Each-filter, IsInOrder-filter}
+use Rattle.pt_base_records.specs.Keys.{pair_key}
+use Rattle.pt_base_records.specs.Records.{Each, IsInOrder, is_within, within}
+use Rattle.pt_base_records.proofs.OrderLemmas.{Each-weaker}
+use Rattle.pt_base_records.proofs.TableLemmas.{Each-filter, IsInOrder-filter}
 use Rattle.pt_desk_rules.specs.Ranges.{FitsFiled, FitsKept, FitsRider, FitsTrip}
 use Rattle.pt_tables_rows.specs.Rows.{entry_row, kept_row, number_value, rider_chair_rows, rider_row, row_if, trip_chair_rows, trip_row}
 use Rattle.pt_tables_rows.specs.Schema.{desk_schema, entries_table, kept_table, rider_chairs_table, riders_table, trip_chairs_table, trips_table}

@@ -5,16 +5,16 @@ use Rattle.std.specs.Option.{option_to_list}
 use Rattle.std.proofs.lemmas.Bool.{and_parts}
 use Rattle.std.proofs.lemmas.Bool.Decides.{nat_tests}
 use Rattle.sqlite_trees.proofs.ListLemmas.{filter_none}
-use Rattle.pt_base.specs.declared.vehicle.Vehicle.{Vehicle}
+use Rattle.pt_base_values.specs.declared.vehicle.Vehicle.{Vehicle}
 use Rattle.pt_desk_rules.specs.Fleet.{has_version}
 use Rattle.pt_desk_rules.specs.Parts as part
 use Rattle.pt_desk_rules.specs.Planned.{planned_on}
 use Rattle.pt_desk_rules.specs.Ranges.{FitsPlan}
 use Rattle.pt_desk_rules.specs.State.{State, vehicle_key}
-use Rattle.pt_records.specs.Keys.{pair_key}
-use Rattle.pt_records.specs.Records.{Each, IsInOrder, record_at}
-use Rattle.pt_records.proofs.OrderLemmas.{Each-weaker}
-use Rattle.pt_scheduling.specs.Plan.{Plan, plan_key}
+use Rattle.pt_base_records.specs.Keys.{pair_key}
+use Rattle.pt_base_records.specs.Records.{Each, IsInOrder, record_at}
+use Rattle.pt_base_records.proofs.OrderLemmas.{Each-weaker}
+use Rattle.pt_desk_scheduling.specs.Plan.{Plan, plan_key}
 use Rattle.pt_tables_reading.specs.Ranges.{IsVehicle}
 use Rattle.pt_tables_rows.specs.Tables.{IsWellFormed}
 use Rattle.pt_tables_asking.specs.Plans.{HasVersionAmong, vehicle_ids}

@@ -1,5 +1,6 @@
 pub mod AnswerLemmas
 pub mod AskedQueries
+pub mod CauseLemmas
 pub mod ContentLemmas
 pub mod DayLemmas
 pub mod InsideLemmas

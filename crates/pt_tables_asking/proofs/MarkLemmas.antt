@@ -7,10 +7,10 @@ use Rattle.std.proofs.lemmas.Bool.Decides.{nat_tests}
 use Rattle.sqlite.specs.Effect.{Database}
 use Rattle.sqlite.specs.Order.{Row}
 use Rattle.sqlite.specs.State.{State as Connected, HasCleanDisk}
-use Rattle.pt_records.specs.Records.{Each, IsInOrder, is_within, record_at, within}
-use Rattle.pt_records.specs.declared.span.Span.{Span}
-use Rattle.pt_records.proofs.OrderLemmas.{Each-both, Each-weaker, compared, record_at-above, record_at-here, record_at-past}
-use Rattle.pt_records.proofs.TableLemmas.{Each-filter, IsInOrder-filter}
+use Rattle.pt_base_records.specs.Records.{Each, IsInOrder, is_within, record_at, within}
+use Rattle.pt_base_records.specs.declared.span.Span.{Span}
+use Rattle.pt_base_records.proofs.OrderLemmas.{Each-both, Each-weaker, compared, record_at-above, record_at-here, record_at-past}
+use Rattle.pt_base_records.proofs.TableLemmas.{Each-filter, IsInOrder-filter}
 use Rattle.pt_tables_rows.specs.Rows.{number_value, row_if}
 use Rattle.pt_tables_rows.proofs.ColumnLemmas.{number_in}
 use Rattle.pt_tables_asking.specs.Asking.{HasAnswer, Rests, ShowsCommit}

@@ -14,9 +14,9 @@ use Rattle.sqlite_trees.proofs.ListLemmas.{all-permutation}
 use Rattle.sqlite_typed.proofs.TestLemmas.{then_key, last_key}
 use Rattle.sqlite_value.specs.Order.{value_cmp}
 use Rattle.sqlite_value.proofs.OrderLemmas.{value_cmp-Int}
-use Rattle.pt_records.specs.Keys.{pair_key}
-use Rattle.pt_records.specs.Records.{Each, IsInOrder}
-use Rattle.pt_records.proofs.OrderLemmas.{Each-weaker, compared}
+use Rattle.pt_base_records.specs.Keys.{pair_key}
+use Rattle.pt_base_records.specs.Records.{Each, IsInOrder}
+use Rattle.pt_base_records.proofs.OrderLemmas.{Each-weaker, compared}
 use Rattle.pt_tables_rows.specs.Rows.{number_value}
 use Rattle.pt_tables_asking.specs.Asking.{AreInOrder}
 use Rattle.pt_tables_asking.proofs.AskedQueries.{keys_of}

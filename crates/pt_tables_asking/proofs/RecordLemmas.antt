@@ -4,8 +4,8 @@ use Rattle.std.specs.Prelude.{nat_lt}
 use Rattle.std.specs.List.{IsAllAdjacentAnswer}
 use Rattle.std.proofs.lemmas.Bool.Decides.{nat_tests}
 use Rattle.sqlite.specs.Order.{Row}
-use Rattle.pt_records.specs.Records.{Each, IsInOrder}
-use Rattle.pt_records.proofs.SplitLemmas.{later_key}
+use Rattle.pt_base_records.specs.Records.{Each, IsInOrder}
+use Rattle.pt_base_records.proofs.SplitLemmas.{later_key}
 use Rattle.pt_tables_rows.proofs.SameRowsLists.{steps-in_order}
 
 -- ---- rows

@@ -12,18 +12,18 @@ use Rattle.sqlite.specs.Effect.{Database}
 use Rattle.sqlite.specs.Order.{Row}
 use Rattle.sqlite.specs.State.{State as Connected}
 use Rattle.sqlite_keyed.proofs.ListLemmas.{IsPermutation-filter, slice_get-filter}
-use Rattle.pt_base.specs.Day.{IsDay}
+use Rattle.pt_base_values.specs.Day.{IsDay}
 use Rattle.pt_desk_rules.specs.Parts as part
 use Rattle.pt_desk_rules.specs.Ranges.{FitsPlan, FitsStop}
 use Rattle.pt_desk_rules.specs.Sound.{HasStops}
 use Rattle.pt_desk_rules.specs.State.{State}
 use Rattle.pt_desk_rules.specs.declared.table_name.TableName.TheVariants as name
-use Rattle.pt_records.specs.Keys.{pair_key}
-use Rattle.pt_records.specs.Records.{Each, IsInOrder, record_at}
-use Rattle.pt_scheduling.specs.Plan.{Plan, plan_key}
-use Rattle.pt_scheduling.specs.declared.planned.PlannedStop.{PlannedStop}
-use Rattle.pt_scheduling.proofs.PlanLemmas.{found_key}
-use Rattle.pt_scheduling.proofs.RouteLemmas.{Each-found}
+use Rattle.pt_base_records.specs.Keys.{pair_key}
+use Rattle.pt_base_records.specs.Records.{Each, IsInOrder, record_at}
+use Rattle.pt_desk_scheduling.specs.Plan.{Plan, plan_key}
+use Rattle.pt_desk_scheduling.specs.declared.planned.PlannedStop.{PlannedStop}
+use Rattle.pt_desk_scheduling.proofs.PlanLemmas.{found_key}
+use Rattle.pt_desk_scheduling.proofs.RouteLemmas.{Each-found}
 use Rattle.pt_tables_reading.specs.Replies.{IsId}
 use Rattle.pt_tables_reading.specs.Fitting.{FitsStopAt, stop_row}
 use Rattle.pt_tables_reading.specs.declared.stops.StopAt.{StopAt}
@@ -35,7 +35,7 @@ use Rattle.pt_tables_rows.proofs.ColumnLemmas.{number_in}
 use Rattle.pt_tables_asking.specs.Asking.{HasAnswer}
 use Rattle.pt_tables_asking.specs.Plans.{HasFewStops, plan_by_stops}
 use Rattle.pt_tables_asking.specs.declared.texts.TheConstants.{STOPS_BY_VEHICLE_AND_DAY}
-use Rattle.pt_tables_asking.proofs.AskedQueries.{answers_passing}
+use Rattle.pt_tables_asking.proofs.AskedQueries.{answers_passing, is_served}
 use Rattle.pt_tables_asking.proofs.OrderedLemmas.{IsAt, one_at_most, place_le, same_order}
 use Rattle.pt_tables_asking.proofs.ReadLemmas.{at_params}
 use Rattle.pt_tables_asking.proofs.RecordLemmas.{same_by_both}
@@ -185,6 +185,7 @@ module _ (content : State) (readable : IsWellFormed content) (m n : ℕ) (low : 
   stops_answer : (db : Database) → Stands content db → HasAnswer STOPS_BY_VEHICLE_AND_DAY.now (number_value m ∷ number_value n ∷ []) db (map stop_row wanted)
   stops_answer db stands = record {
     schema = stands.schema;
+    served = is_served desk_schema 3 stops_table STOPS_BY_VEHICLE_AND_DAY.now (number_value m ∷ number_value n ∷ []) (has_pair m n) (stops_text m n);
     shown = λ rows h.
         let both = answers_passing desk_schema 3 stops_table STOPS_BY_VEHICLE_AND_DAY.now (number_value m ∷ number_value n ∷ []) (has_pair m n) (stops_text m n) db rows h in
         let there = filter (has_pair m n) (map (columns_of stops_table) (db.trees stops_table.tree)) in

@@ -2,8 +2,8 @@
 use Rattle.std.specs.Prelude.{◌≡◌, ℕ, Bool, true, false, List, [], ◌∷◌, flat_map, is_some, Option, None, Some}
 use Rattle.sqlite.specs.Effect.{Database}
 use Rattle.sqlite.specs.Order.{Row}
-use Rattle.pt_records.specs.Records.{record_at, within}
-use Rattle.pt_records.specs.declared.span.Span.{Span}
+use Rattle.pt_base_records.specs.Records.{record_at, within}
+use Rattle.pt_base_records.specs.declared.span.Span.{Span}
 use Rattle.pt_tables_reading.specs.Ranges.{IsWord}
 use Rattle.pt_tables_asking.specs.Asking.{HasAnswer}
 use Rattle.pt_tables_asking.specs.declared.marks.Mark.{Mark}

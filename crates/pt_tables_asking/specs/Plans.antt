@@ -1,8 +1,8 @@
 -- Planned routes, by their stops and by their vehicles.
 use Rattle.std.specs.Prelude.{ℕ, ◌≤◌, ◌^◌, IsTrue, if◌then◌else◌, List, [], ◌∷◌, length, map, Option, None, Some}
-use Rattle.pt_base.specs.declared.vehicle.Vehicle.{Vehicle}
+use Rattle.pt_base_values.specs.declared.vehicle.Vehicle.{Vehicle}
 use Rattle.pt_desk_rules.specs.Fleet.{has_version}
-use Rattle.pt_scheduling.specs.Plan.{Plan}
+use Rattle.pt_desk_scheduling.specs.Plan.{Plan}
 use Rattle.pt_tables_reading.specs.declared.stops.StopAt.{StopAt}
 
 -- the plan of these stops, if there are any; the first stop gives its vehicle and its day

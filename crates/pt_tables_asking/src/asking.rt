@@ -1,18 +1,19 @@
 //! One SQL query of the tables, with its rows read as records.
 
-ghost use Rattle.std.specs.Prelude.{◌≡◌, ◌≢◌, ◌↔◌, List, IsTrue, IfOk, map, false, slice_get};
+ghost use Rattle.std.specs.Prelude.{◌≡◌, ◌≢◌, ◌⊎◌, ◌↔◌, List, IsTrue, IfErr, IfOk, map, false, slice_get};
 ghost use Rattle.std.specs.Option.{option_map};
 ghost use Rattle.sqlite.specs.Given.{IsPlain};
 ghost use Rattle.sqlite.specs.Held.{state};
 ghost use Rattle.sqlite.specs.Listing.{reads_listing, understood};
 ghost use Rattle.sqlite.specs.State.{HasCleanDisk};
 ghost use Rattle.sqlite.specs.Values.{bound};
-ghost use Rattle.pt_records.specs.Records.{Each, IsInOrder};
+ghost use Rattle.pt_base_records.specs.Records.{Each, IsInOrder};
 ghost use Rattle.pt_tables_rows.specs.Schema.{desk_schema};
-ghost use Rattle.pt_tables_asking.specs.Asking.{HasAnswer, IsShown, Rests, TellsEach};
+ghost use Rattle.pt_tables_asking.specs.Asking.{HasAnswer, HasCause, IsServedIn, IsShown, Rests, TellsEach};
+ghost use Rattle.pt_tables_asking.specs.Content.{IsExcused};
 ghost use Rattle.pt_tables_asking.specs.declared.asking.Unread.TheVariants.{Memory, Row as BadRow, Store as Failed};
 
-use pt_records::{Keyed, Rows};
+use pt_base_records::{Keyed, Rows};
 use pt_tables_reading::OneRow;
 use sqlite::types::ValueRef;
 use sqlite::{Alter, Connection, Error, ErrorCode, Row};
@@ -70,7 +71,7 @@ pub fn are_rising<T: Keyed>(records: &[T]) -> bool
 /// The records as `Rows`; `Unread::Row` if they are not in the order of their keys.
 pub(crate) fn in_order<T: Keyed>(records: Vec<T>) -> Result<Rows<T>, Unread>
     ensures told { IfOk result (λ rows. rows ≡ records.items) }
-    ensures readable { IsInOrder T.key records.items → result ≢ Err BadRow }
+    ensures ordered { IfErr result (λ _. ¬ IsInOrder T.key records.items) }
 {
     if !are_rising(&records) {
         return Err(Unread::Row);
@@ -89,6 +90,10 @@ fn rows_shown<S: Alter>(
     requires unlisted { reads_listing desk_schema text.now ≡ false }
     ensures shown { HasCleanDisk (state S.Store conn.new)
         → IfOk result (λ rows. IsShown text.now (bound params.now) (state S.Store conn.old) rows.items) }
+    ensures caused { HasCleanDisk (state S.Store conn.new) → (state S.Store conn.old).now.schema ≡ desk_schema
+        → IsServedIn desk_schema text.now (bound params.now)
+        → IfErr result (λ e. (e ≡ Error.SqliteFailure ErrorCode.OutOfMemory)
+        ⊎ HasCause (state S.Store conn.old) (state S.Store conn.new)) }
     ensures rests { Rests (state S.Store conn.old) (state S.Store conn.new) }
 {
     let mut tx = conn.transaction();
@@ -125,10 +130,10 @@ pub(crate) fn ask<S: Alter, T: OneRow>(
         → (IsTrue (state S.Store conn.old).is_open
         → HasAnswer text.now (bound params.now) (state S.Store conn.old).now (map T.row_of xs))
         → IfOk result (λ found. (map T.row_of found.items ≡ map T.row_of xs) × Each T.Fits found.items) }
-    ensures readable { HasCleanDisk (state S.Store conn.new) → (xs : List T.Record) → Each T.Fits xs
+    ensures excused { HasCleanDisk (state S.Store conn.new) → (xs : List T.Record) → Each T.Fits xs
         → (IsTrue (state S.Store conn.old).is_open
         → HasAnswer text.now (bound params.now) (state S.Store conn.old).now (map T.row_of xs))
-        → result ≢ Err BadRow }
+        → IfErr result (IsExcused (state S.Store conn.old) (state S.Store conn.new)) }
     ensures rests { Rests (state S.Store conn.old) (state S.Store conn.new) }
 {
     let rows = match rows_shown(conn, text, params) {

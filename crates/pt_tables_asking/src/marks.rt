@@ -1,24 +1,24 @@
 //! Records whose mark has a row in a second table.
 
-ghost use Rattle.std.specs.Prelude.{◌≡◌, ◌≢◌, ◌-◌, Bool, List, [], ◌∷◌, None, Some, IsTrue, IfOk, IfSome, map, false};
+ghost use Rattle.std.specs.Prelude.{◌≡◌, ◌-◌, Bool, List, [], ◌∷◌, None, Some, IsTrue, IfErr, IfOk, IfSome, map, false};
 ghost use Rattle.std.specs.Prelude.{length, slice_get};
 ghost use Rattle.sqlite.specs.Given.{IsPlain};
 ghost use Rattle.sqlite.specs.Held.{state};
 ghost use Rattle.sqlite.specs.Listing.{reads_listing, understood};
 ghost use Rattle.sqlite.specs.State.{HasCleanDisk};
-ghost use Rattle.pt_records.specs.Records.{Each, IsInOrder, record_at};
+ghost use Rattle.pt_base_records.specs.Records.{Each, IsInOrder, record_at};
 ghost use Rattle.pt_tables_reading.specs.Ranges.{IsWord};
 ghost use Rattle.pt_tables_rows.specs.Rows.{number_value};
 ghost use Rattle.pt_tables_rows.specs.Schema.{desk_schema};
 ghost use Rattle.pt_tables_reading.specs.Reading.{Reads};
 ghost use Rattle.pt_tables_asking.specs.Asking.{HasAnswer, Rests, ShowsCommit};
+ghost use Rattle.pt_tables_asking.specs.Content.{IsExcused};
 ghost use Rattle.pt_tables_asking.specs.Marks.{FitsMark, HasMarks, IsMark, has_mark, is_marked, mark_key, mark_row};
 ghost use Rattle.pt_tables_asking.specs.Marks.{marked_in};
-ghost use Rattle.pt_tables_asking.specs.declared.asking.Unread.TheVariants.{Row as BadRow};
 
 use crate::asking::{Unread, ask, in_order};
-use pt_base::{Rider, Trip};
-use pt_records::{Key, Keyed, Rows};
+use pt_base_records::{Key, Keyed, Rows};
+use pt_base_values::{Rider, Trip};
 use pt_tables_reading::OneRow;
 use pt_tables_rows::tables::{RiderChairs, TableOf, TripChairs};
 use sqlite::types::ValueRef;
@@ -150,11 +150,11 @@ fn marks_between<S: Alter, M: Marking>(
         → HasAnswer text.now (number_value from ∷ number_value to ∷ []) (state S.Store conn.old).now
         (map mark_row marks))
         → IfOk result (λ found. found ≡ marks) }
-    ensures readable { HasCleanDisk (state S.Store conn.new) → (marks : List Mark) → Each FitsMark marks
+    ensures excused { HasCleanDisk (state S.Store conn.new) → (marks : List Mark) → Each FitsMark marks
         → IsInOrder mark_key marks → (IsTrue (state S.Store conn.old).is_open
         → HasAnswer text.now (number_value from ∷ number_value to ∷ []) (state S.Store conn.old).now
         (map mark_row marks))
-        → result ≢ Err BadRow }
+        → IfErr result (IsExcused (state S.Store conn.old) (state S.Store conn.new)) }
     ensures rests { Rests (state S.Store conn.old) (state S.Store conn.new) }
 {
     let marks = ask::<S, Numbers<M>>(alloc, conn, text, params![from, to])?;
@@ -200,10 +200,10 @@ pub(crate) fn mark_all<S: Alter, M: Marking>(
         → IsInOrder M.Record.key records.items → (IsTrue (state S.Store conn.old).is_open
         → HasMarks text.now M.Record.key M.rows_of (state S.Store conn.old).now all)
         → IfOk result (λ found. found.items ≡ map (marked_in M.Record.key M.rows_of M.marked all) records.items) }
-    ensures readable { HasCleanDisk (state S.Store conn.new) → (all : List M.Record) → IsInOrder M.Record.key all
+    ensures excused { HasCleanDisk (state S.Store conn.new) → (all : List M.Record) → IsInOrder M.Record.key all
         → Each (λ x. IsWord (M.Record.key x)) all → (IsTrue (state S.Store conn.old).is_open
         → HasMarks text.now M.Record.key M.rows_of (state S.Store conn.old).now all)
-        → result ≢ Err BadRow }
+        → IfErr result (IsExcused (state S.Store conn.old) (state S.Store conn.new)) }
     ensures rests { Rests (state S.Store conn.old) (state S.Store conn.new) }
 {
     let Some((first, last)) = ends::<M>(&records) else {
@@ -227,10 +227,10 @@ fn is_marked<S: Alter, M: Marking>(
         → (IsTrue (state S.Store conn.old).is_open
         → HasMarks text.now M.Record.key M.rows_of (state S.Store conn.old).now all)
         → IfOk result (λ found. found ≡ is_marked M.rows_of (record_at M.Record.key number all)) }
-    ensures readable { HasCleanDisk (state S.Store conn.new) → (all : List M.Record) → IsInOrder M.Record.key all
+    ensures excused { HasCleanDisk (state S.Store conn.new) → (all : List M.Record) → IsInOrder M.Record.key all
         → Each (λ x. IsWord (M.Record.key x)) all → (IsTrue (state S.Store conn.old).is_open
         → HasMarks text.now M.Record.key M.rows_of (state S.Store conn.old).now all)
-        → result ≢ Err BadRow }
+        → IfErr result (IsExcused (state S.Store conn.old) (state S.Store conn.new)) }
     ensures rests { Rests (state S.Store conn.old) (state S.Store conn.new) }
 {
     let marks = marks_between::<S, M>(alloc, conn, text, number, number)?;
@@ -252,10 +252,10 @@ pub(crate) fn mark_each<S: Alter, M: Marking>(
         → (IsTrue (state S.Store conn.old).is_open
         → HasMarks text.now M.Record.key M.rows_of (state S.Store conn.old).now all)
         → IfOk result (λ found. found.items ≡ map (marked_in M.Record.key M.rows_of M.marked all) records.items) }
-    ensures readable { HasCleanDisk (state S.Store conn.new) → (all : List M.Record) → IsInOrder M.Record.key all
+    ensures excused { HasCleanDisk (state S.Store conn.new) → (all : List M.Record) → IsInOrder M.Record.key all
         → Each (λ x. IsWord (M.Record.key x)) all → (IsTrue (state S.Store conn.old).is_open
         → HasMarks text.now M.Record.key M.rows_of (state S.Store conn.old).now all)
-        → result ≢ Err BadRow }
+        → IfErr result (IsExcused (state S.Store conn.old) (state S.Store conn.new)) }
     ensures rests { Rests (state S.Store conn.old) (state S.Store conn.new) }
 {
     for owner in records.iter_mut() {

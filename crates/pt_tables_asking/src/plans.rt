@@ -1,25 +1,24 @@
 //! Planned routes, read from their stops.
 
 ghost use Rattle.std.specs.Option.{option_to_list};
-ghost use Rattle.std.specs.Prelude.{◌≡◌, ◌≢◌, ◌++◌, Err, IfOk, OnOk, false};
+ghost use Rattle.std.specs.Prelude.{◌≡◌, ◌++◌, IfErr, IfOk, OnOk, false};
 ghost use Rattle.sqlite.specs.Held.{state};
 ghost use Rattle.sqlite.specs.State.{HasCleanDisk};
 ghost use Rattle.pt_desk_rules.specs.Planned.{planned_on};
 ghost use Rattle.pt_desk_rules.specs.State.{State};
-ghost use Rattle.pt_records.specs.Records.{Each, record_at};
-ghost use Rattle.pt_scheduling.specs.Plan.{plan_key};
+ghost use Rattle.pt_base_records.specs.Records.{Each, record_at};
+ghost use Rattle.pt_desk_scheduling.specs.Plan.{plan_key};
 ghost use Rattle.pt_tables_asking.specs.Asking.{Rests, ShowsCommit};
-ghost use Rattle.pt_tables_asking.specs.Content.{Tells};
+ghost use Rattle.pt_tables_asking.specs.Content.{IsExcused, Tells};
 ghost use Rattle.pt_tables_asking.specs.Plans.{HasFewStops, HasVersionAmong, plan_by_stops, vehicle_ids};
-ghost use Rattle.pt_tables_asking.specs.declared.asking.Unread.TheVariants.{Row as BadRow};
 ghost use Rattle.pt_tables_rows.specs.Tables.{IsKept, IsWellFormed};
 
 use crate::asking::{Unread, ask, in_order};
 use crate::texts::STOPS_BY_VEHICLE_AND_DAY;
-use pt_base::{Day, Vehicle, VehicleId};
+use pt_base_records::{Key, Rows};
+use pt_base_values::{Day, Vehicle, VehicleId};
 use pt_desk_rules::has_version;
-use pt_records::{Key, Rows};
-use pt_scheduling::Plan;
+use pt_desk_scheduling::Plan;
 use pt_tables_reading::{StopAt, Stops};
 use sqlite::{Alter, Connection, params};
 use std::alloc::{AllocError, Global};
@@ -51,8 +50,9 @@ pub fn plan_by_key<S: Alter>(
     requires settled { conn.old.in_transaction ≡ false }
     ensures told { Tells (state S.Store conn.old) (state S.Store conn.new)
         (λ s. record_at plan_key key.now s.planned) result }
-    ensures readable { HasCleanDisk (state S.Store conn.new) → (content : State) → IsWellFormed content
-        → Each HasFewStops content.planned → IsKept content (state S.Store conn.old) → result ≢ Err BadRow }
+    ensures excused { HasCleanDisk (state S.Store conn.new) → (content : State) → IsWellFormed content
+        → Each HasFewStops content.planned → IsKept content (state S.Store conn.old)
+        → IfErr result (IsExcused (state S.Store conn.old) (state S.Store conn.new)) }
     ensures rests { Rests (state S.Store conn.old) (state S.Store conn.new) }
 {
     let (vehicle, day) = key.numbers();
@@ -96,9 +96,10 @@ pub fn plans_by_day<S: Alter>(
     ensures told { HasCleanDisk (state S.Store conn.new) → (content : State) → IsWellFormed content
         → content.vehicles ≡ vehicles.now → Each (HasVersionAmong vehicles.now) content.planned
         → IsKept content (state S.Store conn.old) → IfOk result (λ plans. plans ≡ planned_on day content.planned) }
-    ensures readable { HasCleanDisk (state S.Store conn.new) → (content : State) → IsWellFormed content
+    ensures excused { HasCleanDisk (state S.Store conn.new) → (content : State) → IsWellFormed content
         → content.vehicles ≡ vehicles.now → Each (HasVersionAmong vehicles.now) content.planned
-        → Each HasFewStops content.planned → IsKept content (state S.Store conn.old) → result ≢ Err BadRow }
+        → Each HasFewStops content.planned → IsKept content (state S.Store conn.old)
+        → IfErr result (IsExcused (state S.Store conn.old) (state S.Store conn.new)) }
     ensures rests { Rests (state S.Store conn.old) (state S.Store conn.new) }
 {
     let date = day.number();

@@ -1,13 +1,13 @@
 -- In a sound state the vehicle of each plan is there.
 use Rattle.std.proofs.Common.{◌≡◌, ◌<◌, ◌==◌, ◌||◌, zero, suc, ℕ, Bool, true, false, List, [], ◌∷◌, length, get_or, refl, ap, ◌∙◌, arith}
 use Rattle.std.proofs.lemmas.Bool.Decides.{nat_tests}
-use Rattle.pt_base.specs.declared.vehicle.Vehicle.{Vehicle}
+use Rattle.pt_base_values.specs.declared.vehicle.Vehicle.{Vehicle}
 use Rattle.pt_desk_rules.specs.Fleet.{has_version, in_force, is_in_force}
 use Rattle.pt_desk_rules.specs.Sound.{DrivesIn, IsSound}
 use Rattle.pt_desk_rules.specs.State.{State}
-use Rattle.pt_records.specs.Records.{Each}
-use Rattle.pt_records.proofs.OrderLemmas.{Each-weaker}
-use Rattle.pt_scheduling.proofs.PlanLemmas.{any_kept}
+use Rattle.pt_base_records.specs.Records.{Each}
+use Rattle.pt_base_records.proofs.OrderLemmas.{Each-weaker}
+use Rattle.pt_desk_scheduling.proofs.PlanLemmas.{any_kept}
 use Rattle.pt_tables_asking.specs.Plans.{HasVersionAmong}
 
 is_it : (x : Vehicle) (id : ℕ) → x.id ≡ id → (x.id == id) ≡ true

@@ -4,19 +4,19 @@ use Rattle.sqlite.specs.Held.{Held, state}
 use Rattle.sqlite.specs.State.{State as Connected, HasCleanDisk, Survives}
 use Rattle.sqlite.specs.Store.{Ghosts}
 use Rattle.sqlite.specs.Tree.{Trees}
-use Rattle.pt_store.specs.Listed.{known_of}
-use Rattle.pt_store.specs.Store.{Fits, Goes, Store}
-use Rattle.pt_store.specs.declared.keeper.StoreFault.{StoreFault}
-use Rattle.pt_store.specs.declared.keeper.StoreFault.TheVariants.{Memory, Store as failed}
+use Rattle.pt_desk_store.specs.Listed.{known_of}
+use Rattle.pt_desk_store.specs.Store.{Fits, Goes, Store}
+use Rattle.pt_desk_store.specs.declared.keeper.StoreFault.{StoreFault}
+use Rattle.pt_desk_store.specs.declared.keeper.StoreFault.TheVariants.{Memory, Store as failed}
 use Rattle.pt_desk_rules.specs.State.{State, applied}
 use Rattle.pt_desk_rules.specs.declared.change.Change.{Change}
-use Rattle.pt_base.specs.declared.vehicle.Vehicle.{Vehicle}
-use Rattle.pt_records.specs.Records.{Each}
+use Rattle.pt_base_values.specs.declared.vehicle.Vehicle.{Vehicle}
+use Rattle.pt_base_records.specs.Records.{Each}
 use Rattle.pt_tables_asking.specs.Plans.{HasVersionAmong}
 use Rattle.pt_tables_rows.specs.Tables.{IsWellFormed, IsKept, Stands}
 use Rattle.pt_tables_keeper.proofs.ReadLemmas.{not_lasting}
 use Rattle.pt_tables_keeper.proofs.StepLemmas.{Settles, finds, finds_once, settles, shut_falls}
-use Rattle.pt_store.proofs.StoreLemmas.{reads_then}
+use Rattle.pt_desk_store.proofs.StoreLemmas.{reads_then}
 use Rattle.pt_tables_keeper.specs.Keeper.{AreInStep, KeptTables, kept_store, store_of}
 use Rattle.pt_tables_keeper.specs.Writable.{IsWritable}
 use Rattle.pt_tables_writing.proofs.GroupLemmas.{agrees_known}

@@ -1,9 +1,10 @@
 -- The plans that are known of a content by their keys, and the vehicles that carry them after a change.
-use Rattle.std.proofs.Common.{◌≡◌, ◌++◌, ◌&&◌, ◌==◌, ◌⊎◌, inl, inr, ℕ, IsTrue, List, [], ◌∷◌, filter, map, Option, None, Some, refl, sym, ap, subst, ◌∙◌, arith}
-use Rattle.std.specs.Prelude.{nat_le}
-use Rattle.std.specs.Option.{option_to_list}
+use Rattle.std.proofs.Common.{◌≡◌, ◌++◌, ◌<◌, ◌&&◌, ◌==◌, ◌⊎◌, inl, inr, ℕ, IsTrue, List, [], ◌∷◌, filter, map, Option, None, Some, true, false, Bor, refl, sym, ap, subst, ◌∙◌, arith}
+use Rattle.std.specs.Prelude.{is_some, nat_le}
+use Rattle.std.specs.Option.{option_copied, option_to_list}
 use Rattle.std.proofs.lemmas.Bool.Decides.{nat_tests}
-use Rattle.pt_base.specs.declared.vehicle.Vehicle.{Vehicle}
+use Rattle.std.proofs.lemmas.Option.{same_Some}
+use Rattle.pt_base_values.specs.declared.vehicle.Vehicle.{Vehicle}
 use Rattle.pt_desk_rules.specs.Fleet.{has_version}
 use Rattle.pt_desk_rules.specs.Parts as part
 use Rattle.pt_desk_rules.specs.Sound.{HasFirstDay}
@@ -11,19 +12,35 @@ use Rattle.pt_desk_rules.specs.State.{State, applied, vehicle_key}
 use Rattle.pt_desk_rules.specs.declared.change.Change.{Change}
 use Rattle.pt_desk_rules.proofs.FleetLemmas.{version_stays}
 use Rattle.pt_desk_rules.proofs.RangeLemmas.{each-edited}
-use Rattle.pt_records.specs.Records.{Each, Edit, IsInOrder, edited, put, record_at, within}
-use Rattle.pt_records.specs.declared.span.Span.{Span}
-use Rattle.pt_records.proofs.OrderLemmas.{Each-weaker, IsInOrder-put, record_at-put_other, record_at-put_same}
-use Rattle.pt_records.proofs.TableLemmas.{same_or_other}
-use Rattle.pt_scheduling.specs.Plan.{Plan, plan_key}
-use Rattle.pt_scheduling.proofs.PlanLemmas.{found_key}
-use Rattle.pt_spelling.specs.Ranges.{IsVehicle}
+use Rattle.pt_base_records.specs.Records.{Each, Edit, IsInOrder, edited, put, record_at, within}
+use Rattle.pt_base_records.specs.declared.span.Span.{Span}
+use Rattle.pt_base_records.proofs.OrderLemmas.{compared, Each-weaker, IsInOrder-put, record_at-above, record_at-here, record_at-past}
+use Rattle.pt_base_records.proofs.OrderLemmas.{record_at-put_other, record_at-put_same}
+use Rattle.pt_base_records.proofs.RecordLemmas.{put_over, put_past}
+use Rattle.pt_base_records.proofs.TableLemmas.{same_or_other}
+use Rattle.pt_desk_scheduling.specs.Plan.{Plan, plan_key}
+use Rattle.pt_desk_scheduling.proofs.PlanLemmas.{found_key}
+use Rattle.pt_desk_spelling.specs.Ranges.{IsVehicle}
 use Rattle.pt_tables_asking.specs.Plans.{HasVersionAmong}
 use Rattle.pt_tables_asking.proofs.StopLemmas.{filter_found}
 use Rattle.pt_tables_rows.specs.Tables.{IsWellFormed}
 use Rattle.pt_tables_writing.specs.Groups.{KnowsEdited, KnowsReplaced, KnowsTaken}
-use Rattle.pt_tables_keeper.specs.Plans.{IsOneKey, keys_of, plans_at, plans_with}
+use Rattle.pt_tables_keeper.specs.Plans.{ArePlansOf, IsOneKey, keys_of, plans_at, plans_with}
 use Rattle.pt_tables_keeper.specs.Writable.{IsWritable}
+
+-- a record that is there is put where it is
+put_there : {A : Type 0} (key : A → ℕ) (one : A) (xs : List A) → IsInOrder key xs → record_at key (key one) xs ≡ Some one → put key one xs ≡ xs
+put_there key one [] order found = absurd (cc)
+put_there key one (x ∷ xs) order found = elim (compared (key x) (key one)) [
+  | inl lt ↦
+      put_past key one x xs lt
+      ∙ ap (λ l. x ∷ l) (put_there key one xs order.1 (sym (record_at-past key (key one) x xs (λ same. absurd (omega (arith, lt, same)))) ∙ found))
+  | inr (inl is) ↦
+      put_over key one x xs is ∙ ap (λ y. y ∷ xs) (sym (same_Some x one (sym (record_at-here key (key one) x xs is) ∙ found)))
+  | inr (inr gt) ↦
+      let above : Each (λ y. key one < key y) xs = Each-weaker (λ y. key x < key y) (λ y. key one < key y) (λ y more. omega (arith, gt, more)) xs order.0 in
+      absurd (let none = sym (record_at-above key (key one) (x ∷ xs) (gt, above)) ∙ found in cc)
+]
 
 -- ---- the plans of some keys
 
@@ -81,13 +98,50 @@ module _ (there : List Plan) where
       let next = plans_with (record_at plan_key k there) known in
       (all_stay keys next k (own_by k known (record_at plan_key k there) refl part), all_known keys next (part_by k known (record_at plan_key k there) refl part))
 
+  with_order : (found : Option Plan) (known : List Plan) → IsInOrder plan_key known → IsInOrder plan_key (plans_with found known)
+  with_order None known order = order
+  with_order (Some plan) known order = IsInOrder-put plan_key plan known order
+
   all_order : (keys : List ℕ) (known : List Plan) → IsInOrder plan_key known → IsInOrder plan_key (plans_at there keys known)
   all_order [] known order = order
-  all_order (k ∷ keys) known order = all_order keys (plans_with (record_at plan_key k there) known) (with_order (record_at plan_key k there))
-    where
-      with_order : (found : Option Plan) → IsInOrder plan_key (plans_with found known)
-      with_order None = order
-      with_order (Some plan) = IsInOrder-put plan_key plan known order
+  all_order (k ∷ keys) known order =
+      all_order keys (plans_with (record_at plan_key k there) known) (with_order (record_at plan_key k there) known order)
+
+  -- the stored plan of a key beside others
+  pub still_plans : (k : ℕ) (known : List Plan) → ArePlansOf there known → ArePlansOf there (plans_with (record_at plan_key k there) known)
+  still_plans k known are = record {
+    order = with_order (record_at plan_key k there) known are.order;
+    part = part_by k known (record_at plan_key k there) refl are.part;
+  }
+
+  -- the stored plans of some keys
+  pub plans_are : (keys : List ℕ) → ArePlansOf there (plans_at there keys [])
+  plans_are keys = record { order = all_order keys [] tt; part = all_part keys [] (λ k. inl refl) }
+
+  -- a plan that is known is there already
+  pub known_already : (k : ℕ) (known : List Plan) (plan : Plan) → ArePlansOf there known → record_at plan_key k known ≡ Some plan
+      → known ≡ plans_with (record_at plan_key k there) known
+  known_already k known plan are found =
+      let own : plan_key plan ≡ k = found_key plan_key k plan known found in
+      let here : record_at plan_key k there ≡ Some plan = elim (are.part k) [
+        | inl none ↦ absurd (let both = sym none ∙ found in cc)
+        | inr same ↦ sym same ∙ found
+      ] in
+      sym (ap (λ o. plans_with o known) here
+      ∙ put_there plan_key plan known are.order (subst (λ (n : ℕ). record_at plan_key n known ≡ Some plan) (sym own) found))
+
+copied_some : {A : Type 0} (o : Option (Bor A)) → is_some (option_copied o) ≡ is_some o
+copied_some None = refl
+copied_some (Some x) = refl
+
+-- a plan that was looked for and found
+pub found_already : (there known : List Plan) (k : ℕ) (o : Option (Bor Plan)) → ArePlansOf there known → option_copied o ≡ record_at plan_key k known → is_some o ≡ true
+    → known ≡ plans_with (record_at plan_key k there) known
+found_already there known k o are same some =
+    elim (record_at plan_key k known) as (λ found. record_at plan_key k known ≡ found → known ≡ plans_with (record_at plan_key k there) known) [
+      | None ↦ λ is. absurd (let no : is_some o ≡ false = sym (copied_some o) ∙ ap (λ (p : Option Plan). is_some p) (same ∙ is) in let both = sym some ∙ no in cc)
+      | Some plan ↦ λ is. known_already there k known plan are is
+    ] refl
 
 -- ---- what an edit asks for
 

@@ -1,22 +1,22 @@
 -- The reads of a keeper over tables.
 use Rattle.std.proofs.Common.{◌≡◌, ◌≤◌, ◌<◌, ◌⊎◌, zero, suc, ◌||◌, ℕ, Bool, true, false, cond, List, [], ◌∷◌, filter}
-use Rattle.std.proofs.Common.{length, Option, None, Some, Result, Ok, Err, IfOk, inl, inr, refl, sym, ap, subst, ◌∙◌}
+use Rattle.std.proofs.Common.{length, Option, None, Some, Result, Ok, Err, IfOk, IfErr, inl, inr, refl, sym, ap, subst, ◌∙◌}
 use Rattle.std.proofs.Common.{◌&&◌, arith}
 use Rattle.std.specs.List.{list_any}
 use Rattle.std.specs.Prelude.{nat_le}
 use Rattle.sqlite.specs.Held.{Held, state}
-use Rattle.sqlite.specs.State.{HasCleanDisk}
+use Rattle.sqlite.specs.State.{State as Connected, HasCleanDisk}
 use Rattle.sqlite.specs.Store.{Ghosts}
-use Rattle.pt_store.specs.Store.{Goes, IsDurable, Store}
-use Rattle.pt_store.specs.declared.keeper.StoreFault.{StoreFault}
-use Rattle.pt_store.specs.declared.keeper.StoreFault.TheVariants.{Memory, Store as failed}
-use Rattle.pt_base.specs.TripStatus.{stands}
-use Rattle.pt_base.specs.declared.trip.Trip.{Trip}
+use Rattle.pt_desk_store.specs.Store.{Goes, IsDurable, Store}
+use Rattle.pt_desk_store.specs.declared.keeper.StoreFault.{StoreFault}
+use Rattle.pt_desk_store.specs.declared.keeper.StoreFault.TheVariants.{Memory, Store as failed}
+use Rattle.pt_base_values.specs.TripStatus.{stands}
+use Rattle.pt_base_values.specs.declared.trip.Trip.{Trip}
 use Rattle.pt_desk_rules.specs.Planned.{is_booked_from, is_of, is_standing_from}
 use Rattle.pt_desk_rules.specs.State.{State}
-use Rattle.pt_tables_asking.specs.Asking.{Rests}
-use Rattle.pt_tables_asking.specs.Content.{Tells}
-use Rattle.pt_store.proofs.StoreLemmas.{found_still}
+use Rattle.pt_tables_asking.specs.Asking.{HasCause, Rests}
+use Rattle.pt_tables_asking.specs.Content.{Excuses, IsExcused, Tells}
+use Rattle.pt_desk_store.proofs.StoreLemmas.{found_still}
 use Rattle.pt_tables_rows.specs.Tables.{IsKept, IsWellFormed}
 use Rattle.pt_tables_asking.specs.declared.asking.Unread.{Unread}
 use Rattle.pt_tables_asking.specs.declared.asking.Unread.TheVariants as unread
@@ -52,6 +52,14 @@ counts_told g (Ok y) r value x h told is =
 counts_told g (Err unread.Memory) r value x h told is = absurd (let same = sym h.0 ∙ is in cc)
 counts_told g (Err unread.Store) r value x h told is = absurd (let same = sym h.0 ∙ is in cc)
 counts_told g (Err unread.Row) r value x h told is = absurd (let same = sym h.0 ∙ is in cc)
+
+-- a failure that is told has the cause that excuses the read
+counts_cause : {X : Type 0} (old new : Connected) (g : ℕ) (found : Result X Unread) (r : Result X StoreFault) → Counts g found r → IfErr found (IsExcused old new) → r ≡ Err failed
+    → HasCause old new
+counts_cause old new g (Ok x) r h excused is = absurd (let same = sym h.0 ∙ is in cc)
+counts_cause old new g (Err unread.Memory) r h excused is = absurd (let same = sym h.0 ∙ is in cc)
+counts_cause old new g (Err unread.Store) r h excused is = excused
+counts_cause old new g (Err unread.Row) r h excused is = absurd excused
 
 -- ---- what is made of an answer
 
@@ -172,6 +180,28 @@ module _ {S X : Type 0} {riders : ℕ} (g : Ghosts S) (conn new : Held S) (failu
       → Tells (state g conn) (state g new) told found → Goes (store_of g now) (kept_store (state g new) content after u) (told now.content) None r
   reads_by {u} now told is tells =
       subst (λ (k : KeptTables S). Goes (store_of g k) (kept_store (state g new) content after u) (told k.content) None r) is (goes_by u told tells)
+
+  -- what a failure of it has as its cause
+  pub caused_so : {u : ℕ} (now : KeptTables S) → ◌≡◌ {A = KeptTables S} (record { conn = conn; failures = failures; unfit = u; content = content }) now
+      → (HasCleanDisk (state g new) → IsKept content (state g conn) → IfErr found (IsExcused (state g conn) (state g new)))
+      → now.failures ≡ 0 → HasCleanDisk (state g new) → r ≡ Err failed → HasCause (state g now.conn) (state g new)
+  caused_so {u} now is excuses _ clean told =
+      let early : HasCleanDisk (state g conn) = let up = rests.survives.clean in omega arith in
+      subst (λ (k : KeptTables S). HasCause (state g k.conn) (state g new)) is
+      (counts_cause (state g conn) (state g new) after found r counts (excuses clean (was.kept none early)) told)
+
+  pub caused_by : {u : ℕ} (now : KeptTables S) → ◌≡◌ {A = KeptTables S} (record { conn = conn; failures = failures; unfit = u; content = content }) now
+      → Excuses (state g conn) (state g new) found
+      → now.failures ≡ 0 → HasCleanDisk (state g new) → r ≡ Err failed → HasCause (state g now.conn) (state g new)
+  caused_by {u} now is excuses = caused_so now is (λ clean held. excuses clean content was.readable held)
+
+  pub caused_not : {Y : Type 0} {u : ℕ} (now : KeptTables S) → ◌≡◌ {A = KeptTables S} (record { conn = conn; failures = failures; unfit = u; content = content }) now
+      → Excuses (state g conn) (state g new) found → (e : StoreFault) → r ≡ Err e → (passed : Result Y StoreFault) → passed ≡ Err e
+      → now.failures ≡ 0 → HasCleanDisk (state g new) → passed ≡ Err failed → HasCause (state g now.conn) (state g new)
+  caused_not {Y} {u} now is excuses e was_err passed same unfailed clean told =
+      let both : ◌≡◌ {A = Result Y StoreFault} (Err e) (Err failed) = sym same ∙ told in
+      let kind : e ≡ failed = cc in
+      caused_by now is excuses unfailed clean (subst (λ (f : StoreFault). r ≡ Err f) kind was_err)
 
   -- what is made of its answer is returned
   pub reads_on : {Y : Type 0} {u : ℕ} (now : KeptTables S) (told : State → X) → ◌≡◌ {A = KeptTables S} (record { conn = conn; failures = failures; unfit = u; content = content }) now

@@ -1,13 +1,13 @@
 -- How many riders there are after a change that puts at most one.
 use Rattle.std.proofs.Common.{◌≡◌, ℕ, ◌+◌, ◌<◌, ◌≤◌, ◌^◌, min, List, [], ◌∷◌, length, Some, None, sym, ap, ◌∙◌, arith}
 use Rattle.std.specs.List.{slice_get}
-use Rattle.pt_base.specs.declared.rider.Rider.{Rider}
+use Rattle.pt_base_values.specs.declared.rider.Rider.{Rider}
 use Rattle.pt_desk_rules.specs.Parts as part
 use Rattle.pt_desk_rules.specs.State.{State, applied, rider_key, rider_of}
 use Rattle.pt_desk_rules.specs.declared.change.Change.{Change}
-use Rattle.pt_records.proofs.OrderLemmas.{Each-weaker, length-below, length-put_new, length-put_there}
-use Rattle.pt_records.proofs.TableLemmas.{found_is_some}
-use Rattle.pt_records.specs.Records.{Each, Edit, edited, put, record_at}
+use Rattle.pt_base_records.proofs.OrderLemmas.{Each-weaker, length-below, length-put_new, length-put_there}
+use Rattle.pt_base_records.proofs.TableLemmas.{found_is_some}
+use Rattle.pt_base_records.specs.Records.{Each, Edit, edited, put, record_at}
 use Rattle.pt_tables_rows.specs.Tables.{IsWellFormed}
 use Rattle.pt_desk_rules.specs.Ranges.{FitsRider}
 
@@ -29,10 +29,6 @@ only_one (y ∷ z ∷ zs) x few first = absurd (omega arith)
 
 edited_is : {A : Type 0} (key : A → ℕ) (edit : Edit A) (puts xs : List A) → edit.away ≡ [] → edit.puts ≡ puts → edited key edit xs ≡ edited key (record { away = []; puts = puts }) xs
 edited_is key edit puts xs away are = cc
-
--- it puts none
-pub riders_as_before : (change : Change) (s : State) → change.riders.away ≡ [] → change.riders.puts ≡ [] → length s.riders ≡ length (applied change s).riders
-riders_as_before change s away puts = sym (ap length (edited_is rider_key change.riders [] s.riders away puts))
 
 module _ (change : Change) (s : State) (new : Rider) (readable : IsWellFormed s) (away : change.riders.away ≡ []) (puts : change.riders.puts ≡ new ∷ []) where
   one_put : length (applied change s).riders ≡ length (put rider_key new s.riders)

@@ -1,10 +1,10 @@
 -- In a sound state, the change of each write that the rules accept can be written.
 use Rattle.std.proofs.Common.{◌≡◌, ◌++◌, ◌+◌, ◌≤◌, inl, inr, ℕ, IsTrue, List, [], ◌∷◌, length, Option, None, Some, refl, sym, ap, subst, arith}
 use Rattle.std.specs.Option.{unwrap_or}
-use Rattle.pt_base.specs.declared.moment.Moment.{Moment}
-use Rattle.pt_base.specs.declared.rule.Rule.{Rule}
-use Rattle.pt_base.specs.declared.trip.Trip.{Trip}
-use Rattle.pt_base.specs.declared.trip.Wish.{Wish}
+use Rattle.pt_base_values.specs.Moment.{Moment}
+use Rattle.pt_base_values.specs.declared.rule.Rule.{Rule}
+use Rattle.pt_base_values.specs.declared.trip.Trip.{Trip}
+use Rattle.pt_base_values.specs.declared.trip.Wish.{Wish}
 use Rattle.pt_desk_rules.specs.Deciding.{booked, changed, kept_by, no_change, with_kept, IsCancelDecided, IsChangeDecided, IsDecidedBy, IsDecisionAfter, IsEndDecided}
 use Rattle.pt_desk_rules.specs.Booking.{IsBooking}
 use Rattle.pt_desk_rules.specs.Facts.{cancel_facts, change_facts, facts_of, plan_for}
@@ -22,24 +22,24 @@ use Rattle.pt_desk_rules.specs.declared.kept.Kept.{Kept}
 use Rattle.pt_desk_rules.specs.declared.kept.Sent.{Sent}
 use Rattle.pt_desk_rules.proofs.RangeLemmas.{Each-more, planned_days, trip_days}
 use Rattle.pt_desk_laws.proofs.SoundLemmas.{change_trip, request_sound}
-use Rattle.pt_records.specs.Keys.{pair_key}
-use Rattle.pt_records.specs.Records.{Each, Edit, put, put_all, take_away}
-use Rattle.pt_records.proofs.OrderLemmas.{record_at-put_same}
-use Rattle.pt_requests.specs.declared.caller.Caller.{Caller}
-use Rattle.pt_requests.specs.declared.request.Answer.{Answer}
-use Rattle.pt_requests.specs.declared.request.Request.TheVariants as request
-use Rattle.pt_requests.specs.declared.request.Write.{Write}
-use Rattle.pt_requests.specs.declared.request.Write.TheVariants as write
-use Rattle.pt_rights.specs.Rules.{first_failing}
-use Rattle.pt_rights.specs.declared.tally.Outcome.{Outcome}
-use Rattle.pt_scheduling.specs.Plan.{Plan, plan_key, stops_of_plan, without}
-use Rattle.pt_scheduling.specs.declared.planned.PlannedStop.{PlannedStop}
-use Rattle.pt_scheduling.specs.declared.scheduling.Scheduled.TheVariants as scheduled
-use Rattle.pt_scheduling.proofs.PlanLemmas.{found_key}
-use Rattle.pt_scheduling.proofs.RouteLemmas.{Each-found}
-use Rattle.pt_spelling.specs.Replies.{reply_of}
-use Rattle.pt_spelling.specs.declared.replies.KeptReply.TheVariants as reply
-use Rattle.pt_store.specs.Store.{IsByRules}
+use Rattle.pt_base_records.specs.Keys.{pair_key}
+use Rattle.pt_base_records.specs.Records.{Each, Edit, put, put_all, take_away}
+use Rattle.pt_base_records.proofs.OrderLemmas.{record_at-put_same}
+use Rattle.pt_desk_requests.specs.declared.caller.Caller.{Caller}
+use Rattle.pt_desk_requests.specs.declared.request.Answer.{Answer}
+use Rattle.pt_desk_requests.specs.declared.request.Request.TheVariants as request
+use Rattle.pt_desk_requests.specs.declared.request.Write.{Write}
+use Rattle.pt_desk_requests.specs.declared.request.Write.TheVariants as write
+use Rattle.pt_rights_files.specs.Rules.{first_failing}
+use Rattle.pt_rights_files.specs.declared.tally.Outcome.{Outcome}
+use Rattle.pt_desk_scheduling.specs.Plan.{Plan, plan_key, stops_of_plan, without}
+use Rattle.pt_desk_scheduling.specs.declared.planned.PlannedStop.{PlannedStop}
+use Rattle.pt_desk_scheduling.specs.declared.scheduling.Scheduled.TheVariants as scheduled
+use Rattle.pt_desk_scheduling.proofs.PlanLemmas.{found_key}
+use Rattle.pt_desk_scheduling.proofs.RouteLemmas.{Each-found}
+use Rattle.pt_desk_spelling.specs.Replies.{reply_of}
+use Rattle.pt_desk_spelling.specs.declared.replies.KeptReply.TheVariants as reply
+use Rattle.pt_desk_store.specs.Store.{IsByRules}
 use Rattle.pt_tables_asking.specs.Plans.{HasVersionAmong}
 use Rattle.pt_tables_keeper.specs.Plans.{IsFleetEdit, IsOneKey}
 use Rattle.pt_tables_keeper.specs.Writable.{ChangesOfRulesAreWritten, IsWritable}
@@ -224,7 +224,7 @@ after_shaped : (first : Option Rule) (asked : Write) (me : Caller) (now : Moment
     → IsDecisionAfter first asked me now sent (facts_of asked s) (Accepted told change) → Shaped s change
 after_shaped (Some rule) asked me now sent s told change sound after is = absurd (cc)
 after_shaped None asked me now sent s told change sound after (made, by, keeps) =
-    accepted_shaped made me.id sent s told change keeps after (λ kept leaves. decided_shaped asked me.id now.day s kept made sound by leaves)
+    accepted_shaped made me.id sent s told change keeps after (λ kept leaves. decided_shaped asked me.id now.0 s kept made sound by leaves)
 
 pub rules_write : ChangesOfRulesAreWritten
 rules_write key now number asked me s told change sound sends new decision puts is_request =

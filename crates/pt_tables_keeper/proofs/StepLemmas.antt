@@ -5,9 +5,9 @@ use Rattle.sqlite.specs.State.{State as Connected, HasCleanDisk}
 use Rattle.sqlite.specs.Tree.{Trees}
 use Rattle.sqlite.specs.View.{doubt}
 use Rattle.sqlite_trees.proofs.Doubt.{clean_of, no_doubt, only_falls}
-use Rattle.pt_store.specs.Store.{FindsContent, Goes, IsSettled}
-use Rattle.pt_store.specs.declared.keeper.StoreFault.{StoreFault}
-use Rattle.pt_store.specs.declared.keeper.StoreFault.TheVariants.{Memory, Store as failed}
+use Rattle.pt_desk_store.specs.Store.{FindsContent, Goes, IsSettled}
+use Rattle.pt_desk_store.specs.declared.keeper.StoreFault.{StoreFault}
+use Rattle.pt_desk_store.specs.declared.keeper.StoreFault.TheVariants.{Memory, Store as failed}
 use Rattle.pt_desk_rules.specs.State.{State}
 use Rattle.pt_tables_rows.specs.Tables.{IsWellFormed, HasRows, IsKept}
 use Rattle.pt_tables_asking.proofs.ContentLemmas.{kept_still}

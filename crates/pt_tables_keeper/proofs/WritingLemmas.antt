@@ -1,5 +1,5 @@
 -- A change that is written after a read.
-use Rattle.std.proofs.Common.{◌≡◌, ◌⊎◌, ℕ, inl, inr, false, IsTrue, IfErr, IfOk, List, [], Result, Ok, Err, refl, sym, subst, ◌∙◌, arith}
+use Rattle.std.proofs.Common.{◌≡◌, ◌⊎◌, ℕ, inl, inr, false, IsTrue, IfErr, IfOk, List, [], Result, Ok, Err, sym, subst, ◌∙◌, arith}
 use Rattle.sqlite.specs.Order.{Row}
 use Rattle.sqlite.specs.State.{State as Connected, HasCleanDisk, IsNotRun, IsRolledBack, IsUnchanged, Survives}
 use Rattle.sqlite.specs.Tree.{Trees}
@@ -9,8 +9,8 @@ use Rattle.sqlite.proofs.StateLemmas.{survives_then}
 use Rattle.pt_desk_rules.specs.Parts as part
 use Rattle.pt_desk_rules.specs.State.{State}
 use Rattle.pt_desk_rules.specs.declared.change.Change.{Change}
-use Rattle.pt_records.specs.Records.{Each}
-use Rattle.pt_scheduling.specs.Plan.{Plan}
+use Rattle.pt_base_records.specs.Records.{Each}
+use Rattle.pt_desk_scheduling.specs.Plan.{Plan}
 use Rattle.pt_tables_asking.specs.Asking.{Rests, ShowsCommit}
 use Rattle.pt_tables_asking.proofs.InsideLemmas.{still_shown}
 use Rattle.pt_tables_rows.specs.Tables.{Stands, IsWellFormed}
@@ -19,25 +19,6 @@ use Rattle.pt_tables_writing.specs.Committing.{IsMade, LeadsTo}
 use Rattle.pt_tables_writing.specs.Least.{IsUndone}
 use Rattle.pt_tables_keeper.specs.Plans.{IsOneKey, keys_of, plans_at}
 use Rattle.pt_tables_keeper.proofs.PlanLemmas.{knows_edited}
-
--- what was read shows what is committed
-pub undone_by_read : (old new : Connected) → Rests old new → HasCleanDisk new → IsUndone old new
-undone_by_read old new rests clean = record {
-  was_open = λ here. (rests.keeps clean).was_open here;
-  now = λ here. rests.undone clean here ∙ (rests.keeps clean).committed here;
-  committed = λ here. (rests.keeps clean).committed here;
-}
-
--- and what survives nothing that was committed survives any
-pub survives_read : (old new : Connected) (P : Trees → Type 0) → Survives old new (λ _. ⊥) → Survives old new P
-survives_read old new P survives = record {
-  clean = survives.clean;
-  shield = survives.shield;
-  counts = survives.counts;
-  limit = survives.limit;
-  closes = survives.closes;
-  crash = λ clean db left. elim (survives.crash clean db left) [ inl before ↦ inl before | inr none ↦ absurd none ];
-}
 
 -- the plans of its keys are what the change needs besides the lists
 pub agrees_over : (change : Change) (known content : State) (plans : List Plan) → IsWellFormed content → Each IsOneKey change.planned.away → AgreesFor change known content
@@ -50,15 +31,6 @@ module _ (old mid new : Connected) (rests : Rests old mid) (always : Survives mi
 
   pub clean_old : HasCleanDisk new → HasCleanDisk old
   clean_old clean = omega (arith, clean, always.clean, rests.survives.clean)
-
-  pub undone_then : HasCleanDisk new → IsUndone mid new → IsUndone old new
-  undone_then clean undone =
-      let keeps = rests.keeps (clean_mid clean) in
-      record {
-        was_open = λ here. keeps.was_open (undone.was_open here);
-        now = λ here. undone.now here ∙ keeps.committed (undone.was_open here);
-        committed = λ here. undone.committed here ∙ keeps.committed (undone.was_open here);
-      }
 
   module _ (before after : State) (shows : ShowsCommit old) where
     shown : HasCleanDisk new → IsTrue mid.is_open → mid.now ≡ old.now
@@ -120,22 +92,6 @@ module _ {T : Type 0} (old new : Connected) (sql : List ℕ) (Is : T → Type 0)
     undone = λ clean here. shown_still old new (shows (omega (arith, clean, survives.clean))) (understood r (ok clean) (err clean)) here;
     survives = survives;
   }
-
--- and so does one that is not asked
-pub rests_still : (s : Connected) → s.in_transaction ≡ false → ShowsCommit s → Rests s s
-rests_still s settled shows = record {
-  settled = settled;
-  keeps = λ clean. record { was_open = λ here. here; committed = λ here. refl };
-  undone = shows;
-  survives = record {
-    clean = omega arith;
-    shield = λ h. h;
-    counts = omega arith;
-    limit = refl;
-    closes = λ clean here. inl here;
-    crash = λ clean db left. inl left;
-  };
-}
 
 -- what was undone stays undone
 pub undone_further : (old mid new : Connected) → Rests mid new → (HasCleanDisk mid → IsUndone old mid) → HasCleanDisk new → IsUndone old new

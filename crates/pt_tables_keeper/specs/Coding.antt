@@ -1,8 +1,8 @@
 -- How the logic stores a content.
 use Rattle.std.specs.Prelude.{refl}
 use Rattle.std.specs.Coded.{Coded, code_by}
-use Rattle.pt_store.specs.Listed.{Listed, no_room}
-use Rattle.pt_store.specs.contracts.list_keeper.ListKeeper as list_keeper
+use Rattle.pt_desk_store.specs.Listed.{Listed, no_room}
+use Rattle.pt_desk_store.specs.contracts.list_keeper.ListKeeper as list_keeper
 use Rattle.pt_desk_rules.specs.State.{State}
 
 abbrev pub state_code : Coded State

@@ -1,15 +1,16 @@
 -- The state of a keeper over tables, its invariant, and the results of its reads.
 use Rattle.std.specs.Prelude.{◌≡◌, ◌≤◌, ◌&&◌, ℕ, Result, Ok, Err, false, length, refl}
 use Rattle.std.specs.Coded.{Coded, code_by, coded×, coded_ℕ}
-use Rattle.pt_store.specs.Store.{Store}
-use Rattle.pt_store.specs.declared.keeper.StoreFault.{StoreFault}
-use Rattle.pt_store.specs.declared.keeper.StoreFault.TheVariants as fault
+use Rattle.pt_desk_store.specs.Store.{Store}
+use Rattle.pt_desk_store.specs.declared.keeper.StoreFault.{StoreFault}
+use Rattle.pt_desk_store.specs.declared.keeper.StoreFault.TheVariants as fault
 use Rattle.pt_desk_rules.specs.State.{State}
 use Rattle.sqlite.specs.Held.{Held, held_code, state}
 use Rattle.sqlite.specs.State.{State as Connected, HasCleanDisk}
 use Rattle.sqlite.specs.Store.{Ghosts}
 use Rattle.sqlite.specs.View.{doubt}
-use Rattle.pt_records.specs.Records.{Each}
+use Rattle.pt_base_records.specs.Records.{Each}
+use Rattle.pt_tables_asking.specs.Asking.{HasCause}
 use Rattle.pt_tables_asking.specs.Plans.{HasVersionAmong}
 use Rattle.pt_tables_rows.specs.Tables.{IsWellFormed, IsKept}
 use Rattle.pt_tables_asking.specs.declared.asking.Unread.{Unread}
@@ -60,6 +61,12 @@ kept_store s content failures unfit = record {
 
 abbrev pub store_of : {S : Type 0} → Ghosts S → KeptTables S → Store
 store_of g k = kept_store (state g k.conn) k.content k.failures k.unfit
+
+-- a read of a store that had not failed says that it fails only with a cause, if the disk stayed clean
+abbrev pub IsCaused : {S X : Type 0} → Ghosts S → KeptTables S → KeptTables S → Result X StoreFault → Type 0
+IsCaused g old new result =
+    old.failures ≡ 0 → HasCleanDisk (state g new.conn) → result ≡ Err fault.Store
+    → HasCause (state g old.conn) (state g new.conn)
 
 -- the reply to a read with this result, and the count of failures after it
 abbrev pub Counts : {X : Type 0} → ℕ → Result X Unread → Result X StoreFault → Type 0

@@ -1,10 +1,10 @@
 -- The known plans of a content, by their keys, and changes that keep each plan's vehicle.
 use Rattle.std.specs.Prelude.{◌≡◌, ◌⊎◌, ℕ, List, [], ◌∷◌, ◌++◌, map, Option, None, Some}
-use Rattle.pt_base.specs.declared.vehicle.Vehicle.{Vehicle}
+use Rattle.pt_base_values.specs.declared.vehicle.Vehicle.{Vehicle}
 use Rattle.pt_desk_rules.specs.State.{no_edit, replaces, versions_from}
-use Rattle.pt_records.specs.Records.{Edit, put, record_at}
-use Rattle.pt_records.specs.declared.span.Span.{Span}
-use Rattle.pt_scheduling.specs.Plan.{Plan, plan_key}
+use Rattle.pt_base_records.specs.Records.{Edit, IsInOrder, put, record_at}
+use Rattle.pt_base_records.specs.declared.span.Span.{Span}
+use Rattle.pt_desk_scheduling.specs.Plan.{Plan, plan_key}
 
 -- the plan, if one was found, put among the others
 abbrev pub plans_with : Option Plan → List Plan → List Plan
@@ -15,6 +15,11 @@ plans_with (Some plan) plans = put plan_key plan plans
 abbrev pub plans_at : List Plan → List ℕ → List Plan → List Plan
 plans_at there [] plans = plans
 plans_at there (key ∷ keys) plans = plans_at there keys (plans_with (record_at plan_key key there) plans)
+
+-- plans in the order of their keys, each of them one of these
+pub record ArePlansOf (there plans : List Plan) : Type 0 where
+  pub order : IsInOrder plan_key plans
+  pub part : (k : ℕ) → (record_at plan_key k plans ≡ None) ⊎ (record_at plan_key k plans ≡ record_at plan_key k there)
 
 -- the keys that an edit removes, the first of each span, and those that it puts
 abbrev pub keys_of : Edit Plan → List ℕ

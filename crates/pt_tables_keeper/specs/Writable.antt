@@ -1,7 +1,7 @@
 -- Which changes can be written, so that the result can be read back from its rows.
 use Rattle.std.specs.Prelude.{◌≡◌, ◌≤◌, ℕ, List, [], length, Some}
-use Rattle.pt_base.specs.declared.moment.Moment.{Moment}
-use Rattle.pt_base.specs.declared.vehicle.Vehicle.{Vehicle}
+use Rattle.pt_base_values.specs.Moment.{Moment}
+use Rattle.pt_base_values.specs.declared.vehicle.Vehicle.{Vehicle}
 use Rattle.pt_desk_rules.specs.Deciding.{IsDecision}
 use Rattle.pt_desk_rules.specs.Facts.{facts_of}
 use Rattle.pt_desk_rules.specs.Ranges.{PutsInRange}
@@ -11,11 +11,11 @@ use Rattle.pt_desk_rules.specs.Step.{arrival_in, sender, sent_with}
 use Rattle.pt_desk_rules.specs.declared.change.Change.{Change}
 use Rattle.pt_desk_rules.specs.declared.deciding.Decision.TheVariants.{Accepted}
 use Rattle.pt_desk_rules.specs.declared.kept.Arrival.TheVariants.{New}
-use Rattle.pt_records.specs.Records.{Each}
-use Rattle.pt_requests.specs.declared.caller.Caller.{Caller}
-use Rattle.pt_requests.specs.declared.request.Answer.{Answer}
-use Rattle.pt_requests.specs.declared.request.Write.{Write}
-use Rattle.pt_spelling.specs.Ranges.{IsRequest}
+use Rattle.pt_base_records.specs.Records.{Each}
+use Rattle.pt_desk_requests.specs.declared.caller.Caller.{Caller}
+use Rattle.pt_desk_requests.specs.declared.request.Answer.{Answer}
+use Rattle.pt_desk_requests.specs.declared.request.Write.{Write}
+use Rattle.pt_desk_spelling.specs.Ranges.{IsRequest}
 use Rattle.pt_tables_asking.specs.Plans.{HasVersionAmong}
 use Rattle.pt_tables_rows.specs.Tables.{PutsWellFormed}
 use Rattle.pt_tables_keeper.specs.Plans.{IsFleetEdit, IsOneKey}

@@ -1,35 +1,37 @@
 ghost use Rattle.std.specs.Prelude.{◌≡◌, ◌<◌, ◌↔◌, IfErr, OnErr, OnOk, false, length};
-ghost use Rattle.pt_store.specs.Listed.{known_of};
-ghost use Rattle.pt_store.specs.Store.{Commits, Goes, Reads, Refuses};
-ghost use Rattle.pt_store.specs.declared.keeper.StoreFault.TheVariants.{Memory, Store as Failed};
-ghost use Rattle.pt_desk_rules.specs.State.{applied, rider_of};
+ghost use Rattle.pt_desk_store.specs.Listed.{known_of};
+ghost use Rattle.pt_desk_store.specs.Store.{Commits, Fits, Goes, IsByRules, Reads, Refuses};
+ghost use Rattle.pt_desk_store.specs.declared.keeper.StoreFault.TheVariants.{Memory, Store as Failed};
+ghost use Rattle.pt_desk_rules.specs.Arrival.{arrival_of};
+ghost use Rattle.pt_desk_rules.specs.Planned.{is_booked_from, planned_on, trips_of, trips_on};
+ghost use Rattle.pt_desk_rules.specs.State.{applied, file_of, kept_of, plan_of, rider_of, trip_of};
 ghost use Rattle.sqlite.specs.Held.{state};
 ghost use Rattle.sqlite.specs.State.{HasCleanDisk};
-ghost use Rattle.pt_records.specs.Records.{Each};
-ghost use Rattle.pt_tables_asking.specs.Plans.{HasVersionAmong};
+ghost use Rattle.pt_base_records.specs.Records.{Each};
+ghost use Rattle.pt_tables_asking.specs.Plans.{HasFewStops, HasVersionAmong};
 ghost use Rattle.pt_tables_asking.specs.declared.asking.Unread.TheVariants.{Memory as Wanted};
 ghost use Rattle.pt_tables_rows.specs.Tables.{IsWellFormed, IsKept};
 ghost use Rattle.pt_tables_writing.specs.Committing.{LeavesDesk};
-ghost use Rattle.pt_tables_keeper.specs.Keeper.{Counts, store_of};
+ghost use Rattle.pt_tables_keeper.specs.Keeper.{Counts, IsCaused, store_of};
 ghost use Rattle.pt_tables_keeper.specs.Writable.{IsWritable};
 
 use crate::known::Known;
 use crate::writable::is_writable;
 use crate::writing::write_over;
-use pt_base::{
+use pt_base_records::{Key, Keyed, Rows, Table};
+use pt_base_values::{
     CallerId, Day, Place, PlaceId, Policy, Rider, RiderId, RouteId, Trip, TripId, Vehicle,
     VehicleId,
 };
 use pt_corridor::FixedRoute;
+use pt_desk_requests::{Caller, Digest};
 use pt_desk_rules::{Arrival, Change, TravelTable, has_version, table_on};
-use pt_records::{Key, Keyed, Rows, Table};
-use pt_requests::{Caller, Digest};
-use pt_rights::CaseFile;
-use pt_scheduling::Plan;
-use pt_spelling::Spelling;
-use pt_store::{
+use pt_desk_scheduling::Plan;
+use pt_desk_spelling::Spelling;
+use pt_desk_store::{
     Keeper, ListKeeper, StoreFault, file_with, find_caller, is_booked_from, table_count_before,
 };
+use pt_rights_files::CaseFile;
 use pt_tables_asking::{
     Unread, entries_by_rider, kept_by_caller, plan_by_key, plans_by_day, rider_by_number,
     trip_by_number, trips_by_day, trips_by_rider, trips_from_day,
@@ -200,7 +202,9 @@ impl<S: Alter> SqlKeeper<S> {
     fn read_rider(&mut self, id: RiderId) -> Result<Option<Rider>, StoreFault>
         ensures reads { Reads (store_of S.Store self.old) (store_of S.Store self.new) (rider_of id) result }
         ensures refuses { Refuses (store_of S.Store self.old) (store_of S.Store self.new) result }
+        ensures caused { IsCaused S.Store self.old self.new result }
         ensures content { self.new.content ≡ self.old.content }
+        ensures unfit { self.new.unfit ≡ self.old.unfit }
     {
         self.serve()?;
         let found = rider_by_number(self.alloc, &mut self.conn, id);
@@ -214,6 +218,7 @@ impl<S: Alter> SqlKeeper<S> {
         ensures reads { Reads (store_of S.Store self.old) (store_of S.Store self.new)
             (λ s. length (applied change.now s).riders) result }
         ensures content { self.new.content ≡ self.old.content }
+        ensures unfit { self.new.unfit ≡ self.old.unfit }
     {
         let Some(new) = change.riders.puts().first() else {
             return Ok(self.rider_count);
@@ -271,7 +276,12 @@ impl<S: Alter> Keeper for SqlKeeper<S> {
         caller: CallerId,
         number: u32,
         request: &Spelling,
-    ) -> Result<Arrival, StoreFault> {
+    ) -> Result<Arrival, StoreFault>
+        ensures reads { Reads (store_of S.Store self.old) (store_of S.Store self.new)
+            (λ s. arrival_of number request.now (kept_of caller s)) result }
+        ensures refuses { Refuses (store_of S.Store self.old) (store_of S.Store self.new) result }
+        ensures caused { IsCaused S.Store self.old self.new result }
+    {
         self.serve()?;
         let found = kept_by_caller(self.alloc, &mut self.conn, caller);
         let last = count(&mut self.failures, found)?;
@@ -308,7 +318,11 @@ impl<S: Alter> Keeper for SqlKeeper<S> {
         self.copy(alloc, self.lists().routes_table())
     }
 
-    fn rider(&mut self, id: RiderId) -> Result<Option<Rider>, StoreFault> {
+    fn rider(&mut self, id: RiderId) -> Result<Option<Rider>, StoreFault>
+        ensures reads { Reads (store_of S.Store self.old) (store_of S.Store self.new) (rider_of id) result }
+        ensures refuses { Refuses (store_of S.Store self.old) (store_of S.Store self.new) result }
+        ensures caused { IsCaused S.Store self.old self.new result }
+    {
         self.read_rider(id)
     }
 
@@ -317,7 +331,11 @@ impl<S: Alter> Keeper for SqlKeeper<S> {
         Ok(self.rider_count)
     }
 
-    fn case_file(&mut self, alloc: Global, rider: RiderId) -> Result<CaseFile, StoreFault> {
+    fn case_file(&mut self, alloc: Global, rider: RiderId) -> Result<CaseFile, StoreFault>
+        ensures reads { Reads (store_of S.Store self.old) (store_of S.Store self.new) (file_of rider) result }
+        ensures refuses { Refuses (store_of S.Store self.old) (store_of S.Store self.new) result }
+        ensures caused { IsCaused S.Store self.old self.new result }
+    {
         self.serve()?;
         let found = entries_by_rider(alloc, &mut self.conn, rider);
         let entries = count(&mut self.failures, found)?;
@@ -346,32 +364,56 @@ impl<S: Alter> Keeper for SqlKeeper<S> {
         }
     }
 
-    fn is_booked_from(&mut self, vehicle: Option<VehicleId>, day: Day) -> Result<bool, StoreFault> {
+    fn is_booked_from(&mut self, vehicle: Option<VehicleId>, day: Day) -> Result<bool, StoreFault>
+        ensures reads { Reads (store_of S.Store self.old) (store_of S.Store self.new)
+            (λ s. is_booked_from vehicle day s.trips) result }
+        ensures refuses { Refuses (store_of S.Store self.old) (store_of S.Store self.new) result }
+        ensures caused { IsCaused S.Store self.old self.new result }
+    {
         self.serve()?;
         let found = trips_from_day(self.alloc, &mut self.conn, day);
         let trips = count(&mut self.failures, found)?;
         Ok(is_booked_from(trips.as_slice(), &vehicle, day))
     }
 
-    fn trip(&mut self, id: TripId) -> Result<Option<Trip>, StoreFault> {
+    fn trip(&mut self, id: TripId) -> Result<Option<Trip>, StoreFault>
+        ensures reads { Reads (store_of S.Store self.old) (store_of S.Store self.new) (trip_of id) result }
+        ensures refuses { Refuses (store_of S.Store self.old) (store_of S.Store self.new) result }
+        ensures caused { IsCaused S.Store self.old self.new result }
+    {
         self.serve()?;
         let found = trip_by_number(self.alloc, &mut self.conn, id);
         count(&mut self.failures, found)
     }
 
-    fn trips_of(&mut self, alloc: Global, rider: RiderId) -> Result<Rows<Trip>, StoreFault> {
+    fn trips_of(&mut self, alloc: Global, rider: RiderId) -> Result<Rows<Trip>, StoreFault>
+        ensures reads { Reads (store_of S.Store self.old) (store_of S.Store self.new)
+            (λ s. trips_of rider s.trips) result }
+        ensures refuses { Refuses (store_of S.Store self.old) (store_of S.Store self.new) result }
+        ensures caused { IsCaused S.Store self.old self.new result }
+    {
         self.serve()?;
         let found = trips_by_rider(alloc, &mut self.conn, rider);
         count(&mut self.failures, found)
     }
 
-    fn trips_on(&mut self, alloc: Global, day: Day) -> Result<Rows<Trip>, StoreFault> {
+    fn trips_on(&mut self, alloc: Global, day: Day) -> Result<Rows<Trip>, StoreFault>
+        ensures reads { Reads (store_of S.Store self.old) (store_of S.Store self.new)
+            (λ s. trips_on day s.trips) result }
+        ensures refuses { Refuses (store_of S.Store self.old) (store_of S.Store self.new) result }
+        ensures caused { IsCaused S.Store self.old self.new result }
+    {
         self.serve()?;
         let found = trips_by_day(alloc, &mut self.conn, day);
         count(&mut self.failures, found)
     }
 
-    fn planned_on(&mut self, alloc: Global, day: Day) -> Result<Rows<Plan>, StoreFault> {
+    fn planned_on(&mut self, alloc: Global, day: Day) -> Result<Rows<Plan>, StoreFault>
+        ensures reads { Reads (store_of S.Store self.old) (store_of S.Store self.new)
+            (λ s. planned_on day s.planned) result }
+        ensures refuses { Refuses (store_of S.Store self.old) (store_of S.Store self.new) result }
+        ensures caused { Each HasFewStops self.old.content.planned → IsCaused S.Store self.old self.new result }
+    {
         self.serve()?;
         let vehicles = self.known.lists().vehicles_table();
         let found = plans_by_day(alloc, &mut self.conn, vehicles.as_slice(), day);
@@ -387,14 +429,26 @@ impl<S: Alter> Keeper for SqlKeeper<S> {
         alloc: Global,
         vehicle: VehicleId,
         day: Day,
-    ) -> Result<Option<Plan>, StoreFault> {
+    ) -> Result<Option<Plan>, StoreFault>
+        ensures reads { Reads (store_of S.Store self.old) (store_of S.Store self.new) (plan_of vehicle day) result }
+        ensures refuses { Refuses (store_of S.Store self.old) (store_of S.Store self.new) result }
+        ensures caused { Each HasFewStops self.old.content.planned → IsCaused S.Store self.old self.new result }
+    {
         self.serve()?;
         let key = Key::pair(vehicle.number(), day.number());
         let found = plan_by_key(alloc, &mut self.conn, &key);
         count(&mut self.failures, found)
     }
 
-    fn commit(&mut self, change: Change) -> Result<(), StoreFault> {
+    fn commit(&mut self, change: Change) -> Result<(), StoreFault>
+        ensures commits { Commits (store_of S.Store self.old) (store_of S.Store self.new) (applied change) result }
+        ensures fits { Fits (store_of S.Store self.old) (store_of S.Store self.new) (IsByRules change) }
+        ensures refuses { Refuses (store_of S.Store self.old) (store_of S.Store self.new) result }
+        // While the store serves, each change that cannot be written sets the mark. No other does.
+        ensures marks { self.old.failures ≡ 0 → ¬ IsWritable self.old.content.vehicles change → self.new.unfit ≡ 1 }
+        ensures spares { IsWritable self.old.content.vehicles change → self.new.unfit ≡ self.old.unfit }
+        ensures keeps { 0 < self.old.failures → self.new.unfit ≡ self.old.unfit }
+    {
         self.serve()?;
         let vehicles = self.known.lists().vehicles_table();
         if !is_writable(&change, vehicles.as_slice()) {

@@ -1,11 +1,11 @@
 //! What a keeper over a database has in memory of its tables.
 ghost use Rattle.std.specs.Prelude.{◌≡◌, OnOk};
-ghost use Rattle.pt_store.specs.Listed.{HasKnownRoom, known_of};
+ghost use Rattle.pt_desk_store.specs.Listed.{HasKnownRoom, known_of};
 ghost use Rattle.pt_desk_rules.specs.State.{applied};
 
 use crate::tables_content::Content;
 use pt_desk_rules::Change;
-use pt_store::ListKeeper;
+use pt_desk_store::ListKeeper;
 use std::alloc::AllocError;
 use std::marker::Model;
 
@@ -19,7 +19,7 @@ pub struct Known {
 
 impl Model for Known {
     ghost use Rattle.std.specs.Prelude.{◌≡◌};
-    ghost use Rattle.pt_store.specs.Listed.{known_of};
+    ghost use Rattle.pt_desk_store.specs.Listed.{known_of};
     ghost use Rattle.pt_tables_keeper.specs.Known.{KnownContent};
 
     ghost Value = { KnownContent };

@@ -4,14 +4,14 @@ ghost use Rattle.std.specs.Prelude.{◌≡◌, [], IfOk, OnOk, false, map};
 ghost use Rattle.sqlite.specs.Held.{state};
 ghost use Rattle.sqlite.specs.State.{HasCleanDisk};
 ghost use Rattle.pt_desk_rules.specs.State.{State};
-ghost use Rattle.pt_records.specs.Records.{record_at};
-ghost use Rattle.pt_scheduling.specs.Plan.{plan_key};
+ghost use Rattle.pt_base_records.specs.Records.{record_at};
+ghost use Rattle.pt_desk_scheduling.specs.Plan.{plan_key};
 ghost use Rattle.pt_tables_asking.specs.Asking.{Rests, ShowsCommit};
-ghost use Rattle.pt_tables_keeper.specs.Plans.{keys_of, plans_with, plans_at};
+ghost use Rattle.pt_tables_keeper.specs.Plans.{keys_of, plans_with, plans_at, ArePlansOf};
 ghost use Rattle.pt_tables_rows.specs.Tables.{IsKept, IsWellFormed};
 
-use pt_records::{Edits, Key, Keyed, Span, Table};
-use pt_scheduling::Plan;
+use pt_base_records::{Edits, Key, Keyed, Span, Table};
+use pt_desk_scheduling::Plan;
 use pt_tables_asking::{Unread, plan_by_key};
 use sqlite::{Alter, Connection};
 use std::alloc::{AllocError, Global};
@@ -48,6 +48,26 @@ fn read_plan<S: Alter>(
     Ok(())
 }
 
+/// Reads the plan of a key and puts it among the others, unless it is there.
+fn read_unread<S: Alter>(
+    alloc: Global,
+    conn: &mut Connection<S>,
+    key: &Key,
+    plans: &mut Table<Plan>,
+) -> Result<(), Unread>
+    requires settled { conn.old.in_transaction ≡ false }
+    requires committed { ShowsCommit (state S.Store conn.old) }
+    ensures told { HasCleanDisk (state S.Store conn.new) → (content : State) → IsWellFormed content
+        → IsKept content (state S.Store conn.old) → ArePlansOf content.planned plans.old.items
+        → OnOk result (plans.new.items ≡ plans_with (record_at plan_key key.now content.planned) plans.old.items) }
+    ensures rests { Rests (state S.Store conn.old) (state S.Store conn.new) }
+{
+    if plans.find(key).is_some() {
+        return Ok(());
+    }
+    read_plan(alloc, conn, key, plans)
+}
+
 /// Reads the plans with the first keys of these spans.
 fn read_taken<S: Alter>(
     alloc: Global,
@@ -68,7 +88,7 @@ fn read_taken<S: Alter>(
     Ok(())
 }
 
-/// Reads the stored plans that these replace.
+/// Reads the stored plans that these replace, unless they are there.
 fn read_replaced<S: Alter>(
     alloc: Global,
     conn: &mut Connection<S>,
@@ -78,12 +98,12 @@ fn read_replaced<S: Alter>(
     requires settled { conn.old.in_transaction ≡ false }
     requires committed { ShowsCommit (state S.Store conn.old) }
     ensures told { HasCleanDisk (state S.Store conn.new) → (content : State) → IsWellFormed content
-        → IsKept content (state S.Store conn.old)
+        → IsKept content (state S.Store conn.old) → ArePlansOf content.planned plans.old.items
         → OnOk result (plans.new.items ≡ plans_at content.planned (map plan_key news.now) plans.old.items) }
     ensures rests { Rests (state S.Store conn.old) (state S.Store conn.new) }
 {
     for new in news {
-        read_plan(alloc, conn, &new.key(), plans)?;
+        read_unread(alloc, conn, &new.key(), plans)?;
     }
     Ok(())
 }

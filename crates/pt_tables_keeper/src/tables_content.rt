@@ -5,7 +5,7 @@ ghost use Rattle.pt_desk_rules.specs.State.{State};
 ghost use Rattle.pt_tables_keeper.specs.Coding.{state_code};
 
 use pt_desk_rules::Change;
-use pt_store::ListKeeper;
+use pt_desk_store::ListKeeper;
 use std::marker::Model;
 
 /// The content of a database's tables. It takes no memory, and its functions do nothing at run time.

@@ -1,15 +1,15 @@
 //! Whether a keeper over tables can write a change.
 ghost use Rattle.std.specs.Prelude.{◌≡◌, ◌≢◌, ◌↔◌, ◌∷◌, [], IsTrue, MatchOption, length};
 ghost use Rattle.pt_desk_rules.specs.State.{versions_from};
-ghost use Rattle.pt_records.specs.Records.{Each};
+ghost use Rattle.pt_base_records.specs.Records.{Each};
 ghost use Rattle.pt_tables_asking.specs.Plans.{HasVersionAmong};
 ghost use Rattle.pt_tables_keeper.specs.Plans.{IsFleetEdit, IsOneKey};
 ghost use Rattle.pt_tables_keeper.specs.Writable.{IsWritable};
 
-use pt_base::Vehicle;
+use pt_base_records::{Edits, Key, Span};
+use pt_base_values::Vehicle;
 use pt_desk_rules::{Change, has_version};
-use pt_records::{Edits, Key, Span};
-use pt_scheduling::Plan;
+use pt_desk_scheduling::Plan;
 use pt_tables_writing::is_well_formed;
 use std::cmp::Ordering;
 

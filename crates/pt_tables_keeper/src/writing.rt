@@ -4,7 +4,7 @@ ghost use Rattle.std.specs.Prelude.{◌≡◌, Err, IsTrue, OnErr, OnOk, false};
 ghost use Rattle.sqlite.specs.Held.{state};
 ghost use Rattle.sqlite.specs.State.{HasCleanDisk, Survives};
 ghost use Rattle.pt_desk_rules.specs.State.{State, applied};
-ghost use Rattle.pt_records.specs.Records.{Each};
+ghost use Rattle.pt_base_records.specs.Records.{Each};
 ghost use Rattle.pt_tables_asking.specs.Asking.{Rests, ShowsCommit};
 ghost use Rattle.pt_tables_asking.specs.declared.asking.Unread.TheVariants.{Memory as Wanted};
 ghost use Rattle.pt_tables_keeper.specs.Plans.{IsOneKey};
@@ -15,7 +15,7 @@ ghost use Rattle.pt_tables_writing.specs.Least.{IsUndone};
 
 use crate::plans::plans_before;
 use pt_desk_rules::Change;
-use pt_store::ListKeeper;
+use pt_desk_store::ListKeeper;
 use pt_tables_asking::Unread;
 use pt_tables_writing::write_change;
 use sqlite::{Alter, Connection};

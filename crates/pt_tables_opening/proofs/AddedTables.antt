@@ -6,9 +6,9 @@ use Rattle.sqlite.specs.Order.{Row}
 use Rattle.sqlite.specs.State.{State as Connected, HasCleanDisk}
 use Rattle.sqlite.specs.Table.{Table}
 use Rattle.sqlite.specs.Tree.{Trees}
-use Rattle.pt_base.specs.declared.rider.Rider.{Rider}
-use Rattle.pt_base.specs.declared.trip.Trip.{Trip}
-use Rattle.pt_base.specs.declared.vehicle.Vehicle.{Vehicle}
+use Rattle.pt_base_values.specs.declared.rider.Rider.{Rider}
+use Rattle.pt_base_values.specs.declared.trip.Trip.{Trip}
+use Rattle.pt_base_values.specs.declared.vehicle.Vehicle.{Vehicle}
 use Rattle.pt_desk_rules.specs.Deciding.{no_change}
 use Rattle.pt_desk_rules.specs.Parts.{Part, key_in, record_in, records_of}
 use Rattle.pt_desk_rules.specs.Parts as part
@@ -18,12 +18,12 @@ use Rattle.pt_desk_rules.specs.TableNames.{all_tables, number_of}
 use Rattle.pt_desk_rules.specs.declared.change.Change.{Change}
 use Rattle.pt_desk_rules.specs.declared.table_name.TableName.{TableName}
 use Rattle.pt_desk_rules.specs.declared.table_name.TableName.TheVariants as table
-use Rattle.pt_records.specs.Records.{Each, Edit, IsInOrder, edited}
-use Rattle.pt_records.proofs.OrderLemmas.{Each-weaker}
-use Rattle.pt_soundness.specs.Tables.{IsSoundIn}
-use Rattle.pt_soundness.proofs.AlikeLemmas.{AlikeRider, AlikeTrip, AlikeVehicle, alike_entries, alike_plans, alike_riders, alike_tables, alike_trips, alike_vehicles}
-use Rattle.pt_soundness.proofs.PairedLemmas.{Paired, paired_by}
-use Rattle.pt_spelling.specs.Ranges.{IsVehicle}
+use Rattle.pt_base_records.specs.Records.{Each, Edit, IsInOrder, edited}
+use Rattle.pt_base_records.proofs.OrderLemmas.{Each-weaker}
+use Rattle.pt_tables_soundness.specs.Tables.{IsSoundIn}
+use Rattle.pt_tables_soundness.proofs.AlikeLemmas.{AlikeRider, AlikeTrip, AlikeVehicle, alike_entries, alike_plans, alike_riders, alike_tables, alike_trips, alike_vehicles}
+use Rattle.pt_tables_soundness.proofs.PairedLemmas.{Paired, paired_by}
+use Rattle.pt_desk_spelling.specs.Ranges.{IsVehicle}
 use Rattle.pt_tables_rows.specs.Rows.{vehicle_row, rider_row, trip_row, one_row, record_rows}
 use Rattle.pt_tables_rows.specs.Rows.{vehicle_chair_rows, trip_chair_rows, rider_chair_rows}
 use Rattle.pt_tables_rows.specs.Schema.{table_in, vehicles_table, riders_table, trips_table}
@@ -33,7 +33,7 @@ use Rattle.pt_tables_rows.proofs.NameLemmas.{as_map}
 use Rattle.pt_tables_rows.proofs.SameRows.{table_of}
 use Rattle.pt_tables_opening.specs.Beside.{AreBeside}
 use Rattle.pt_tables_opening.specs.Gathered.{FitsRows, IsFitting}
-use Rattle.pt_tables_opening.specs.Opening.{ReadsTables, Rests}
+use Rattle.pt_tables_opening.specs.Opening.{IsCaused, ReadsTables, Rests}
 use Rattle.pt_tables_opening.specs.Standing.{NoneStandsTo, StandsIn}
 use Rattle.pt_tables_opening.specs.Steps.{Adds, AddsMarks, AddsRecords, HasRowsTo, IsFaultOf, IsReadIn, IsReadTo, ReadsTable}
 use Rattle.pt_tables_opening.specs.Tables.{HasNoneIn, IsLaidIn, IsStoredIn}
@@ -56,15 +56,18 @@ module _ {A : Type 0} {IsSuch : Edit A → Type 0} {Show : Trees → Edit A → 
     rows = λ clean has before.
         subst (λ (it : Change). HasRowsTo (number_of t) (applied it s) old.now.trees) (sym same) (adds.rows edit old.now.trees such (shown clean has) before);
     faults = tt;
+    caused = tt;
   }
 
   -- and of one that was refused
-  pub reads_none : (e : OpenFault) (out : Result Change OpenFault) → IsErr out → IsErrAnd out (λ f. f ≡ e) → IsFaultOf t (ReadsTables old new ShowNone) e → ReadsTable t old new s out
-  reads_none e out bad is faults = record {
+  pub reads_none : (e : OpenFault) (out : Result Change OpenFault) → IsErr out → IsErrAnd out (λ f. f ≡ e) → IsFaultOf t (ReadsTables old new ShowNone) e → IsCaused old new e
+      → ReadsTable t old new s out
+  reads_none e out bad is faults caused = record {
     rests = refused old new r out bad rests;
     read = no_answer (λ change. IsReadIn t (applied change s)) out bad;
     rows = λ clean has before. no_answer (λ change. HasRowsTo (number_of t) (applied change s) old.now.trees) out bad;
     faults = passed_on _ e (told faults) out is;
+    caused = passed_on (IsCaused old new) e caused out is;
   }
     where
       told : IsFaultOf t (ReadsTables old new ShowNone) e

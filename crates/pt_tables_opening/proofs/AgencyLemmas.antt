@@ -4,11 +4,11 @@ use Rattle.std.proofs.lemmas.List.Sorted.{IsPermutation-sym, IsPermutation-trans
 use Rattle.sqlite.specs.Order.{Row, column}
 use Rattle.sqlite.specs.Tree.{Trees}
 use Rattle.sqlite.proofs.Callers.{one_permutation}
-use Rattle.pt_base.specs.declared.policy.Policy.{Policy}
+use Rattle.pt_base_values.specs.declared.policy.Policy.{Policy}
 use Rattle.pt_tables_reading.specs.Reading.{agency_row, FitsAgency}
 use Rattle.pt_tables_opening.specs.Faults.{fault, unsound}
-use Rattle.pt_base.specs.Fault.{code_of}
-use Rattle.pt_base.specs.declared.fault.Cause.TheVariants as cause
+use Rattle.pt_base_values.specs.Fault.{code_of}
+use Rattle.pt_base_values.specs.declared.fault.Cause.TheVariants as cause
 use Rattle.pt_tables_opening.specs.Refused.{SparesOtherVersion}
 use Rattle.pt_tables_opening.specs.Standing.{NoneStandsTo}
 use Rattle.pt_tables_opening.specs.declared.open_fault.OpenFault.{OpenFault}
@@ -45,7 +45,7 @@ agency_refused trees rows Clean Has are memory store tables unsound (Err f) h = 
 -- ---- the version is checked before the rows
 
 abbrev code_in : OpenFault → ℕ
-code_in it = code_of it.cause
+code_in it = it.code
 
 first_or : Row → List Row → Row
 first_or r [] = r
@@ -63,7 +63,7 @@ pub spares_none : (trees : Trees) (policy : Policy) (last_trip : ℕ) → AreRow
 spares_none trees policy last_trip are it = λ other code. this_version trees policy last_trip are other
 
 pub spares_by_tables : (trees : Trees) (it : OpenFault) → it ≡ fault cause.OtherTables → SparesOtherVersion trees it
-spares_by_tables trees it is = λ other code. let n : code_of it.cause ≡ 30 = ap code_in is in let m : code_of it.cause ≡ 31 = ap code_of code in absurd (omega arith)
+spares_by_tables trees it is = λ other code. let n : it.code ≡ 30 = ap code_in is in let m : it.code ≡ 31 = code in absurd (omega arith)
 
 pub agency_spares : (trees : Trees) (rows : List Row) → AreRows desk_table trees rows → (r : Result (Policy × ℕ) OpenFault)
     → IfErr r (λ refused. ((refused ≡ fault cause.OtherTables) × IsOtherVersion rows) ⊎ ((refused ≡ unsound 1) × TellsNoAgency rows)) → IfErr r (SparesOtherVersion trees)

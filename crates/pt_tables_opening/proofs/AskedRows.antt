@@ -12,6 +12,7 @@ use Rattle.sqlite.specs.Query.{key_cmp}
 use Rattle.sqlite.specs.Schema.{Schema}
 use Rattle.sqlite.specs.Table.{Table}
 use Rattle.sqlite.specs.Term.{Term, col, eval_all}
+use Rattle.sqlite.specs.Tree.{Trees}
 use Rattle.sqlite_schema.specs.Names.{place_of}
 use Rattle.sqlite_schema.specs.declared.schema.Column.{Column}
 use Rattle.pt_tables_rows.specs.Compute.{everything}
@@ -19,10 +20,10 @@ use Rattle.sqlite_value.specs.Keys.{ascending}
 use Rattle.sqlite_value.specs.declared.keys.Key.{Key}
 use Rattle.pt_desk_rules.specs.Ranges.{FitsFiled, FitsKept, FitsPlace, FitsRider, FitsTravel, FitsTrip}
 use Rattle.pt_desk_rules.specs.State.{caller_key, kept_key, place_key, route_key, rider_key, entry_key, vehicle_key, travel_key, trip_key}
-use Rattle.pt_scheduling.specs.Plan.{plan_key}
-use Rattle.pt_spelling.specs.Ranges.{IsCaller, IsRoute, IsVehicle}
-use Rattle.pt_tables_asking.specs.Asking.{AreInOrder, command_in}
-use Rattle.pt_tables_asking.proofs.AskedQueries.{AreAlike, keys_of, where_query}
+use Rattle.pt_desk_scheduling.specs.Plan.{plan_key}
+use Rattle.pt_desk_spelling.specs.Ranges.{IsCaller, IsRoute, IsVehicle}
+use Rattle.pt_tables_asking.specs.Asking.{AreInOrder, Takes, command_in}
+use Rattle.pt_tables_asking.proofs.AskedQueries.{AreAlike, IsMistyped, keys_of, untrue, where_query}
 use Rattle.pt_tables_asking.proofs.OrderedLemmas.{IsCounted, IsPaired, count_le, double_key, pair_le, same_order}
 use Rattle.pt_tables_opening.specs.Beside.{AreBeside}
 use Rattle.pt_tables_opening.specs.Gathered.{FitsRows, KeepsOrder, KeepsRows}
@@ -56,10 +57,12 @@ by_first columns table = map (λ field. (field, ascending Binary)) (take columns
 asks_all : (schema : Schema) (columns : ℕ) (table : Table) (text : List ℕ)
     → command_in (understood schema text)
     ≡ Select (record { lets = []; body = where_query table.tree [] (all_fields table) (by_first columns table) }) (map (λ (column : Column). column.name) table.columns)
-    → IsPlain (understood schema text) → reads_listing schema text ≡ false → ((r : Row) → eval_all (all_fields table) ([] ∷ r ∷ []) ≡ columns_of table r)
+    → IsPlain (understood schema text) → reads_listing schema text ≡ false → Takes text [] (understood schema text)
+    → ((trees : Trees) → IsMistyped schema trees (where_query table.tree [] (all_fields table) (by_first columns table)) [] → ⊥)
+    → ((r : Row) → eval_all (all_fields table) ([] ∷ r ∷ []) ≡ columns_of table r)
     → map (λ k. k.1) (by_first columns table) ≡ keys_of columns
     → ((r : Row) → AreAlike 0 columns (eval_all (map (λ k. k.0) (by_first columns table)) ([] ∷ r ∷ [])) (eval_all (all_fields table) ([] ∷ r ∷ []))) → AsksAllIn schema columns table text
-asks_all schema columns table text is plain unlisted shows keys heads = record {
+asks_all schema columns table text is plain unlisted takes typed shows keys heads = record {
   tests = [];
   fields = all_fields table;
   order = by_first columns table;
@@ -67,6 +70,8 @@ asks_all schema columns table text is plain unlisted shows keys heads = record {
   is = is;
   plain = plain;
   unlisted = unlisted;
+  takes = takes;
+  typed = typed;
   shows = shows;
   says = λ r. refl;
   keys = keys;
@@ -75,13 +80,13 @@ asks_all schema columns table text is plain unlisted shows keys heads = record {
 
 pub desk_rows_text : AsksAll 1 desk_table DESK_ROWS.now
 unfolding understood everything desk_schema
-desk_rows_text = asks_all desk_schema 1 desk_table DESK_ROWS.now refl (refl, refl) refl (λ r. refl) refl (λ r. (refl, tt))
+desk_rows_text = asks_all desk_schema 1 desk_table DESK_ROWS.now refl (refl, refl) refl (omega arith, refl) (λ trees. untrue) (λ r. refl) refl (λ r. (refl, tt))
 
 -- the same where the tables are those of an earlier version
 pub earlier_rows_text : (version : ℕ) → IsEarlier version → AsksAllIn (schema_of version) 1 desk_table DESK_ROWS.now
 unfolding understood everything schema_of
 earlier_rows_text zero early = absurd (omega (arith, early.0))
-earlier_rows_text (suc zero) early = asks_all (schema_of 1) 1 desk_table DESK_ROWS.now refl (refl, refl) refl (λ r. refl) refl (λ r. (refl, tt))
+earlier_rows_text (suc zero) early = asks_all (schema_of 1) 1 desk_table DESK_ROWS.now refl (refl, refl) refl (omega arith, refl) (λ trees. untrue) (λ r. refl) refl (λ r. (refl, tt))
 earlier_rows_text (suc (suc version)) early = absurd (omega (arith, early.1))
 
 -- ---- records of one row each
@@ -106,57 +111,57 @@ module _ {A : Type 0} (key : A → ℕ) (row_of : A → Row) (Fits : A → Type 
 pub callers_asked : IsAsked CALLER_ROWS.now callers_table caller_key (one_row caller_row) IsCaller
 unfolding understood everything desk_schema
 callers_asked = by_one caller_key caller_row IsCaller callers_table CALLER_ROWS.now
-    (asks_all desk_schema 1 callers_table CALLER_ROWS.now refl (refl, refl) refl (λ r. refl) refl (λ r. (refl, tt))) (λ x. refl) (λ x. refl)
+    (asks_all desk_schema 1 callers_table CALLER_ROWS.now refl (refl, refl) refl (omega arith, refl) (λ trees. untrue) (λ r. refl) refl (λ r. (refl, tt))) (λ x. refl) (λ x. refl)
 
 pub kept_asked : IsAsked KEPT_ROWS.now kept_table kept_key (one_row kept_row) FitsKept
 unfolding understood everything desk_schema
 kept_asked = by_one kept_key kept_row FitsKept kept_table KEPT_ROWS.now
-    (asks_all desk_schema 1 kept_table KEPT_ROWS.now refl (refl, refl) refl (λ r. refl) refl (λ r. (refl, tt))) (λ x. refl) (λ x. refl)
+    (asks_all desk_schema 1 kept_table KEPT_ROWS.now refl (refl, refl) refl (omega arith, refl) (λ trees. untrue) (λ r. refl) refl (λ r. (refl, tt))) (λ x. refl) (λ x. refl)
 
 pub places_asked : IsAsked PLACE_ROWS.now places_table place_key (one_row place_row) FitsPlace
 unfolding understood everything desk_schema
 places_asked = by_one place_key place_row FitsPlace places_table PLACE_ROWS.now
-    (asks_all desk_schema 1 places_table PLACE_ROWS.now refl (refl, refl) refl (λ r. refl) refl (λ r. (refl, tt))) (λ x. refl) (λ x. refl)
+    (asks_all desk_schema 1 places_table PLACE_ROWS.now refl (refl, refl) refl (omega arith, refl) (λ trees. untrue) (λ r. refl) refl (λ r. (refl, tt))) (λ x. refl) (λ x. refl)
 
 pub routes_asked : IsAsked ROUTE_ROWS.now fixed_table route_key (one_row route_row) IsRoute
 unfolding understood everything desk_schema
 routes_asked = by_one route_key route_row IsRoute fixed_table ROUTE_ROWS.now
-    (asks_all desk_schema 1 fixed_table ROUTE_ROWS.now refl (refl, refl) refl (λ r. refl) refl (λ r. (refl, tt))) (λ x. refl) (λ x. refl)
+    (asks_all desk_schema 1 fixed_table ROUTE_ROWS.now refl (refl, refl) refl (omega arith, refl) (λ trees. untrue) (λ r. refl) refl (λ r. (refl, tt))) (λ x. refl) (λ x. refl)
 
 pub vehicles_asked : IsAsked VEHICLE_ROWS.now vehicles_table vehicle_key (one_row vehicle_row) IsVehicle
 unfolding understood everything desk_schema
 vehicles_asked = by_two vehicle_key vehicle_row IsVehicle vehicles_table VEHICLE_ROWS.now
-    (asks_all desk_schema 2 vehicles_table VEHICLE_ROWS.now refl (refl, refl) refl (λ r. refl) refl (λ r. (refl, (refl, tt))))
+    (asks_all desk_schema 2 vehicles_table VEHICLE_ROWS.now refl (refl, refl) refl (omega arith, refl) (λ trees. untrue) (λ r. refl) refl (λ r. (refl, (refl, tt))))
     (λ x fits. record { first = refl; second = refl; second_low = let last = fits.from_day.1 in omega arith })
     (λ x. refl)
 
 pub riders_asked : IsAsked RIDER_ROWS.now riders_table rider_key (one_row rider_row) FitsRider
 unfolding understood everything desk_schema
 riders_asked = by_one rider_key rider_row FitsRider riders_table RIDER_ROWS.now
-    (asks_all desk_schema 1 riders_table RIDER_ROWS.now refl (refl, refl) refl (λ r. refl) refl (λ r. (refl, tt))) (λ x. refl) (λ x. refl)
+    (asks_all desk_schema 1 riders_table RIDER_ROWS.now refl (refl, refl) refl (omega arith, refl) (λ trees. untrue) (λ r. refl) refl (λ r. (refl, tt))) (λ x. refl) (λ x. refl)
 
 pub entries_asked : IsAsked ENTRY_ROWS.now entries_table entry_key (one_row entry_row) FitsFiled
 unfolding understood everything desk_schema
 entries_asked = by_two entry_key entry_row FitsFiled entries_table ENTRY_ROWS.now
-    (asks_all desk_schema 2 entries_table ENTRY_ROWS.now refl (refl, refl) refl (λ r. refl) refl (λ r. (refl, (refl, tt))))
+    (asks_all desk_schema 2 entries_table ENTRY_ROWS.now refl (refl, refl) refl (omega arith, refl) (λ trees. untrue) (λ r. refl) refl (λ r. (refl, (refl, tt))))
     (λ x fits. record { first = refl; second = refl; second_low = fits.position }) (λ x. refl)
 
 pub trips_asked : IsAsked TRIP_ROWS.now trips_table trip_key (one_row trip_row) FitsTrip
 unfolding understood everything desk_schema
 trips_asked = by_one trip_key trip_row FitsTrip trips_table TRIP_ROWS.now
-    (asks_all desk_schema 1 trips_table TRIP_ROWS.now refl (refl, refl) refl (λ r. refl) refl (λ r. (refl, tt))) (λ x. refl) (λ x. refl)
+    (asks_all desk_schema 1 trips_table TRIP_ROWS.now refl (refl, refl) refl (omega arith, refl) (λ trees. untrue) (λ r. refl) refl (λ r. (refl, tt))) (λ x. refl) (λ x. refl)
 
 -- ---- records of several rows each
 
 pub planned_asked : IsAsked STOP_ROWS.now stops_table plan_key stop_rows IsStoredPlan
 unfolding understood everything desk_schema
 planned_asked = asks_for_all 3 stops_table STOP_ROWS.now (KeepsOrder plan_key stop_rows (FitsRows stop_rows IsStoredPlan))
-    (asks_all desk_schema 3 stops_table STOP_ROWS.now refl (refl, refl) refl (λ r. refl) refl (λ r. (refl, (refl, (refl, tt))))) plans_keep
+    (asks_all desk_schema 3 stops_table STOP_ROWS.now refl (refl, refl) refl (omega arith, refl) (λ trees. untrue) (λ r. refl) refl (λ r. (refl, (refl, (refl, tt))))) plans_keep
 
 pub travel_asked : IsAsked TRAVEL_ROWS.now travel_table travel_key travel_rows FitsTravel
 unfolding understood everything desk_schema
 travel_asked = asks_for_all 3 travel_table TRAVEL_ROWS.now (KeepsOrder travel_key travel_rows (FitsRows travel_rows FitsTravel))
-    (asks_all desk_schema 3 travel_table TRAVEL_ROWS.now refl (refl, refl) refl (λ r. refl) refl (λ r. (refl, (refl, (refl, tt))))) travel_keeps
+    (asks_all desk_schema 3 travel_table TRAVEL_ROWS.now refl (refl, refl) refl (omega arith, refl) (λ trees. untrue) (λ r. refl) refl (λ r. (refl, (refl, (refl, tt))))) travel_keeps
 
 -- ---- rows of second tables
 
@@ -205,14 +210,14 @@ pub rider_chairs_asked : AsksForAll RIDER_CHAIR_ROWS.now rider_chairs_table (Kee
 unfolding understood everything desk_schema riders_beside
 rider_chairs_asked =
     asks_for_all 1 rider_chairs_table RIDER_CHAIR_ROWS.now (KeepsRows rider_key rider_chair_rows FitsRider)
-    (asks_all desk_schema 1 rider_chairs_table RIDER_CHAIR_ROWS.now refl (refl, refl) refl (λ r. refl) refl (λ r. (refl, tt)))
+    (asks_all desk_schema 1 rider_chairs_table RIDER_CHAIR_ROWS.now refl (refl, refl) refl (omega arith, refl) (λ trees. untrue) (λ r. refl) refl (λ r. (refl, tt)))
     (keeps_beside rider_key rider_row rider_chair_rows FitsRider riders_beside 1 IsCounted count_le (λ x fits. so_all IsCounted x.wheelchair _ refl))
 
 pub vehicle_chairs_asked : AsksForAll VEHICLE_CHAIR_ROWS.now vehicle_chairs_table (KeepsRows vehicle_key vehicle_chair_rows IsVehicle)
 unfolding understood everything desk_schema vehicles_beside
 vehicle_chairs_asked =
     asks_for_all 2 vehicle_chairs_table VEHICLE_CHAIR_ROWS.now (KeepsRows vehicle_key vehicle_chair_rows IsVehicle)
-    (asks_all desk_schema 2 vehicle_chairs_table VEHICLE_CHAIR_ROWS.now refl (refl, refl) refl (λ r. refl) refl (λ r. (refl, (refl, tt))))
+    (asks_all desk_schema 2 vehicle_chairs_table VEHICLE_CHAIR_ROWS.now refl (refl, refl) refl (omega arith, refl) (λ trees. untrue) (λ r. refl) refl (λ r. (refl, (refl, tt))))
     (keeps_beside vehicle_key vehicle_row vehicle_chair_rows IsVehicle vehicles_beside 2 IsPaired pair_le
     (λ x fits. so_all IsPaired (not (x.chairs == 0)) _ (record
     { first = refl; second = refl; second_low = let last = fits.from_day.1 in omega arith })))
@@ -221,5 +226,5 @@ pub trip_chairs_asked : AsksForAll TRIP_CHAIR_ROWS.now trip_chairs_table (KeepsR
 unfolding understood everything desk_schema trips_beside
 trip_chairs_asked =
     asks_for_all 1 trip_chairs_table TRIP_CHAIR_ROWS.now (KeepsRows trip_key trip_chair_rows FitsTrip)
-    (asks_all desk_schema 1 trip_chairs_table TRIP_CHAIR_ROWS.now refl (refl, refl) refl (λ r. refl) refl (λ r. (refl, tt)))
+    (asks_all desk_schema 1 trip_chairs_table TRIP_CHAIR_ROWS.now refl (refl, refl) refl (omega arith, refl) (λ trees. untrue) (λ r. refl) refl (λ r. (refl, tt)))
     (keeps_beside trip_key trip_row trip_chair_rows FitsTrip trips_beside 1 IsCounted count_le (λ x fits. so_all IsCounted x.wheelchair _ refl))

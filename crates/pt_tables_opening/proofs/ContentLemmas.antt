@@ -1,8 +1,8 @@
 -- A table that had no records has what is put, and one whose records are put again has the new ones.
 use Rattle.std.proofs.Common.{◌≡◌, ◌++◌, ◌<◌, ℕ, List, [], ◌∷◌, append_assoc, append-nil, refl, sym, ap, subst, ◌∙◌}
-use Rattle.pt_records.specs.Records.{Each, Edit, IsInOrder, edited, put, put_all, take_all}
-use Rattle.pt_records.proofs.RecordLemmas.{put_over, put_past}
-use Rattle.pt_soundness.proofs.PairedLemmas.{Paired}
+use Rattle.pt_base_records.specs.Records.{Each, Edit, IsInOrder, edited, put, put_all, take_all}
+use Rattle.pt_base_records.proofs.RecordLemmas.{put_over, put_past}
+use Rattle.pt_tables_soundness.proofs.PairedLemmas.{Paired}
 use Rattle.pt_tables_opening.specs.Gathered.{IsFitting, PutsInOrder}
 
 -- ---- a table of nothing but what was put

@@ -8,7 +8,7 @@ use Rattle.std.proofs.lemmas.List.Sorted.{IsPermutation-sym, IsPermutation-trans
 use Rattle.sqlite.specs.Order.{Row}
 use Rattle.sqlite.specs.Table.{Table}
 use Rattle.sqlite.specs.Tree.{Trees}
-use Rattle.pt_records.specs.Records.{Each, Edit}
+use Rattle.pt_base_records.specs.Records.{Each, Edit}
 use Rattle.pt_tables_opening.specs.Gathered.{AreRowsOfNone, BeginsOnce, GathersNothing, KeepsOrder}
 use Rattle.pt_tables_rows.specs.Tables.{AreRows, columns_of}
 

@@ -12,10 +12,10 @@ use Rattle.std.proofs.lemmas.List.Sorted.{IsPermutation-refl}
 use Rattle.sqlite.specs.Order.{Row}
 use Rattle.pt_desk_rules.specs.State.{travel_key}
 use Rattle.pt_desk_rules.specs.Travel.{TravelTable}
-use Rattle.pt_records.specs.Keys.{pair_key}
-use Rattle.pt_records.specs.Records.{Each, IsInOrder}
-use Rattle.pt_scheduling.specs.Plan.{Plan, plan_key}
-use Rattle.pt_scheduling.specs.declared.planned.PlannedStop.{PlannedStop}
+use Rattle.pt_base_records.specs.Keys.{pair_key}
+use Rattle.pt_base_records.specs.Records.{Each, IsInOrder}
+use Rattle.pt_desk_scheduling.specs.Plan.{Plan, plan_key}
+use Rattle.pt_desk_scheduling.specs.declared.planned.PlannedStop.{PlannedStop}
 use Rattle.pt_travel.specs.Chain as travel
 use Rattle.pt_travel.specs.Table.{ComesBefore, Rises}
 use Rattle.pt_tables_asking.specs.Asking.{AreInOrder}

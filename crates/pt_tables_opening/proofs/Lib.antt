@@ -2,6 +2,7 @@ pub mod AddedTables
 pub mod AgencyLemmas
 pub mod AskedRows
 pub mod BesideLemmas
+pub mod BlameLemmas
 pub mod ContentLemmas
 pub mod EarlierLemmas
 pub mod GatheredLemmas

@@ -3,12 +3,12 @@ use Rattle.std.proofs.Common.{◌≡◌, ◌+◌, ◌++◌, ◌<◌, ◌≤◌, 
 use Rattle.std.specs.Prelude.{slice_get, MatchOption}
 use Rattle.std.proofs.lemmas.List.{map-append, take_more}
 use Rattle.sqlite.specs.Order.{Row}
-use Rattle.pt_base.specs.Day.{IsDay}
+use Rattle.pt_base_values.specs.Day.{IsDay}
 use Rattle.pt_desk_rules.specs.Travel.{TravelTable}
 use Rattle.pt_desk_rules.specs.StopKind.TheVariants.{Pickup}
-use Rattle.pt_records.specs.Records.{Each}
-use Rattle.pt_scheduling.specs.Plan.{Plan}
-use Rattle.pt_scheduling.specs.declared.planned.PlannedStop.{PlannedStop}
+use Rattle.pt_base_records.specs.Records.{Each}
+use Rattle.pt_desk_scheduling.specs.Plan.{Plan}
+use Rattle.pt_desk_scheduling.specs.declared.planned.PlannedStop.{PlannedStop}
 use Rattle.pt_travel.specs.Chain as travel
 use Rattle.pt_tables_reading.specs.Fitting as fitting
 use Rattle.pt_tables_reading.specs.Fitting.{FitsStopAt, FitsDriveAt}

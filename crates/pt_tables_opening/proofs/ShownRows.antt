@@ -11,9 +11,9 @@ use Rattle.sqlite.specs.Table.{Table}
 use Rattle.sqlite.specs.declared.error.Error.{Error}
 use Rattle.sqlite.proofs.Callers.{reads_as}
 use Rattle.pt_tables_asking.specs.Asking.{AreInOrder, command_in}
-use Rattle.pt_tables_asking.proofs.AskedQueries.{AsksForIn, answers_passing}
+use Rattle.pt_tables_asking.proofs.AskedQueries.{AsksForIn, answers_passing, is_served}
 use Rattle.pt_tables_asking.proofs.InsideLemmas.{same_command}
-use Rattle.pt_tables_opening.specs.Opening.{AsksForAll}
+use Rattle.pt_tables_opening.specs.Opening.{AsksForAll, IsServedQuery}
 use Rattle.pt_tables_rows.specs.Schema.{desk_schema}
 use Rattle.pt_tables_rows.specs.Tables.{AreRows, columns_of}
 
@@ -47,12 +47,21 @@ module _ (schema : Schema) (columns : ℕ) (table : Table) (text : List ℕ) (as
       (answered old.now rows.items (reads_as text [] old new schema has (command_in (understood schema text)) (same_command (understood schema text)) asks.plain asks.unlisted rows.items shown)).0
   shows_all old new has (Err e) shown = tt
 
+-- it is refused only where its steps are limited
+pub serves_all : (schema : Schema) (columns : ℕ) (table : Table) (text : List ℕ) → AsksAllIn schema columns table text → IsServedQuery schema text
+serves_all schema columns table text asks = record {
+  plain = asks.plain;
+  unlisted = asks.unlisted;
+  served = is_served schema columns table text [] any_row asks;
+}
+
 -- a query for all rows in the order of columns also gives them in each order that follows from it
 pub asks_for_all : (columns : ℕ) (table : Table) (text : List ℕ) (Ordered : List Row → Type 0) → AsksAll columns table text → ((rows : List Row) → AreInOrder columns rows → Ordered rows)
     → AsksForAll text table Ordered
 asks_for_all columns table text Ordered asks ordered = record {
   plain = asks.plain;
   unlisted = asks.unlisted;
+  served = is_served desk_schema columns table text [] any_row asks;
   answer = λ db rows read. let told = answered desk_schema columns table text asks db rows read in (told.0, ordered rows told.1);
 }
 
@@ -62,3 +71,7 @@ pub shows_asked : {text : List ℕ} {table : Table} {Ordered : List Row → Type
     → AreRows table old.now.trees rows × Ordered rows
 shows_asked {text} asked old new has rows shown =
     asked.answer old.now rows (reads_as text [] old new desk_schema has (command_in (understood desk_schema text)) (same_command (understood desk_schema text)) asked.plain asked.unlisted rows shown)
+
+-- the same
+pub serves_asked : {text : List ℕ} {table : Table} {Ordered : List Row → Type 0} → AsksForAll text table Ordered → IsServedQuery desk_schema text
+serves_asked asked = record { plain = asked.plain; unlisted = asked.unlisted; served = asked.served }

@@ -1,23 +1,23 @@
 -- Reads of the tables one after the other, each checked before the next.
-use Rattle.std.proofs.Common.{◌≡◌, ◌-◌, ◌<◌, ◌⊎◌, inl, inr, ℕ, zero, suc, List, take, Result, Ok, Err, IfOk, IfErr, IsErr, IsErrAnd, sym, ap, subst, arith}
+use Rattle.std.proofs.Common.{◌≡◌, ◌-◌, ◌<◌, ◌⊎◌, ◌∙◌, inl, inr, ℕ, zero, suc, List, take, Result, Ok, Err, IfOk, IfErr, IsErr, IsErrAnd, sym, ap, subst, arith}
 use Rattle.sqlite.specs.Effect.{Database}
 use Rattle.sqlite.specs.State.{State as Connected, HasCleanDisk}
 use Rattle.sqlite.specs.Tree.{Trees}
-use Rattle.pt_base.specs.Fault.{code_of}
-use Rattle.pt_base.specs.declared.fault.Cause.TheVariants as cause
-use Rattle.pt_store.specs.Listed.{Listed}
+use Rattle.pt_base_values.specs.Fault.{code_of}
+use Rattle.pt_base_values.specs.declared.fault.Cause.TheVariants as cause
+use Rattle.pt_desk_store.specs.Listed.{Listed}
 use Rattle.pt_desk_rules.specs.Sound.{IsSound}
 use Rattle.pt_desk_rules.specs.State.{State, applied}
 use Rattle.pt_desk_rules.specs.declared.change.Change.{Change}
-use Rattle.pt_records.specs.Records.{Each}
-use Rattle.pt_records.proofs.OrderLemmas.{Each-both}
+use Rattle.pt_base_records.specs.Records.{Each}
+use Rattle.pt_base_records.proofs.OrderLemmas.{Each-both}
 use Rattle.pt_desk_rules.specs.TableNames.{all_tables, number_of, table_count}
-use Rattle.pt_soundness.specs.Tables.{IsSoundIn}
+use Rattle.pt_tables_soundness.specs.Tables.{IsSoundIn}
 use Rattle.pt_desk_rules.specs.declared.table_name.TableName.{TableName}
 use Rattle.pt_desk_rules.specs.declared.table_name.TableName.TheVariants as table
-use Rattle.pt_soundness.proofs.TableLemmas.{each_table, sound_in, sound_of}
+use Rattle.pt_tables_soundness.proofs.TableLemmas.{each_table, sound_in, sound_of}
 use Rattle.pt_tables_opening.specs.Faults.{IsRefusal, fault, unsound}
-use Rattle.pt_tables_opening.specs.Opening.{Rests}
+use Rattle.pt_tables_opening.specs.Opening.{IsCaused, Rests}
 use Rattle.pt_tables_opening.specs.Refused.{AreUnsound, SparesOtherVersion, TellsWhy}
 use Rattle.pt_tables_opening.specs.Standing.{IsFirstAtFault, NoneStandsTo, StandsIn}
 use Rattle.pt_tables_opening.specs.Steps.{HasRowsTo, IsFaultOf, IsReadTo, OpensTable, OpensTo, ReadsTable}
@@ -26,6 +26,7 @@ use Rattle.pt_tables_rows.specs.Tables.{HasRowsIn}
 use Rattle.pt_tables_opening.specs.Agency.{HasOtherVersion}
 use Rattle.pt_tables_opening.specs.declared.open_fault.OpenFault.{OpenFault}
 use Rattle.pt_tables_opening.proofs.AgencyLemmas.{spares_none}
+use Rattle.pt_tables_opening.proofs.BlameLemmas.{caused_after, rows_caused}
 use Rattle.pt_tables_opening.proofs.RestLemmas.{refused, rests_so, rests_then}
 use Rattle.pt_tables_opening.proofs.TableCases.{and_in, each_laid, last_table, no_answer, passed_on, sound_there}
 use Rattle.pt_tables_rows.specs.Schema.{desk_schema}
@@ -47,41 +48,41 @@ none_sound n trees none = λ s sound has. none s (each_table (StandsIn s trees) 
 -- ---- what a refusal says
 
 abbrev code_in : OpenFault → ℕ
-code_in it = code_of it.cause
+code_in it = it.code
 
 -- a refusal because memory ran out or the store failed
 pub tells_nothing : (trees : Trees) (it : OpenFault) → (it ≡ fault cause.Memory) ⊎ (it ≡ fault cause.StoreFailed) → TellsWhy trees it
 tells_nothing trees it (inl memory) =
-    let code : code_of it.cause ≡ 0 = ap code_in memory in
+    let code : it.code ≡ 0 = ap code_in memory in
     record {
-      version = λ same. let n : code_of it.cause ≡ 30 = ap code_of same in absurd (omega arith);
-      rows = λ same. let n : code_of it.cause ≡ 31 = ap code_of same in absurd (omega arith);
-      first = λ same. let n : code_of it.cause ≡ 31 = ap code_of same in absurd (omega arith);
+      version = λ same. let n : it.code ≡ 30 = same in absurd (omega arith);
+      rows = λ same. let n : it.code ≡ 31 = same in absurd (omega arith);
+      first = λ same. let n : it.code ≡ 31 = same in absurd (omega arith);
     }
 tells_nothing trees it (inr store) =
-    let code : code_of it.cause ≡ 32 = ap code_in store in
+    let code : it.code ≡ 32 = ap code_in store in
     record {
-      version = λ same. let n : code_of it.cause ≡ 30 = ap code_of same in absurd (omega arith);
-      rows = λ same. let n : code_of it.cause ≡ 31 = ap code_of same in absurd (omega arith);
-      first = λ same. let n : code_of it.cause ≡ 31 = ap code_of same in absurd (omega arith);
+      version = λ same. let n : it.code ≡ 30 = same in absurd (omega arith);
+      rows = λ same. let n : it.code ≡ 31 = same in absurd (omega arith);
+      first = λ same. let n : it.code ≡ 31 = same in absurd (omega arith);
     }
 
 tells_rows : (trees : Trees) (number : ℕ) (it : OpenFault) → it ≡ unsound number → IsFirstAtFault trees number → TellsWhy trees it
 tells_rows trees number it is first =
-    let code : code_of it.cause ≡ 31 = ap code_in is in
+    let code : it.code ≡ 31 = ap code_in is in
     record {
-      version = λ same. let n : code_of it.cause ≡ 30 = ap code_of same in absurd (omega arith);
+      version = λ same. let n : it.code ≡ 30 = same in absurd (omega arith);
       rows = λ same. none_sound number trees first.none;
       first = λ same. subst (IsFirstAtFault trees) (sym (ap (λ (f : OpenFault). f.table) is)) first;
     }
 
 tells_version : (trees : Trees) (it : OpenFault) → it ≡ fault cause.OtherTables → HasOtherVersion trees → TellsWhy trees it
 tells_version trees it is version =
-    let code : code_of it.cause ≡ 30 = ap code_in is in
+    let code : it.code ≡ 30 = ap code_in is in
     record {
       version = λ same. version;
-      rows = λ same. let n : code_of it.cause ≡ 31 = ap code_of same in absurd (omega arith);
-      first = λ same. let n : code_of it.cause ≡ 31 = ap code_of same in absurd (omega arith);
+      rows = λ same. let n : it.code ≡ 31 = same in absurd (omega arith);
+      first = λ same. let n : it.code ≡ 31 = same in absurd (omega arith);
     }
 
 -- ---- one table that was read is checked
@@ -102,6 +103,7 @@ judged_so t old new s read_as change is h r content sound faults =
           (record { sound = and_in (IsSoundIn (applied change s)) t it.read.sound sound; later = it.read.later });
       rows = λ clean has before. subst (λ (c : State). HasRowsTo (number_of t) c old.now.trees) (sym content) (it.rows clean has before);
       faults = tt;
+      caused = tt;
     }
     go it (Err f) content sound faults rests = record {
       rests = rests;
@@ -116,6 +118,7 @@ judged_so t old new s read_as change is h r content sound faults =
               told.1 (sound_there t other (applied change s) old.now.trees others all it.read.laid (it.rows clean has before)),
         ))
       ];
+      caused = rows_caused {X = Listed} _ old new (number_of t) (Err f) faults;
     }
 
 -- ---- one after the other
@@ -148,6 +151,7 @@ module _ (t : TableName) (old mid new : Connected) (keeper : Listed) (later : 1 
         subst (λ (db : Database). db.schema ≡ desk_schema → HasRowsTo (number_of t - 1) keeper.content db.trees → IfOk r (λ next. HasRowsTo (number_of t) next.content db.trees))
         (same_then clean r k has) (k.rows clean) has (before_then clean r k has);
     faults = refusals r k.faults;
+    caused = causes r k;
     why = λ clean has. whys r k clean has;
     version = λ clean has. spared clean has r (agency_first (HasRowsIn keeper.content old.now.trees) (number_of t - 1) (omega arith) (before_then clean r k has));
   }
@@ -158,6 +162,12 @@ module _ (t : TableName) (old mid new : Connected) (keeper : Listed) (later : 1 
       refusals (Err f) (inl memory) = inl memory
       refusals (Err f) (inr (inl store)) = inr (inl store)
       refusals (Err f) (inr (inr rows)) = inr (inr (inr (number_of t, omega arith, last_table t, rows.0)))
+
+      causes : (r : Result Listed OpenFault) → OpensTable t mid new keeper.content r → IfErr r (IsCaused old new)
+      causes (Ok next) k = tt
+      causes (Err f) k = λ clean has store.
+          let same : mid.now.schema ≡ desk_schema = ap (λ (db : Database). db.schema) (same_then clean (Err f) k has) ∙ has in
+          caused_after old mid new _ _ h.rests.survives (omega (arith, clean, k.rests.survives.clean)) k.rests.survives (k.caused clean same store)
 
       whys : (r : Result Listed OpenFault) (k : OpensTable t mid new keeper.content r) → HasCleanDisk new → old.now.schema ≡ desk_schema → IfErr r (TellsWhy old.now.trees)
       whys (Ok next) k clean has = tt
@@ -180,6 +190,7 @@ ends_so n m old new e out bad same h = record {
   read = no_answer (λ keeper. IsReadTo m keeper.content) out bad;
   rows = λ clean has. no_answer (λ keeper. HasRowsTo m keeper.content old.now.trees) out bad;
   faults = passed_on _ e h.faults out same;
+  caused = passed_on (IsCaused old new) e h.caused out same;
   why = λ clean has. passed_on _ e (h.why clean has) out same;
   version = λ clean has. passed_on _ e (h.version clean has) out same;
 }
@@ -205,14 +216,15 @@ agency_tells old new it (inr (inr (inl version))) clean has = tells_version old.
 agency_tells old new it (inr (inr (inr rows))) clean has =
     tells_rows old.now.trees 1 it rows.0 (record { none = rows.1 clean has; before = λ no. absurd (omega arith) })
 
-pub agency_fails : {X : Type 0} (old new : Connected) (r : Result X OpenFault) (e : OpenFault) → Rests old new r → IsAgencyFault old new e
+pub agency_fails : {X : Type 0} (old new : Connected) (r : Result X OpenFault) (e : OpenFault) → Rests old new r → IsAgencyFault old new e → IsCaused old new e
     → (HasCleanDisk new → old.now.schema ≡ desk_schema → SparesOtherVersion old.now.trees e) → (out : Result Listed OpenFault) → IsErr out → IsErrAnd out (λ f. f ≡ e)
     → OpensTo 1 old new out
-agency_fails old new r e rests faults version out bad same = record {
+agency_fails old new r e rests faults caused version out bad same = record {
   rests = refused old new r out bad rests;
   read = no_answer (λ keeper. IsReadTo 1 keeper.content) out bad;
   rows = λ clean has. no_answer (λ keeper. HasRowsTo 1 keeper.content old.now.trees) out bad;
   faults = passed_on _ e (agency_refusal old new e faults) out same;
+  caused = passed_on (IsCaused old new) e caused out same;
   why = λ clean has. passed_on _ e (agency_tells old new e faults clean has) out same;
   version = λ clean has. passed_on _ e (version clean has) out same;
 }

@@ -15,30 +15,30 @@ use Rattle.pt_desk_rules.specs.Parts as part
 use Rattle.pt_desk_rules.specs.Ranges.{FitsPlan, FitsRider, FitsTrip}
 use Rattle.pt_desk_rules.specs.Sound.{HasStops}
 use Rattle.pt_desk_rules.specs.State.{State, rider_key, vehicle_key, trip_key}
-use Rattle.pt_records.specs.Records.{Each, IsInOrder}
-use Rattle.pt_records.proofs.OrderLemmas.{Each-weaker}
-use Rattle.pt_scheduling.specs.Plan.{Plan, IsRoutePlan}
+use Rattle.pt_base_records.specs.Records.{Each, IsInOrder}
+use Rattle.pt_base_records.proofs.OrderLemmas.{Each-weaker}
+use Rattle.pt_desk_scheduling.specs.Plan.{Plan, IsRoutePlan}
 use Rattle.pt_desk_rules.specs.TableNames.{all_tables, number_of, table_count}
-use Rattle.pt_soundness.specs.Tables.{IsSoundIn, KeepsRangesIn, KeepsLinesIn, AreSoundCallers, AreSoundEntries}
-use Rattle.pt_soundness.specs.Tables.{AreSoundKept, AreSoundLoads, AreSoundPlaces, AreSoundPlans, AreSoundRiders}
-use Rattle.pt_soundness.specs.Tables.{AreSoundRoutes, AreSoundTables, AreSoundTrips, AreSoundVehicles}
+use Rattle.pt_tables_soundness.specs.Tables.{IsSoundIn, KeepsRangesIn, KeepsLinesIn, AreSoundCallers, AreSoundEntries}
+use Rattle.pt_tables_soundness.specs.Tables.{AreSoundKept, AreSoundLoads, AreSoundPlaces, AreSoundPlans, AreSoundRiders}
+use Rattle.pt_tables_soundness.specs.Tables.{AreSoundRoutes, AreSoundTables, AreSoundTrips, AreSoundVehicles}
 use Rattle.pt_desk_rules.specs.declared.table_name.TableName.{TableName}
 use Rattle.pt_desk_rules.specs.declared.table_name.TableName.TheVariants as table
 use Rattle.pt_tables_rows.specs.Rows.{stop_rows, vehicle_row, rider_row, trip_row, one_row, record_rows}
 use Rattle.pt_tables_rows.specs.Schema.{table_in, vehicles_table, riders_table, trips_table}
 use Rattle.pt_tables_rows.specs.Tables.{AreRows, HasRowsIn, IsStored, IsStoredPlan}
 use Rattle.pt_tables_rows.proofs.NameLemmas.{as_map}
-use Rattle.pt_base.specs.declared.place.Place.{Place}
-use Rattle.pt_base.specs.declared.rider.Rider.{Rider}
-use Rattle.pt_base.specs.declared.trip.Trip.{Trip}
-use Rattle.pt_base.specs.declared.vehicle.Vehicle.{Vehicle}
+use Rattle.pt_base_values.specs.declared.place.Place.{Place}
+use Rattle.pt_base_values.specs.declared.rider.Rider.{Rider}
+use Rattle.pt_base_values.specs.declared.trip.Trip.{Trip}
+use Rattle.pt_base_values.specs.declared.vehicle.Vehicle.{Vehicle}
 use Rattle.pt_desk_rules.specs.Travel.{TravelTable}
 use Rattle.pt_desk_rules.specs.declared.change.FiledEntry.{FiledEntry}
-use Rattle.pt_requests.specs.declared.caller.Caller.{Caller}
-use Rattle.pt_soundness.proofs.AlikeLemmas.{AlikeRider, AlikeTrip, AlikeVehicle, alike_entries, alike_plans, alike_riders, alike_tables, alike_trips, alike_vehicles}
-use Rattle.pt_soundness.proofs.PairedLemmas.{Paired, paired_by}
-use Rattle.pt_spelling.proofs.FieldLemmas.{days-same}
-use Rattle.pt_spelling.specs.Ranges.{IsVehicle}
+use Rattle.pt_desk_requests.specs.declared.caller.Caller.{Caller}
+use Rattle.pt_tables_soundness.proofs.AlikeLemmas.{AlikeRider, AlikeTrip, AlikeVehicle, alike_entries, alike_plans, alike_riders, alike_tables, alike_trips, alike_vehicles}
+use Rattle.pt_tables_soundness.proofs.PairedLemmas.{Paired, paired_by}
+use Rattle.pt_desk_spelling.proofs.FieldLemmas.{days-same}
+use Rattle.pt_desk_spelling.specs.Ranges.{IsVehicle}
 use Rattle.pt_tables_rows.proofs.SameRowsLists.{none_beside, one_same}
 use Rattle.pt_tables_rows.proofs.ColumnLemmas.{number_in, known_in, known-value}
 use Rattle.pt_tables_rows.proofs.SameRows.{beside_rows, last_trip-told, pair_in, rows_of_part, same_records, shared, table_of, trip-told}

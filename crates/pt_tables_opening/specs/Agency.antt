@@ -2,8 +2,8 @@
 use Rattle.std.specs.Prelude.{◌≡◌, ◌≢◌, ℕ, List, [], ◌∷◌}
 use Rattle.sqlite.specs.Order.{Row, column}
 use Rattle.sqlite.specs.Tree.{Trees}
-use Rattle.pt_base.specs.declared.policy.Policy.{Policy}
-use Rattle.pt_records.specs.declared.span.Span.{Span}
+use Rattle.pt_base_values.specs.declared.policy.Policy.{Policy}
+use Rattle.pt_base_records.specs.declared.span.Span.{Span}
 use Rattle.pt_tables_reading.specs.Reading.{agency_row, FitsAgency}
 use Rattle.pt_tables_rows.specs.Rows.{number_value}
 use Rattle.pt_tables_rows.specs.Schema.{table_version, desk_table}

@@ -4,7 +4,7 @@ use Rattle.std.specs.List.{AllByRecursion}
 use Rattle.sqlite.specs.Order.{Row}
 use Rattle.sqlite.specs.Table.{Table}
 use Rattle.sqlite.specs.Tree.{Trees}
-use Rattle.pt_records.specs.Records.{Each, Edit, IsInOrder}
+use Rattle.pt_base_records.specs.Records.{Each, Edit, IsInOrder}
 use Rattle.pt_tables_opening.specs.Gathered.{PutsInOrder}
 use Rattle.pt_tables_rows.specs.Tables.{AreRows}
 

@@ -5,8 +5,8 @@ use Rattle.sqlite.specs.Order.{Row, column}
 use Rattle.sqlite.specs.Table.{Table}
 use Rattle.sqlite.specs.Tree.{Trees}
 use Rattle.pt_desk_rules.specs.Ranges.{FitsStop}
-use Rattle.pt_records.specs.Records.{Each, Edit, IsInOrder}
-use Rattle.pt_scheduling.specs.declared.planned.PlannedStop.{PlannedStop}
+use Rattle.pt_base_records.specs.Records.{Each, Edit, IsInOrder}
+use Rattle.pt_desk_scheduling.specs.declared.planned.PlannedStop.{PlannedStop}
 use Rattle.pt_tables_rows.specs.Rows.{number_value, stop_rows_from}
 use Rattle.pt_tables_rows.specs.Tables.{AreRows}
 

@@ -8,4 +8,5 @@ pub mod Refused
 pub mod Standing
 pub mod Steps
 pub mod Tables
+pub use Rattle.pt_tables_asking.specs.Asking
 pub use Rattle.pt_tables_asking.specs.Plans

@@ -2,9 +2,9 @@
 use Rattle.std.specs.Prelude.{ℕ, ◌-◌, ◌<◌, take}
 use Rattle.sqlite.specs.Tree.{Trees}
 use Rattle.pt_desk_rules.specs.State.{State}
-use Rattle.pt_records.specs.Records.{Each}
+use Rattle.pt_base_records.specs.Records.{Each}
 use Rattle.pt_desk_rules.specs.TableNames.{all_tables}
-use Rattle.pt_soundness.specs.Tables.{IsSoundIn}
+use Rattle.pt_tables_soundness.specs.Tables.{IsSoundIn}
 use Rattle.pt_desk_rules.specs.declared.table_name.TableName.{TableName}
 use Rattle.pt_tables_rows.specs.Tables.{HasRowsIn}
 

@@ -4,18 +4,18 @@ use Rattle.sqlite.specs.Order.{Row}
 use Rattle.sqlite.specs.State.{State as Connected, HasCleanDisk}
 use Rattle.sqlite.specs.Table.{Table}
 use Rattle.sqlite.specs.Tree.{Trees}
-use Rattle.pt_base.specs.declared.fault.Cause.TheVariants as cause
-use Rattle.pt_store.specs.Listed.{Listed}
+use Rattle.pt_base_values.specs.declared.fault.Cause.TheVariants as cause
+use Rattle.pt_desk_store.specs.Listed.{Listed}
 use Rattle.pt_desk_rules.specs.State.{State, applied}
 use Rattle.pt_desk_rules.specs.declared.change.Change.{Change}
-use Rattle.pt_records.specs.Records.{Each, Edit}
+use Rattle.pt_base_records.specs.Records.{Each, Edit}
 use Rattle.pt_desk_rules.specs.TableNames.{all_tables, number_of}
-use Rattle.pt_soundness.specs.Tables.{IsSoundBefore, IsSoundTo}
+use Rattle.pt_tables_soundness.specs.Tables.{IsSoundBefore, IsSoundTo}
 use Rattle.pt_desk_rules.specs.declared.table_name.TableName.{TableName}
 use Rattle.pt_tables_opening.specs.Beside.{NoneBeside}
 use Rattle.pt_tables_opening.specs.Faults.{IsRefusal, fault, unsound}
 use Rattle.pt_tables_opening.specs.Gathered.{AreRowsOfNone, FitsRows, IsFitting}
-use Rattle.pt_tables_opening.specs.Opening.{Rests}
+use Rattle.pt_tables_opening.specs.Opening.{IsCaused, Rests}
 use Rattle.pt_tables_opening.specs.Refused.{SparesOtherVersion, TellsWhy}
 use Rattle.pt_tables_opening.specs.Standing.{NoneStandsTo}
 use Rattle.pt_tables_opening.specs.Tables.{HasNoneIn, IsLaidIn}
@@ -79,6 +79,7 @@ pub record ReadsTable (table : TableName) (old new : Connected) (s : State) (res
       → IfOk result (λ change. HasRowsTo (number_of table) (applied change s) old.now.trees)
   pub faults : IfErr result (IsFaultOf table (HasCleanDisk new → old.now.schema ≡ desk_schema
       → HasRowsTo (number_of table - 1) s old.now.trees → NoneStandsTo (number_of table) old.now.trees))
+  pub caused : IfErr result (IsCaused old new)
 
 -- a table is read and then checked
 pub record OpensTable (table : TableName) (old new : Connected) (s : State) (result : Result Listed OpenFault)
@@ -89,6 +90,7 @@ pub record OpensTable (table : TableName) (old new : Connected) (s : State) (res
       → IfOk result (λ keeper. HasRowsTo (number_of table) keeper.content old.now.trees)
   pub faults : IfErr result (IsFaultOf table (HasCleanDisk new → old.now.schema ≡ desk_schema
       → HasRowsTo (number_of table - 1) s old.now.trees → NoneStandsTo (number_of table) old.now.trees))
+  pub caused : IfErr result (IsCaused old new)
 
 -- the first `number` tables are read and checked, one after the other
 pub record OpensTo (number : ℕ) (old new : Connected) (result : Result Listed OpenFault) : Type 0 where
@@ -97,5 +99,6 @@ pub record OpensTo (number : ℕ) (old new : Connected) (result : Result Listed 
   pub rows : HasCleanDisk new → old.now.schema ≡ desk_schema
       → IfOk result (λ keeper. HasRowsTo number keeper.content old.now.trees)
   pub faults : IfErr result IsRefusal
+  pub caused : IfErr result (IsCaused old new)
   pub why : HasCleanDisk new → old.now.schema ≡ desk_schema → IfErr result (TellsWhy old.now.trees)
   pub version : HasCleanDisk new → old.now.schema ≡ desk_schema → IfErr result (SparesOtherVersion old.now.trees)

@@ -5,10 +5,10 @@ use Rattle.pt_desk_rules.specs.Parts as part
 use Rattle.pt_desk_rules.specs.Ranges.{FitsIn}
 use Rattle.pt_desk_rules.specs.State.{State}
 use Rattle.pt_desk_rules.specs.TableNames.{part_of}
-use Rattle.pt_records.specs.Records.{Each, IsInOrder}
+use Rattle.pt_base_records.specs.Records.{Each, IsInOrder}
 use Rattle.pt_desk_rules.specs.declared.table_name.TableName.{TableName}
 use Rattle.pt_desk_rules.specs.declared.table_name.TableName.TheVariants as table
-use Rattle.pt_spelling.specs.Ranges.{IsWord}
+use Rattle.pt_desk_spelling.specs.Ranges.{IsWord}
 use Rattle.pt_tables_opening.specs.Gathered.{FitsRows}
 use Rattle.pt_tables_rows.specs.Rows.{stop_rows}
 use Rattle.pt_tables_rows.specs.Tables.{IsStoredPlan}

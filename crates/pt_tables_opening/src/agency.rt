@@ -1,9 +1,9 @@
 ghost use Rattle.std.specs.Prelude.{◌≡◌, ◌⊎◌, ◌∷◌, [], None, IfOk, IfErr};
 ghost use Rattle.sqlite.specs.Held.{state};
-ghost use Rattle.pt_base.specs.declared.fault.Cause.TheVariants as cause;
-ghost use Rattle.pt_base.specs.declared.policy.Policy.{Policy};
+ghost use Rattle.pt_base_values.specs.declared.fault.Cause.TheVariants as cause;
+ghost use Rattle.pt_base_values.specs.declared.policy.Policy.{Policy};
 ghost use Rattle.pt_tables_opening.specs.Faults.{fault, unsound};
-ghost use Rattle.pt_tables_opening.specs.Opening.{ReadsTables, Rests};
+ghost use Rattle.pt_tables_opening.specs.Opening.{IsCaused, ReadsTables, Rests};
 ghost use Rattle.pt_tables_reading.specs.Reading.{agency_row, FitsAgency};
 ghost use Rattle.pt_tables_opening.specs.Refused.{SparesOtherVersion};
 ghost use Rattle.pt_tables_opening.specs.Standing.{NoneStandsTo};
@@ -13,7 +13,7 @@ use crate::OpenFault;
 use crate::open_fault::fault_of;
 use crate::table_rows::desk_rows;
 use crate::version::has_version;
-use pt_base::Policy;
+use pt_base_values::Policy;
 use pt_desk_rules::TableName;
 use pt_tables_reading::agency_of;
 use pt_tables_rows::TABLE_VERSION;
@@ -51,6 +51,7 @@ pub(crate) fn agency_in<S: Alter>(conn: &mut Connection<S>) -> Result<(Policy, u
         (NoneStandsTo 1)))))) }
     ensures version { ReadsTables (state S.Store conn.old) (state S.Store conn.new)
         (λ trees. IfErr result (SparesOtherVersion trees)) }
+    ensures caused { IfErr result (IsCaused (state S.Store conn.old) (state S.Store conn.new)) }
     ensures rests { Rests (state S.Store conn.old) (state S.Store conn.new) result }
 {
     let rows = match desk_rows(conn) {

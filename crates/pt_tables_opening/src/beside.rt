@@ -3,22 +3,22 @@
 ghost use Rattle.std.specs.Prelude.{◌≡◌, ◌⊎◌, ◌≤◌, ◌∷◌, [], List, None, Some, length, take, IfOk, IfErr, map, flat_map};
 ghost use Rattle.sqlite.specs.Order.{Row as StoredRow};
 ghost use Rattle.sqlite.specs.Held.{state};
-ghost use Rattle.pt_base.specs.declared.fault.Cause.TheVariants as cause;
-ghost use Rattle.pt_records.specs.Records.{Each, IsInOrder};
+ghost use Rattle.pt_base_values.specs.declared.fault.Cause.TheVariants as cause;
+ghost use Rattle.pt_base_records.specs.Records.{Each, IsInOrder};
 ghost use Rattle.pt_desk_rules.specs.TableNames.{number_of};
 ghost use Rattle.pt_tables_opening.specs.Beside.{AreBeside, IsAlone, NoneBeside, TellsBeside};
 ghost use Rattle.pt_tables_opening.specs.Faults.{fault, unsound};
 ghost use Rattle.pt_tables_opening.specs.Gathered.{IsFitting, KeepsRows};
-ghost use Rattle.pt_tables_opening.specs.Opening.{AsksForAll, ReadsTables, Rests};
+ghost use Rattle.pt_tables_opening.specs.Opening.{AsksForAll, IsCaused, ReadsTables, Rests};
 ghost use Rattle.pt_tables_reading.specs.Reading.{ReadsBeside};
 ghost use Rattle.pt_tables_rows.specs.Tables.{AreRows};
 
 use crate::OpenFault;
 use crate::open_fault::fault_of;
 use crate::table_rows::rows_of_table;
-use pt_base::{Rider, Trip, Vehicle};
+use pt_base_records::Edits;
+use pt_base_values::{Rider, Trip, Vehicle};
 use pt_desk_rules::TableName;
-use pt_records::Edits;
 use pt_tables_reading::{OneRow, rider_beside, trip_beside, vehicle_beside};
 use pt_tables_rows::tables::{
     RiderChairs, Riders, TableOf, TripChairs, Trips, VehicleChairs, Vehicles,
@@ -193,6 +193,7 @@ pub(crate) fn beside_in<S: Alter, T: Beside>(
         ⊎ ((refused ≡ unsound (number_of table)) × (ReadsTables (state S.Store conn.old) (state S.Store conn.new)
         (λ trees. AreRows T.First.home trees (map T.First.row_of records.now)
         → NoneBeside T.Record.key T.First.home T.home T.First.row_of T.rows_of T.Fits trees))))) }
+    ensures caused { IfErr result (IsCaused (state S.Store conn.old) (state S.Store conn.new)) }
     ensures rests { Rests (state S.Store conn.old) (state S.Store conn.new) result }
 {
     let rows = match rows_of_table(conn, text) {

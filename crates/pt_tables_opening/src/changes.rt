@@ -5,7 +5,7 @@ ghost use Rattle.sqlite.specs.Held.{state};
 ghost use Rattle.pt_desk_rules.specs.Deciding.{no_change};
 ghost use Rattle.pt_desk_rules.specs.State.{State};
 ghost use Rattle.pt_desk_rules.specs.TableNames.{number_of};
-ghost use Rattle.pt_records.specs.Records.{Each, Edit, IsInOrder};
+ghost use Rattle.pt_base_records.specs.Records.{Each, Edit, IsInOrder};
 ghost use Rattle.pt_tables_opening.specs.Beside.{AreBeside};
 ghost use Rattle.pt_tables_opening.specs.Gathered.{FitsRows, KeepsOrder, KeepsRows};
 ghost use Rattle.pt_tables_opening.specs.Opening.{AsksForAll};
@@ -16,13 +16,13 @@ use crate::OpenFault;
 use crate::beside::{Beside, beside_in};
 use crate::gathered::{Gathered, gathered_in};
 use crate::one_row::RowByRow;
-use pt_base::{Place, Rider, Trip, Vehicle};
+use pt_base_records::Edits;
+use pt_base_values::{Place, Rider, Trip, Vehicle};
 use pt_corridor::FixedRoute;
+use pt_desk_requests::Caller;
 use pt_desk_rules::{Change, FiledEntry, Kept, TableName, TravelTable};
-use pt_records::Edits;
-use pt_requests::Caller;
-use pt_scheduling::Plan;
-use pt_store::ListKeeper;
+use pt_desk_scheduling::Plan;
+use pt_desk_store::ListKeeper;
 use pt_tables_rows::tables::{
     Callers, Entries, FixedRoutes, KeptWrites, Places, Plans, RiderChairs, Riders, TravelTables,
     TripChairs, Trips, VehicleChairs, Vehicles,

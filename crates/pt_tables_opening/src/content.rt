@@ -1,19 +1,19 @@
 ghost use Rattle.std.specs.Prelude.{◌≡◌, ◌∷◌, [], Some, IfOk, IfErr};
-ghost use Rattle.pt_base.specs.declared.fault.Cause.TheVariants as cause;
+ghost use Rattle.pt_base_values.specs.declared.fault.Cause.TheVariants as cause;
 ghost use Rattle.pt_desk_rules.specs.Deciding.{no_change};
 ghost use Rattle.pt_desk_rules.specs.State.{applied};
-ghost use Rattle.pt_records.specs.Records.{Each};
+ghost use Rattle.pt_base_records.specs.Records.{Each};
 ghost use Rattle.pt_desk_rules.specs.TableNames.{all_tables};
-ghost use Rattle.pt_spelling.specs.Ranges.{IsWord};
+ghost use Rattle.pt_desk_spelling.specs.Ranges.{IsWord};
 ghost use Rattle.pt_tables_opening.specs.Faults.{fault};
 ghost use Rattle.pt_tables_opening.specs.Tables.{HasNoneIn};
 ghost use Rattle.pt_tables_opening.specs.Agency.{numbers};
 
 use crate::OpenFault;
-use pt_base::{Policy, TripId};
+use pt_base_records::{Key, Span};
+use pt_base_values::{Policy, TripId};
 use pt_desk_rules::Change;
-use pt_records::{Key, Span};
-use pt_store::ListKeeper;
+use pt_desk_store::ListKeeper;
 use std::alloc::Global;
 
 /// The empty key, which is nobody's. The admin of the least state has it until all callers are removed.

@@ -5,12 +5,12 @@ ghost use Rattle.std.specs.Prelude.{◌≡◌, ◌⊎◌, ◌↔◌, ◌<◌, �
 ghost use Rattle.std.specs.Prelude.{slice_index_or};
 ghost use Rattle.sqlite.specs.Order.{Row as StoredRow, column};
 ghost use Rattle.sqlite.specs.Held.{state};
-ghost use Rattle.pt_base.specs.declared.fault.Cause.TheVariants as cause;
+ghost use Rattle.pt_base_values.specs.declared.fault.Cause.TheVariants as cause;
 ghost use Rattle.pt_desk_rules.specs.TableNames.{number_of};
 ghost use Rattle.pt_tables_opening.specs.Faults.{fault, unsound};
 ghost use Rattle.pt_tables_opening.specs.Gathered.{AreRowsOfNone, BeginsOnce, FitsRows, GathersNothing, IsFitting};
 ghost use Rattle.pt_tables_opening.specs.Gathered.{KeepsOrder, TellsGathered};
-ghost use Rattle.pt_tables_opening.specs.Opening.{AsksForAll, ReadsTables, Rests};
+ghost use Rattle.pt_tables_opening.specs.Opening.{AsksForAll, IsCaused, ReadsTables, Rests};
 ghost use Rattle.pt_tables_reading.specs.Reading.{Reads};
 ghost use Rattle.pt_tables_rows.specs.Rows.{number_value};
 ghost use Rattle.pt_tables_rows.specs.Tables.{AreRows};
@@ -18,8 +18,8 @@ ghost use Rattle.pt_tables_rows.specs.Tables.{AreRows};
 use crate::OpenFault;
 use crate::open_fault::fault_of;
 use crate::table_rows::rows_of_table;
+use pt_base_records::Edits;
 use pt_desk_rules::TableName;
-use pt_records::Edits;
 use pt_tables_asking::are_rising;
 use pt_tables_rows::tables::TableOf;
 use sqlite::types::ValueRef;
@@ -125,6 +125,7 @@ pub(crate) fn gathered_in<S: Alter, T: Gathered>(
     ensures faults { IfErr result (λ refused. (refused ≡ fault cause.Memory) ⊎ ((refused ≡ fault cause.StoreFailed)
         ⊎ ((refused ≡ unsound (number_of table)) × (ReadsTables (state S.Store conn.old) (state S.Store conn.new)
         (AreRowsOfNone T.Record.key T.home T.rows_of (FitsRows T.rows_of T.Fits)))))) }
+    ensures caused { IfErr result (IsCaused (state S.Store conn.old) (state S.Store conn.new)) }
     ensures rests { Rests (state S.Store conn.old) (state S.Store conn.new) result }
 {
     let rows = match rows_of_table(conn, text) {

@@ -1,5 +1,5 @@
 ghost use Rattle.std.specs.Prelude.{◌≡◌, pos, List, IfOk, MatchOption};
-ghost use Rattle.pt_scheduling.specs.declared.planned.PlannedStop.{PlannedStop};
+ghost use Rattle.pt_desk_scheduling.specs.declared.planned.PlannedStop.{PlannedStop};
 ghost use Rattle.pt_tables_opening.specs.Gathered.{FitStops, FitsRows};
 ghost use Rattle.pt_tables_reading.specs.Fitting.{FitsStopAt};
 ghost use Rattle.pt_tables_reading.specs.Reading.{Reads};
@@ -7,8 +7,8 @@ ghost use Rattle.pt_tables_rows.specs.Rows.{stop_row, stop_rows, stop_rows_from}
 ghost use Rattle.pt_tables_rows.specs.Tables.{IsStoredPlan};
 
 use crate::gathered::{Gathered, is_zero};
-use pt_base::{Day, VehicleId};
-use pt_scheduling::{Plan, PlannedStop};
+use pt_base_values::{Day, VehicleId};
+use pt_desk_scheduling::{Plan, PlannedStop};
 use pt_tables_reading::stop_of;
 use pt_tables_rows::tables::Plans;
 use sqlite::Row;

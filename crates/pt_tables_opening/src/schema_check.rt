@@ -2,17 +2,16 @@
 //!
 //! The desk's schema, of any version, has no default, no CHECK and no view, so any of these makes a difference.
 
-ghost use Rattle.std.specs.Prelude.{◌≡◌, ◌⊎◌, ◌↔◌, ◌≤◌, IsTrue, IfOk, IfErr, OnOk, false, []};
+ghost use Rattle.std.specs.Prelude.{◌≡◌, ◌↔◌, ◌≤◌, IsTrue, IfOk, IfErr, OnOk, false, []};
 ghost use Rattle.std.specs.List.{AllByRecursion};
 ghost use Rattle.sqlite.specs.Held.{state};
 ghost use Rattle.sqlite.specs.State.{HasCleanDisk};
-ghost use Rattle.pt_base.specs.declared.fault.Cause.TheVariants as cause;
+ghost use Rattle.pt_base_values.specs.declared.fault.Cause.TheVariants as cause;
 ghost use Rattle.pt_tables_opening.specs.Faults.{fault};
 ghost use Rattle.pt_tables_opening.specs.Plain.{IsPlainColumn, IsPlainTable, IsPlainSchema, no_stamps};
 ghost use Rattle.pt_tables_rows.specs.Schema.{desk_schema, no_schema, schema_of, table_version};
 
 use crate::OpenFault;
-use crate::open_fault::fault_of;
 use pt_tables_rows::{TABLE_VERSION, add_versions};
 use sqlite::{Alter, Connection, Error};
 use sqlite_items::Items;
@@ -199,25 +198,26 @@ fn make_tables<S: Alter>(conn: &mut Connection<S>, version: u32) -> Result<(), E
     tx.commit()
 }
 
-/// Whether a schema is that of the tables of a version. Fails if out of memory, or if the store fails.
+/// Whether a schema is that of the tables of a version. Fails only if out of memory.
 pub(crate) fn is_schema_of(alloc: Global, schema: &Schema, version: u32) -> Result<bool, OpenFault>
     requires known { version ≤ table_version }
     ensures value { IfOk result (λ is. IsTrue is ↔ (schema.now ≡ schema_of version)) }
-    ensures faults { IfErr result (λ refused. (refused ≡ fault cause.Memory) ⊎ (refused ≡ fault cause.StoreFailed)) }
+    ensures faults { IfErr result (λ refused. refused ≡ fault cause.Memory) }
 {
     let Ok(mut conn) = Connection::open_in_memory(alloc) else {
         return Err(OpenFault::MEMORY);
     };
     match make_tables(&mut conn, version) {
         Ok(()) => Ok(is_same_schema(schema, conn.schema())),
-        Err(error) => Err(fault_of(&error)),
+        // A new database in memory has no disk that can fail. Making its tables fails only if memory runs out.
+        Err(_) => Err(OpenFault::MEMORY),
     }
 }
 
-/// Whether a schema is that of the desk's tables. Fails if out of memory, or if the store fails.
+/// Whether a schema is that of the desk's tables. Fails only if out of memory.
 pub(crate) fn is_desk_schema(alloc: Global, schema: &Schema) -> Result<bool, OpenFault>
     ensures value { IfOk result (λ is. IsTrue is ↔ (schema.now ≡ desk_schema)) }
-    ensures faults { IfErr result (λ refused. (refused ≡ fault cause.Memory) ⊎ (refused ≡ fault cause.StoreFailed)) }
+    ensures faults { IfErr result (λ refused. refused ≡ fault cause.Memory) }
 {
     is_schema_of(alloc, schema, TABLE_VERSION)
 }

@@ -1,13 +1,13 @@
 //! The rows of a table, as a query returns them.
 
-ghost use Rattle.std.specs.Prelude.{◌≡◌, ℕ, [], IfOk};
+ghost use Rattle.std.specs.Prelude.{◌≡◌, ℕ, [], IfOk, IfErr};
 ghost use Rattle.sqlite.specs.Given.{IsPlain};
 ghost use Rattle.sqlite.specs.Held.{state};
 ghost use Rattle.sqlite.specs.Listing.{understood};
 ghost use Rattle.sqlite.specs.Schema.{Schema};
 ghost use Rattle.sqlite.specs.State.{HasCleanDisk, Shown};
-ghost use Rattle.pt_tables_opening.specs.Opening.{ReadsTables, Rests, RestsOn};
-ghost use Rattle.pt_tables_rows.specs.Schema.{IsEarlier, desk_table, schema_of};
+ghost use Rattle.pt_tables_opening.specs.Opening.{IsBlamed, IsServedQuery, ReadsTables, Rests, RestsOn};
+ghost use Rattle.pt_tables_rows.specs.Schema.{IsEarlier, desk_schema, desk_table, schema_of};
 ghost use Rattle.pt_tables_rows.specs.Tables.{AreRows};
 
 use sqlite::{Alter, Connection, Error, Row};
@@ -25,6 +25,9 @@ pub(crate) fn rows_of_table<S: Alter>(
         → IfOk result (λ rows. Shown text.now [] (state S.Store conn.old) (state S.Store conn.new) rows.items) }
     ensures rests { (schema : Schema) → IsPlain (understood schema text.now)
         → RestsOn schema (state S.Store conn.old) (state S.Store conn.new) result }
+    ensures caused { (schema : Schema) → IsServedQuery schema text.now → HasCleanDisk (state S.Store conn.new)
+        → (state S.Store conn.old).now.schema ≡ schema
+        → IfErr result (IsBlamed (state S.Store conn.old) (state S.Store conn.new)) }
 {
     conn.query_all(text, &[])
 }
@@ -34,6 +37,11 @@ pub(crate) fn desk_rows<S: Alter>(conn: &mut Connection<S>) -> Result<Vec<Row>, 
     ensures rows { ReadsTables (state S.Store conn.old) (state S.Store conn.new)
         (λ trees. IfOk result (λ rows. AreRows desk_table trees rows.items)) }
     ensures rests { Rests (state S.Store conn.old) (state S.Store conn.new) result }
+    ensures caused { HasCleanDisk (state S.Store conn.new) → (state S.Store conn.old).now.schema ≡ desk_schema
+        → IfErr result (IsBlamed (state S.Store conn.old) (state S.Store conn.new)) }
+    ensures earlier_caused { HasCleanDisk (state S.Store conn.new) → (version : ℕ) → IsEarlier version
+        → (state S.Store conn.old).now.schema ≡ schema_of version
+        → IfErr result (IsBlamed (state S.Store conn.old) (state S.Store conn.new)) }
     ensures earlier_rows { HasCleanDisk (state S.Store conn.new) → (version : ℕ) → IsEarlier version
         → (state S.Store conn.old).now.schema ≡ schema_of version
         → IfOk result (λ rows. AreRows desk_table (state S.Store conn.old).now.trees rows.items) }

@@ -1,14 +1,14 @@
 ghost use Rattle.std.specs.Prelude.{◌≡◌, List, map, IfOk, MatchOption};
-ghost use Rattle.pt_base.specs.Day.{IsDay};
+ghost use Rattle.pt_base_values.specs.Day.{IsDay};
 ghost use Rattle.pt_desk_rules.specs.Ranges.{FitsDrive, FitsTravel};
-ghost use Rattle.pt_records.specs.Records.{Each};
+ghost use Rattle.pt_base_records.specs.Records.{Each};
 ghost use Rattle.pt_travel.specs.Chain as travel;
 ghost use Rattle.pt_tables_reading.specs.Fitting.{FitsDriveAt};
 ghost use Rattle.pt_tables_reading.specs.Reading.{Reads};
 ghost use Rattle.pt_tables_rows.specs.Rows.{travel_row, travel_rows};
 
 use crate::gathered::{Gathered, is_zero};
-use pt_base::Day;
+use pt_base_values::Day;
 use pt_desk_rules::TravelTable;
 use pt_tables_reading::drive_of;
 use pt_tables_rows::tables::TravelTables;

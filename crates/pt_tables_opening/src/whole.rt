@@ -1,11 +1,12 @@
 ghost use Rattle.std.specs.Prelude.{◌≡◌, ◌⊎◌, ◌-◌, ◌<◌, IfOk, IfErr};
 ghost use Rattle.sqlite.specs.Held.{state};
 ghost use Rattle.sqlite.specs.State.{HasCleanDisk, IsLive, Survives};
-ghost use Rattle.pt_base.specs.declared.fault.Cause.TheVariants as cause;
+ghost use Rattle.pt_base_values.specs.declared.fault.Cause.TheVariants as cause;
 ghost use Rattle.pt_desk_rules.specs.Sound.{IsSound};
 ghost use Rattle.pt_desk_rules.specs.State.{applied};
 ghost use Rattle.pt_desk_rules.specs.TableNames.{number_of, table_count};
-ghost use Rattle.pt_soundness.specs.Tables.{IsSoundBefore, IsSoundIn};
+ghost use Rattle.pt_tables_soundness.specs.Tables.{IsSoundBefore, IsSoundIn};
+ghost use Rattle.pt_tables_asking.specs.Asking.{HasCause};
 ghost use Rattle.pt_tables_opening.specs.Faults.{IsRefusal, fault, unsound};
 ghost use Rattle.pt_tables_opening.specs.Opening.{Rests, Stays};
 ghost use Rattle.pt_tables_opening.specs.Refused.{SparesOtherVersion, TellsOf};
@@ -20,8 +21,8 @@ use crate::changes::change_in;
 use crate::content::{desk_of, with_change};
 use crate::schema_check::is_desk_schema;
 use pt_desk_rules::{Change, TableName};
-use pt_soundness::is_sound_in;
-use pt_store::ListKeeper;
+use pt_desk_store::ListKeeper;
+use pt_tables_soundness::is_sound_in;
 use sqlite::{Alter, Connection};
 use std::alloc::Global;
 
@@ -98,7 +99,8 @@ fn all_tables<S: Alter>(alloc: Global, conn: &mut Connection<S>) -> Result<ListK
 /// before the next is read.
 ///
 /// Code 30: the tables are not the desk's, or are of another version. Code 31, with the number of the first table at
-/// fault: no sound state has the rows. Code 32: the store refused or failed. Code 0: out of memory.
+/// fault: no sound state has the rows. Code 32: the connection was shut, its disk failed in the reads, or a limit is
+/// set on the steps of queries. Code 0: out of memory.
 pub fn content_in<S: Alter>(
     alloc: Global,
     conn: &mut Connection<S>,
@@ -109,6 +111,8 @@ pub fn content_in<S: Alter>(
     ensures rows { HasCleanDisk (state S.Store conn.new)
         → IfOk result (λ keeper. HasRows keeper.content (state S.Store conn.old).now.trees) }
     ensures faults { IfErr result IsRefusal }
+    ensures caused { HasCleanDisk (state S.Store conn.new) → IfErr result (λ refused. refused ≡ fault cause.StoreFailed
+        → HasCause (state S.Store conn.old) (state S.Store conn.new)) }
     ensures why { HasCleanDisk (state S.Store conn.new) → IfErr result (TellsOf (state S.Store conn.old).now) }
     ensures version { HasCleanDisk (state S.Store conn.new)
         → IfErr result (SparesOtherVersion (state S.Store conn.old).now.trees) }

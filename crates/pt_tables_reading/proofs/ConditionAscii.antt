@@ -11,12 +11,12 @@ use Rattle.std.proofs.lemmas.Fmt.{decimal_is_IsNumeral}
 use Rattle.std.proofs.lemmas.List.Elements.{recursion_from_All}
 use Rattle.std.proofs.lemmas.Str.{IsUtf8-from_ascii}
 use Rattle.sqlite_keyed.proofs.ListLemmas.{all-append}
-use Rattle.pt_conditions.specs.Texts.{condition_text, numbers_text}
-use Rattle.pt_conditions.proofs.NumbersLemmas.{months-from_set}
-use Rattle.pt_rights.specs.Conditions.{IsCondition}
-use Rattle.pt_rights.specs.Months.{numbers_of}
-use Rattle.pt_rights.specs.declared.conditions.Condition.{Condition}
-use Rattle.pt_rights.specs.declared.conditions.Condition.TheVariants.{Always, Months, Farther, NoLift}
+use Rattle.pt_rights_conditions.specs.Texts.{condition_text, numbers_text}
+use Rattle.pt_rights_conditions.proofs.NumbersLemmas.{months-from_set}
+use Rattle.pt_rights_files.specs.Conditions.{IsCondition}
+use Rattle.pt_rights_files.specs.Months.{numbers_of}
+use Rattle.pt_rights_files.specs.declared.conditions.Condition.{Condition}
+use Rattle.pt_rights_files.specs.declared.conditions.Condition.TheVariants.{Always, Months, Farther, NoLift}
 use Rattle.pt_tables_reading.specs.Fitting.{joined, FitsConditions}
 
 abbrev IsSmall : ℕ → Type 0

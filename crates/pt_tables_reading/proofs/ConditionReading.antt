@@ -13,9 +13,9 @@ use Rattle.std.proofs.lemmas.List.Elements.{recursion_from_All, All-from_recursi
 use Rattle.std.proofs.lemmas.List.Splits.{slice_split_none, slice_split_at, join_with_byte-slice_split}
 use Rattle.std.proofs.lemmas.List.Splits.{length-slice_split}
 use Rattle.sqlite_keyed.proofs.ListLemmas.{all-append}
-use Rattle.pt_conditions.specs.Texts.{condition_text, SpellsCondition}
-use Rattle.pt_rights.specs.Conditions.{IsCondition, IsConditions}
-use Rattle.pt_rights.specs.declared.conditions.Condition.{Condition}
+use Rattle.pt_rights_conditions.specs.Texts.{condition_text, SpellsCondition}
+use Rattle.pt_rights_files.specs.Conditions.{IsCondition, IsConditions}
+use Rattle.pt_rights_files.specs.declared.conditions.Condition.{Condition}
 use Rattle.pt_tables_reading.specs.Reading.{Reads}
 use Rattle.pt_tables_reading.specs.Fitting.{joined, parts_of, FitsConditions}
 use Rattle.pt_tables_rows.proofs.SameRowsBytes.{NoSemicolon, condition-apart, split-joined}

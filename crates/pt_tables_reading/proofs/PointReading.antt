@@ -10,13 +10,13 @@ use Rattle.std.specs.Simd.{first_chunks}
 use Rattle.sqlite.specs.declared.types.Value.{Value}
 use Rattle.sqlite.specs.declared.types.Value.TheVariants.{Int, Blob}
 use Rattle.sqlite.specs.Order.{Row, bytes, column}
-use Rattle.pt_base.specs.Place.{IsCoordinate, IsOnPlane}
-use Rattle.pt_base.specs.declared.place.Point.{Point}
+use Rattle.pt_base_values.specs.Place.{IsCoordinate, IsOnPlane}
+use Rattle.pt_base_values.specs.declared.place.Point.{Point}
 use Rattle.pt_corridor.specs.Route.{FixedRoute, route_of, IsFixedRoute}
-use Rattle.pt_spelling.specs.Fields.{number_bytes, signed_bytes}
-use Rattle.pt_spelling.specs.Ranges.{IsWord}
-use Rattle.pt_spelling.specs.Requests.{point_bytes}
-use Rattle.pt_spelling.proofs.FieldLemmas.{length-number, number-same, parts-then}
+use Rattle.pt_desk_spelling.specs.Fields.{number_bytes, signed_bytes}
+use Rattle.pt_desk_spelling.specs.Ranges.{IsWord}
+use Rattle.pt_desk_spelling.specs.Requests.{point_bytes}
+use Rattle.pt_desk_spelling.proofs.FieldLemmas.{length-number, number-same, parts-then}
 use Rattle.pt_tables_reading.specs.Fitting.{FitsPoint}
 use Rattle.pt_tables_rows.specs.Rows.{route_row, number_value}
 

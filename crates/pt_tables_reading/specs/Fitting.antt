@@ -5,16 +5,16 @@ use Rattle.std.specs.Prelude.{map, All, FitsSigned}
 use Rattle.std.specs.Int.{w32}
 use Rattle.std.specs.List.{join_with_byte, slice_split}
 use Rattle.sqlite.specs.Order.{Row}
-use Rattle.pt_base.specs.Day.{IsDay}
-use Rattle.pt_base.specs.declared.place.Point.{Point}
-use Rattle.pt_conditions.specs.Texts.{condition_text}
-use Rattle.pt_rights.specs.Conditions.{IsCondition, IsConditions}
-use Rattle.pt_rights.specs.declared.conditions.Condition.{Condition}
-use Rattle.pt_rights.specs.declared.entry.Entry.{Entry}
-use Rattle.pt_rights.specs.declared.entry.Entry.TheVariants as entry
-use Rattle.pt_spelling.specs.Ranges.{IsWord}
-use Rattle.pt_spelling.specs.Replies.{IsId}
-use Rattle.pt_spelling.specs.Requests.{entry_number}
+use Rattle.pt_base_values.specs.Day.{IsDay}
+use Rattle.pt_base_values.specs.declared.place.Point.{Point}
+use Rattle.pt_rights_conditions.specs.Texts.{condition_text}
+use Rattle.pt_rights_files.specs.Conditions.{IsCondition, IsConditions}
+use Rattle.pt_rights_files.specs.declared.conditions.Condition.{Condition}
+use Rattle.pt_rights_files.specs.declared.entry.Entry.{Entry}
+use Rattle.pt_rights_files.specs.declared.entry.Entry.TheVariants as entry
+use Rattle.pt_desk_spelling.specs.Ranges.{IsWord}
+use Rattle.pt_desk_spelling.specs.Replies.{IsId}
+use Rattle.pt_desk_spelling.specs.Requests.{entry_number}
 use Rattle.pt_travel.specs.Chain as travel
 use Rattle.pt_tables_rows.specs.Rows.{entry_conditions, entry_words, first_number, number_value, second_number}
 use Rattle.pt_tables_rows.specs.Rows.{stop_number, travel_row}

@@ -1,11 +1,11 @@
 -- How a record is read back from a row, or a value from a column.
 use Rattle.std.specs.Prelude.{◌≡◌, ℕ, ◌≤◌, Option, None, Some, List, [], ◌∷◌, length}
 use Rattle.sqlite.specs.Order.{Row}
-use Rattle.pt_base.specs.declared.policy.Policy.{Policy}
+use Rattle.pt_base_values.specs.declared.policy.Policy.{Policy}
 use Rattle.pt_desk_rules.specs.declared.kept.Kept.{Kept}
-use Rattle.pt_requests.specs.declared.caller.Role.{Role}
-use Rattle.pt_requests.specs.declared.caller.Role.TheVariants as role
-use Rattle.pt_spelling.specs.Ranges.{IsWord}
+use Rattle.pt_desk_requests.specs.declared.caller.Role.{Role}
+use Rattle.pt_desk_requests.specs.declared.caller.Role.TheVariants as role
+use Rattle.pt_desk_spelling.specs.Ranges.{IsWord}
 use Rattle.pt_tables_rows.specs.Rows.{desk_row}
 use Rattle.pt_tables_reading.specs.declared.kept.KeptRow.{KeptRow}
 

@@ -1,15 +1,15 @@
 ghost use Rattle.std.specs.Prelude.{ℕ};
 ghost use Rattle.sqlite.specs.declared.types.Value.TheVariants.{Blob};
 ghost use Rattle.sqlite.specs.Order.{column};
-ghost use Rattle.pt_spelling.specs.Requests.{role_number, subject_of};
+ghost use Rattle.pt_desk_spelling.specs.Requests.{role_number, subject_of};
 ghost use Rattle.pt_tables_rows.specs.Rows.{caller_row};
 ghost use Rattle.pt_tables_reading.specs.Reading.{Reads, FitsDigest};
-ghost use Rattle.pt_spelling.specs.Ranges.{IsCaller, IsRole};
+ghost use Rattle.pt_desk_spelling.specs.Ranges.{IsCaller, IsRole};
 
 use crate::columns::{bytes_at, id_at, number_at};
 use crate::one_row::OneRow;
-use pt_base::{RiderId, VehicleId};
-use pt_requests::{Caller, Digest, Role};
+use pt_base_values::{RiderId, VehicleId};
+use pt_desk_requests::{Caller, Digest, Role};
 use pt_tables_rows::tables::Callers;
 use sqlite::Row;
 use std::alloc::{AllocError, Global};

@@ -3,12 +3,12 @@
 ghost use Rattle.std.specs.Prelude.{◌≡◌};
 ghost use Rattle.pt_tables_rows.specs.Rows.{rider_row, vehicle_row, trip_row};
 ghost use Rattle.pt_tables_rows.specs.Rows.{rider_chair_rows, vehicle_chair_rows, trip_chair_rows};
-ghost use Rattle.pt_spelling.specs.Ranges.{IsVehicle};
+ghost use Rattle.pt_desk_spelling.specs.Ranges.{IsVehicle};
 ghost use Rattle.pt_tables_reading.specs.Reading.{ReadsBeside};
 ghost use Rattle.pt_desk_rules.specs.Ranges.{FitsRider, FitsTrip};
 
 use crate::columns::number_in;
-use pt_base::{Rider, Trip, Vehicle};
+use pt_base_values::{Rider, Trip, Vehicle};
 use sqlite::Row;
 
 /// How many columns a row of `rider_chairs` or `trip_chairs` has.

@@ -5,15 +5,15 @@ ghost use Rattle.std.specs.Int.{IsInRange, w32, w64};
 ghost use Rattle.std.specs.Option.{option_copied};
 ghost use Rattle.sqlite.specs.declared.types.Value.TheVariants.{Int, Text, Blob};
 ghost use Rattle.sqlite.specs.Order.{column};
-ghost use Rattle.pt_base.specs.Day.{IsDay};
-ghost use Rattle.pt_spelling.specs.Ranges.{IsWord};
-ghost use Rattle.pt_spelling.specs.Replies.{IsId};
-ghost use Rattle.pt_spelling.specs.Requests.{kind_number};
+ghost use Rattle.pt_base_values.specs.Day.{IsDay};
+ghost use Rattle.pt_desk_spelling.specs.Ranges.{IsWord};
+ghost use Rattle.pt_desk_spelling.specs.Replies.{IsId};
+ghost use Rattle.pt_desk_spelling.specs.Requests.{kind_number};
 ghost use Rattle.pt_tables_rows.specs.Rows.{number_value, truth_value, optional_value, status_number};
 ghost use Rattle.pt_tables_reading.specs.Reading.{Reads};
 ghost use Rattle.pt_desk_rules.specs.Ranges.{IsMinute};
 
-use pt_base::{Day, Id, Minute, Residence, TripStatus};
+use pt_base_values::{Day, Id, Minute, Residence, TripStatus};
 use sqlite::Row;
 use sqlite::types::ValueRef;
 

@@ -5,8 +5,8 @@ ghost use Rattle.pt_tables_reading.specs.Reading.{Reads};
 ghost use Rattle.pt_tables_reading.specs.Fitting.{joined, parts_of, FitsConditions};
 
 use arrayvec::ArrayVec;
-use pt_conditions::condition_from;
-use pt_rights::{Condition, Conditions, MOST_CONDITIONS};
+use pt_rights_conditions::condition_from;
+use pt_rights_files::{Condition, Conditions, MOST_CONDITIONS};
 
 /// The conditions that have these bytes as their text.
 pub(crate) fn conditions_in(bytes: &[u8]) -> Option<Conditions>

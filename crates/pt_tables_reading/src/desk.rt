@@ -1,7 +1,7 @@
 ghost use Rattle.pt_tables_reading.specs.Reading.{Reads, FitsAgency, agency_row};
 
 use crate::columns::{number_at, number_in};
-use pt_base::{HIGHEST_FARE, Policy};
+use pt_base_values::{HIGHEST_FARE, Policy};
 use pt_tables_rows::{DESK, TABLE_VERSION};
 use sqlite::Row;
 

@@ -4,7 +4,7 @@ ghost use Rattle.pt_tables_reading.specs.Reading.{Reads};
 ghost use Rattle.pt_tables_reading.specs.Fitting.{drive_row, FitsDriveAt};
 
 use crate::columns::{day_at, id_at, number_at, number_in};
-use pt_base::Day;
+use pt_base_values::Day;
 use pt_travel::Row;
 use sqlite::Row as TableRow;
 

@@ -3,22 +3,22 @@
 ghost use Rattle.std.specs.Prelude.{◌≡◌, [], None, Some, IfOk, IfSome, length};
 ghost use Rattle.sqlite.specs.declared.types.Value.TheVariants.{Text};
 ghost use Rattle.sqlite.specs.Order.{column};
-ghost use Rattle.pt_rights.specs.Reasons.{IsReasons};
-ghost use Rattle.pt_spelling.specs.Ranges.{IsWord};
-ghost use Rattle.pt_spelling.specs.Requests.{entry_number};
+ghost use Rattle.pt_rights_files.specs.Reasons.{IsReasons};
+ghost use Rattle.pt_desk_spelling.specs.Ranges.{IsWord};
+ghost use Rattle.pt_desk_spelling.specs.Requests.{entry_number};
 ghost use Rattle.pt_tables_rows.specs.Rows.{optional_value, number_value, entry_row, entry_conditions, entry_words};
 ghost use Rattle.pt_tables_rows.specs.Rows.{first_number, second_number};
 ghost use Rattle.pt_tables_reading.specs.Reading.{Reads};
-ghost use Rattle.pt_spelling.specs.Ranges.{IsEntry};
+ghost use Rattle.pt_desk_spelling.specs.Ranges.{IsEntry};
 ghost use Rattle.pt_tables_reading.specs.Fitting.{joined, FitsConditions, parts_of_entry};
 ghost use Rattle.pt_desk_rules.specs.Ranges.{FitsFiled};
 
 use crate::columns::{day_at, id_at, integer_at, number_at, text_at};
 use crate::conditions::conditions_in;
 use crate::one_row::OneRow;
-use pt_base::Day;
+use pt_base_values::Day;
 use pt_desk_rules::FiledEntry;
-use pt_rights::{Conditions, Entered, Entry, Grant, Position, Reasons};
+use pt_rights_files::{Conditions, Entered, Entry, Grant, Position, Reasons};
 use pt_tables_rows::tables::Entries;
 use sqlite::Row;
 use std::alloc::{AllocError, Global};

@@ -1,13 +1,13 @@
 ghost use Rattle.sqlite.specs.declared.types.Value.TheVariants.{Int};
 ghost use Rattle.sqlite.specs.Order.{column};
-ghost use Rattle.pt_base.specs.Place.{IsCoordinate};
+ghost use Rattle.pt_base_values.specs.Place.{IsCoordinate};
 ghost use Rattle.pt_tables_rows.specs.Rows.{place_row};
 ghost use Rattle.pt_tables_reading.specs.Reading.{Reads};
 ghost use Rattle.pt_desk_rules.specs.Ranges.{FitsPlace};
 
 use crate::columns::{id_at, signed_at, truth_at};
 use crate::one_row::OneRow;
-use pt_base::{Place, Point};
+use pt_base_values::{Place, Point};
 use pt_tables_rows::tables::Places;
 use sqlite::Row;
 use std::alloc::{AllocError, Global};

@@ -1,12 +1,12 @@
 //! The points of a fixed route, in eight bytes each.
 
 ghost use Rattle.std.specs.Prelude.{◌≡◌, List, flat_map, IfOk, MatchOption, All};
-ghost use Rattle.pt_base.specs.declared.place.Point.{Point};
-ghost use Rattle.pt_spelling.specs.Requests.{point_bytes};
-ghost use Rattle.pt_spelling.specs.Fields.{signed_bytes};
+ghost use Rattle.pt_base_values.specs.declared.place.Point.{Point};
+ghost use Rattle.pt_desk_spelling.specs.Requests.{point_bytes};
+ghost use Rattle.pt_desk_spelling.specs.Fields.{signed_bytes};
 ghost use Rattle.pt_tables_reading.specs.Fitting.{FitsPoint};
 
-use pt_base::Point;
+use pt_base_values::Point;
 use std::alloc::{AllocError, Global};
 
 /// How many bytes a point takes.
@@ -41,7 +41,7 @@ fn point_from(bytes: [u8; POINT_BYTES]) -> Point
 }
 
 /// The signed number that has these bytes, the most significant first.
-#[tactic(auto, unfolding(pt_spelling::specs::Fields::number_bytes))]
+#[tactic(auto, unfolding(pt_desk_spelling::specs::Fields::number_bytes))]
 fn signed_from(bytes: [u8; 4]) -> i32
     ensures { signed_bytes result ≡ bytes }
 {

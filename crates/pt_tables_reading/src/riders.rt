@@ -5,7 +5,7 @@ ghost use Rattle.pt_desk_rules.specs.Ranges.{FitsRider};
 
 use crate::columns::{id_at, kind_at, truth_at};
 use crate::one_row::OneRow;
-use pt_base::Rider;
+use pt_base_values::Rider;
 use pt_tables_rows::tables::Riders;
 use sqlite::Row;
 use std::alloc::{AllocError, Global};

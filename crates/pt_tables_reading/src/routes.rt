@@ -1,16 +1,16 @@
 ghost use Rattle.std.specs.Prelude.{◌≡◌, IfOk, flat_map};
 ghost use Rattle.sqlite.specs.declared.types.Value.TheVariants.{Blob};
 ghost use Rattle.sqlite.specs.Order.{column};
-ghost use Rattle.pt_spelling.specs.Requests.{point_bytes};
+ghost use Rattle.pt_desk_spelling.specs.Requests.{point_bytes};
 ghost use Rattle.pt_tables_rows.specs.Rows.{route_row};
 ghost use Rattle.pt_tables_reading.specs.Reading.{Reads};
-ghost use Rattle.pt_spelling.specs.Ranges.{IsRoute};
+ghost use Rattle.pt_desk_spelling.specs.Ranges.{IsRoute};
 
 use crate::columns::{bytes_at, id_at, minute_at, number_at, truth_at};
 use crate::one_row::OneRow;
 use crate::points::{are_points, points_from};
 use crate::weekdays::days_at;
-use pt_base::Point;
+use pt_base_values::Point;
 use pt_corridor::FixedRoute;
 use pt_tables_rows::tables::FixedRoutes;
 use sqlite::Row;

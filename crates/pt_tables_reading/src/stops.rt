@@ -6,10 +6,10 @@ ghost use Rattle.pt_tables_reading.specs.Fitting.{stop_row, FitsStopAt};
 
 use crate::columns::{day_at, id_at, number_at};
 use crate::one_row::OneRow;
-use pt_base::{Day, VehicleId};
+use pt_base_records::{Key, Keyed};
+use pt_base_values::{Day, VehicleId};
+use pt_desk_scheduling::PlannedStop;
 use pt_feasible::StopKind;
-use pt_records::{Key, Keyed};
-use pt_scheduling::PlannedStop;
 use pt_tables_rows::tables::TableOf;
 use sqlite::Row;
 use std::alloc::{AllocError, Global};

@@ -6,7 +6,7 @@ use crate::columns::{
     day_at, id_at, minute_at, number_in, optional_minute_at, status_at, truth_at,
 };
 use crate::one_row::OneRow;
-use pt_base::{HIGHEST_FARE, Trip, Wish};
+use pt_base_values::{HIGHEST_FARE, Trip, Wish};
 use pt_tables_rows::tables::Trips;
 use sqlite::Row;
 use std::alloc::{AllocError, Global};

@@ -1,12 +1,12 @@
 ghost use Rattle.std.specs.Prelude.{◌≡◌};
 ghost use Rattle.pt_tables_rows.specs.Rows.{vehicle_row};
 ghost use Rattle.pt_tables_reading.specs.Reading.{Reads};
-ghost use Rattle.pt_spelling.specs.Ranges.{IsVehicle};
+ghost use Rattle.pt_desk_spelling.specs.Ranges.{IsVehicle};
 
 use crate::columns::{day_at, id_at, minute_at, number_in};
 use crate::one_row::OneRow;
 use crate::weekdays::days_at;
-use pt_base::{LAST_MINUTE, Vehicle};
+use pt_base_values::{LAST_MINUTE, Vehicle};
 use pt_tables_rows::tables::Vehicles;
 use sqlite::Row;
 use std::alloc::{AllocError, Global};

@@ -2,15 +2,15 @@
 
 ghost use Rattle.std.specs.Prelude.{◌≡◌, ◌/◌, ◌%◌, ◌==◌};
 ghost use Rattle.sqlite.specs.Order.{column};
-ghost use Rattle.pt_base.specs.Weekday.{number_of};
-ghost use Rattle.pt_spelling.specs.Fields.{days_byte};
-ghost use Rattle.pt_spelling.specs.Ranges.{IsWeek};
+ghost use Rattle.pt_base_values.specs.Weekday.{number_of};
+ghost use Rattle.pt_desk_spelling.specs.Fields.{days_byte};
+ghost use Rattle.pt_desk_spelling.specs.Ranges.{IsWeek};
 ghost use Rattle.pt_tables_rows.specs.Rows.{number_value};
 ghost use Rattle.pt_tables_reading.specs.Reading.{Reads};
 ghost use Rattle.pt_tables_reading.specs.Fitting.{mark};
 
 use crate::columns::number_at;
-use pt_base::{Weekday, Weekdays};
+use pt_base_values::{Weekday, Weekdays};
 use sqlite::Row;
 
 /// Every weekday, as a number.

@@ -22,8 +22,8 @@ use Rattle.sqlite.proofs.Callers.{IsPlain, command_of, statement_of, runs_as}
 use Rattle.sqlite_keyed.proofs.ListLemmas.{IsPermutation-same, all-append}
 use Rattle.sqlite_schema.specs.declared.schema.Index.{Index}
 use Rattle.sqlite_tied.specs.Compute.{everything}
-use Rattle.pt_base.specs.declared.policy.Policy.{Policy}
-use Rattle.pt_requests.specs.declared.caller.Caller.{Caller}
+use Rattle.pt_base_values.specs.declared.policy.Policy.{Policy}
+use Rattle.pt_desk_requests.specs.declared.caller.Caller.{Caller}
 use Rattle.pt_desk_rules.specs.State.{State, new_state}
 use Rattle.pt_desk_rules.specs.TableNames.{all_tables}
 use Rattle.pt_desk_rules.specs.declared.table_name.TableName.{TableName}

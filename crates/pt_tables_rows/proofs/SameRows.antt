@@ -11,35 +11,35 @@ use Rattle.std.proofs.lemmas.Bool.Decides.{nat_tests}
 use Rattle.std.proofs.lemmas.List.Sorted.{length_permutation, IsPermutation-sym, IsPermutation-trans}
 use Rattle.sqlite.specs.Order.{Row}
 use Rattle.sqlite.specs.Tree.{Trees}
-use Rattle.pt_base.specs.Place.{IsOnPlane}
-use Rattle.pt_base.specs.declared.place.Place.{Place}
-use Rattle.pt_base.specs.declared.place.Point.{Point}
-use Rattle.pt_base.specs.declared.policy.Policy.{Policy}
-use Rattle.pt_base.specs.declared.rider.Residence.{Residence}
-use Rattle.pt_base.specs.declared.rider.Residence.TheVariants.{Resident, Visitor}
-use Rattle.pt_base.specs.declared.rider.Rider.{Rider}
-use Rattle.pt_base.specs.declared.trip.Trip.{Trip}
-use Rattle.pt_base.specs.declared.trip_status.TripStatus.{TripStatus}
-use Rattle.pt_base.specs.declared.trip_status.TripStatus.TheVariants.{Booked, Cancelled, Ridden, MissedRider, MissedOperator}
-use Rattle.pt_base.specs.declared.vehicle.Vehicle.{Vehicle}
+use Rattle.pt_base_values.specs.Place.{IsOnPlane}
+use Rattle.pt_base_values.specs.declared.place.Place.{Place}
+use Rattle.pt_base_values.specs.declared.place.Point.{Point}
+use Rattle.pt_base_values.specs.declared.policy.Policy.{Policy}
+use Rattle.pt_base_values.specs.declared.rider.Residence.{Residence}
+use Rattle.pt_base_values.specs.declared.rider.Residence.TheVariants.{Resident, Visitor}
+use Rattle.pt_base_values.specs.declared.rider.Rider.{Rider}
+use Rattle.pt_base_values.specs.declared.trip.Trip.{Trip}
+use Rattle.pt_base_values.specs.declared.trip_status.TripStatus.{TripStatus}
+use Rattle.pt_base_values.specs.declared.trip_status.TripStatus.TheVariants.{Booked, Cancelled, Ridden, MissedRider, MissedOperator}
+use Rattle.pt_base_values.specs.declared.vehicle.Vehicle.{Vehicle}
 use Rattle.pt_corridor.specs.Route.{FixedRoute, IsRouteOnPlane}
 use Rattle.pt_desk_rules.specs.Parts.{Part, edit_of, key_in, record_in, records_of}
 use Rattle.pt_desk_rules.specs.Parts as part
 use Rattle.pt_desk_rules.specs.declared.change.FiledEntry.{FiledEntry}
 use Rattle.pt_desk_rules.specs.declared.kept.Kept.{Kept}
-use Rattle.pt_requests.specs.declared.caller.Caller.{Caller}
-use Rattle.pt_requests.specs.declared.caller.Role.{Role}
-use Rattle.pt_requests.specs.declared.caller.Role.TheVariants as role
+use Rattle.pt_desk_requests.specs.declared.caller.Caller.{Caller}
+use Rattle.pt_desk_requests.specs.declared.caller.Role.{Role}
+use Rattle.pt_desk_requests.specs.declared.caller.Role.TheVariants as role
 use Rattle.pt_desk_rules.specs.Entry.{Entry}
 use Rattle.pt_desk_rules.specs.Entry.TheVariants as entry
 use Rattle.pt_desk_rules.specs.Grant.{Grant}
-use Rattle.pt_spelling.specs.Fields.{numbers_bytes}
-use Rattle.pt_spelling.specs.Ranges.{IsCaller, IsWeek, IsEntry, IsWord, IsRoute, IsVehicle}
-use Rattle.pt_spelling.specs.Replies.{IsReply}
-use Rattle.pt_spelling.specs.Requests.{role_number, subject_of, kind_number, entry_number}
-use Rattle.pt_spelling.proofs.FieldLemmas.{bool-same, days-same}
-use Rattle.pt_spelling.proofs.SettingLemmas.{policy-same}
-use Rattle.pt_base.specs.Day.{IsDay}
+use Rattle.pt_desk_spelling.specs.Fields.{numbers_bytes}
+use Rattle.pt_desk_spelling.specs.Ranges.{IsCaller, IsWeek, IsEntry, IsWord, IsRoute, IsVehicle}
+use Rattle.pt_desk_spelling.specs.Replies.{IsReply}
+use Rattle.pt_desk_spelling.specs.Requests.{role_number, subject_of, kind_number, entry_number}
+use Rattle.pt_desk_spelling.proofs.FieldLemmas.{bool-same, days-same}
+use Rattle.pt_desk_spelling.proofs.SettingLemmas.{policy-same}
+use Rattle.pt_base_values.specs.Day.{IsDay}
 use Rattle.pt_desk_rules.specs.Ranges.{FitsPlan, FitsFiled, FitsKept, FitsPlace, FitsRider, FitsTrip}
 use Rattle.pt_desk_rules.specs.Sound.{HasStops, IsSound}
 use Rattle.pt_desk_rules.specs.State.{State, applied, caller_key, kept_key, place_key, route_key, rider_key, entry_key, vehicle_key, trip_key}
@@ -48,11 +48,11 @@ use Rattle.pt_desk_rules.specs.declared.table_name.TableName.TheVariants as name
 use Rattle.pt_desk_rules.specs.declared.change.Change.{Change}
 use Rattle.pt_desk_rules.proofs.PartLemmas.{parts_applied, states_by_parts}
 use Rattle.pt_desk_rules.proofs.RangeLemmas.{each-edited, ranges_kept}
-use Rattle.pt_records.specs.Records.{Each, IsInOrder}
-use Rattle.pt_records.proofs.OrderLemmas.{Each-both}
-use Rattle.pt_records.proofs.TableLemmas.{IsInOrder-edited}
-use Rattle.pt_scheduling.specs.Plan.{Plan, plan_key}
-use Rattle.pt_records.specs.Keys.{pair_key}
+use Rattle.pt_base_records.specs.Records.{Each, IsInOrder}
+use Rattle.pt_base_records.proofs.OrderLemmas.{Each-both}
+use Rattle.pt_base_records.proofs.TableLemmas.{IsInOrder-edited}
+use Rattle.pt_desk_scheduling.specs.Plan.{Plan, plan_key}
+use Rattle.pt_base_records.specs.Keys.{pair_key}
 use Rattle.pt_tables_rows.specs.Rows.{desk_row, caller_row, place_row, rider_row, vehicle_row, trip_row}
 use Rattle.pt_tables_rows.specs.Rows.{status_number, route_row, kept_row, entry_row, first_number, second_number}
 use Rattle.pt_tables_rows.specs.Rows.{entry_conditions, entry_words, row_if, rider_chair_rows, vehicle_chair_rows}

@@ -11,26 +11,26 @@ use Rattle.std.proofs.lemmas.Fmt.{decimal_is_IsNumeral}
 use Rattle.std.proofs.lemmas.List.Elements.{recursion_from_All, All-from_recursion}
 use Rattle.std.proofs.lemmas.List.Splits.{slice_split_none, slice_split_at}
 use Rattle.sqlite_keyed.proofs.ListLemmas.{all-append}
-use Rattle.pt_base.specs.Place.{IsOnPlane}
-use Rattle.pt_base.specs.declared.place.Point.{Point}
-use Rattle.pt_conditions.specs.Texts.{condition_text, numbers_text}
-use Rattle.pt_conditions.proofs.NumbersLemmas.{months-from_set}
-use Rattle.pt_conditions.proofs.TextLemmas.{condition_text-injective}
-use Rattle.pt_requests.specs.declared.request.Confirmation.{Confirmation}
+use Rattle.pt_base_values.specs.Place.{IsOnPlane}
+use Rattle.pt_base_values.specs.declared.place.Point.{Point}
+use Rattle.pt_rights_conditions.specs.Texts.{condition_text, numbers_text}
+use Rattle.pt_rights_conditions.proofs.NumbersLemmas.{months-from_set}
+use Rattle.pt_rights_conditions.proofs.TextLemmas.{condition_text-injective}
+use Rattle.pt_desk_requests.specs.declared.request.Confirmation.{Confirmation}
 use Rattle.pt_desk_rules.specs.Conditions.{IsCondition}
 use Rattle.pt_desk_rules.specs.Months.{numbers_of}
 use Rattle.pt_desk_rules.specs.Condition.{Condition}
 use Rattle.pt_desk_rules.specs.Condition.TheVariants.{Always, Months, Farther, NoLift}
 use Rattle.pt_desk_rules.specs.Grant.{Grant}
-use Rattle.pt_spelling.specs.Fields.{number_bytes, numbers_bytes}
-use Rattle.pt_spelling.specs.Ranges.{IsWord}
-use Rattle.pt_spelling.specs.Replies.{reply_spelling, confirmation_numbers, IsTold, IsReply}
-use Rattle.pt_spelling.specs.Requests.{point_bytes}
-use Rattle.pt_spelling.specs.declared.replies.KeptReply.{KeptReply}
-use Rattle.pt_spelling.specs.declared.replies.KeptReply.TheVariants.{Done, Entered, Booked}
-use Rattle.pt_spelling.proofs.FieldLemmas.{length-number, number-same}
-use Rattle.pt_spelling.proofs.ReplyLemmas.{told-same, numbers-read}
-use Rattle.pt_spelling.proofs.SettingLemmas.{point-then}
+use Rattle.pt_desk_spelling.specs.Fields.{number_bytes, numbers_bytes}
+use Rattle.pt_desk_spelling.specs.Ranges.{IsWord}
+use Rattle.pt_desk_spelling.specs.Replies.{reply_spelling, confirmation_numbers, IsTold, IsReply}
+use Rattle.pt_desk_spelling.specs.Requests.{point_bytes}
+use Rattle.pt_desk_spelling.specs.declared.replies.KeptReply.{KeptReply}
+use Rattle.pt_desk_spelling.specs.declared.replies.KeptReply.TheVariants.{Done, Entered, Booked}
+use Rattle.pt_desk_spelling.proofs.FieldLemmas.{length-number, number-same}
+use Rattle.pt_desk_spelling.proofs.ReplyLemmas.{told-same, numbers-read}
+use Rattle.pt_desk_spelling.proofs.SettingLemmas.{point-then}
 use Rattle.pt_tables_rows.specs.Rows.{conditions_text}
 
 -- ---- the points of a line, eight bytes each

@@ -10,10 +10,10 @@ use Rattle.sqlite.specs.Order.{Row}
 use Rattle.sqlite_trees.proofs.ListLemmas.{all-permutation}
 use Rattle.pt_desk_rules.specs.StopKind.{StopKind}
 use Rattle.pt_desk_rules.specs.StopKind.TheVariants.{Pickup, Drop}
-use Rattle.pt_records.specs.Keys.{pair_key}
-use Rattle.pt_records.specs.Records.{Each, IsInOrder}
-use Rattle.pt_scheduling.specs.Plan.{Plan}
-use Rattle.pt_scheduling.specs.declared.planned.PlannedStop.{PlannedStop}
+use Rattle.pt_base_records.specs.Keys.{pair_key}
+use Rattle.pt_base_records.specs.Records.{Each, IsInOrder}
+use Rattle.pt_desk_scheduling.specs.Plan.{Plan}
+use Rattle.pt_desk_scheduling.specs.declared.planned.PlannedStop.{PlannedStop}
 use Rattle.pt_desk_rules.specs.Chain as travel
 use Rattle.pt_desk_rules.specs.Table.{ComesBefore, Rises}
 use Rattle.pt_tables_rows.specs.Rows.{stop_number, stop_rows_from, stop_rows, travel_row, travel_rows}

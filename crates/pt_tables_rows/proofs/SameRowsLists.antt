@@ -12,8 +12,8 @@ use Rattle.sqlite.proofs.Callers.{one_permutation}
 use Rattle.sqlite_keyed.proofs.ListLemmas.{all_weaker, all-append, along_permutation, filter_all, filter_none}
 use Rattle.sqlite_keyed.proofs.ListLemmas.{IsPermutation-filter, IsPermutation-same}
 use Rattle.sqlite_trees.proofs.ListLemmas.{all-permutation}
-use Rattle.pt_records.specs.Records.{Each, IsInOrder}
-use Rattle.pt_records.proofs.OrderLemmas.{Each-weaker}
+use Rattle.pt_base_records.specs.Records.{Each, IsInOrder}
+use Rattle.pt_base_records.proofs.OrderLemmas.{Each-weaker}
 
 same_test : (a b : ℕ) → a ≡ b → (a == b) ≡ true
 same_test a b same = grind (arith, nat_tests)

@@ -1,6 +1,6 @@
 -- The rows of stops, one after the other.
 use Rattle.std.proofs.Common.{◌≡◌, ℕ, ◌+◌, pos, List, [], ◌∷◌, ◌++◌, length, ap, ◌∙◌, arith}
-use Rattle.pt_scheduling.specs.declared.planned.PlannedStop.{PlannedStop}
+use Rattle.pt_desk_scheduling.specs.declared.planned.PlannedStop.{PlannedStop}
 use Rattle.pt_tables_rows.specs.Rows.{stop_row, stop_rows_from}
 
 -- one stop more

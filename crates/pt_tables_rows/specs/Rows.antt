@@ -6,30 +6,30 @@ use Rattle.std.specs.List.{join_with_byte}
 use Rattle.sqlite.specs.declared.types.Value.{Value}
 use Rattle.sqlite.specs.declared.types.Value.TheVariants.{Int, Text, Blob}
 use Rattle.sqlite.specs.Order.{Row}
-use Rattle.pt_base.specs.declared.place.Place.{Place}
-use Rattle.pt_base.specs.declared.policy.Policy.{Policy}
-use Rattle.pt_base.specs.declared.rider.Rider.{Rider}
-use Rattle.pt_base.specs.declared.trip.Trip.{Trip}
-use Rattle.pt_base.specs.declared.trip_status.TripStatus.{TripStatus}
-use Rattle.pt_base.specs.declared.trip_status.TripStatus.TheVariants.{Booked, Cancelled, Ridden, MissedRider}
-use Rattle.pt_base.specs.declared.trip_status.TripStatus.TheVariants.{MissedOperator}
-use Rattle.pt_base.specs.declared.vehicle.Vehicle.{Vehicle}
-use Rattle.pt_conditions.specs.Texts.{condition_text}
+use Rattle.pt_base_values.specs.declared.place.Place.{Place}
+use Rattle.pt_base_values.specs.declared.policy.Policy.{Policy}
+use Rattle.pt_base_values.specs.declared.rider.Rider.{Rider}
+use Rattle.pt_base_values.specs.declared.trip.Trip.{Trip}
+use Rattle.pt_base_values.specs.declared.trip_status.TripStatus.{TripStatus}
+use Rattle.pt_base_values.specs.declared.trip_status.TripStatus.TheVariants.{Booked, Cancelled, Ridden, MissedRider}
+use Rattle.pt_base_values.specs.declared.trip_status.TripStatus.TheVariants.{MissedOperator}
+use Rattle.pt_base_values.specs.declared.vehicle.Vehicle.{Vehicle}
+use Rattle.pt_rights_conditions.specs.Texts.{condition_text}
 use Rattle.pt_corridor.specs.Route.{FixedRoute}
 use Rattle.pt_desk_rules.specs.Travel.{TravelTable}
 use Rattle.pt_desk_rules.specs.declared.change.FiledEntry.{FiledEntry}
 use Rattle.pt_desk_rules.specs.declared.kept.Kept.{Kept}
 use Rattle.pt_desk_rules.specs.StopKind.{StopKind}
 use Rattle.pt_desk_rules.specs.StopKind.TheVariants.{Pickup, Drop}
-use Rattle.pt_requests.specs.declared.caller.Caller.{Caller}
+use Rattle.pt_desk_requests.specs.declared.caller.Caller.{Caller}
 use Rattle.pt_desk_rules.specs.Entry.{Entry}
 use Rattle.pt_desk_rules.specs.Entry.TheVariants as entry
 use Rattle.pt_desk_rules.specs.Grant.{Grant}
-use Rattle.pt_scheduling.specs.Plan.{Plan}
-use Rattle.pt_scheduling.specs.declared.planned.PlannedStop.{PlannedStop}
-use Rattle.pt_spelling.specs.Fields.{days_byte}
-use Rattle.pt_spelling.specs.Replies.{reply_spelling}
-use Rattle.pt_spelling.specs.Requests.{role_number, subject_of, kind_number, entry_number, point_bytes}
+use Rattle.pt_desk_scheduling.specs.Plan.{Plan}
+use Rattle.pt_desk_scheduling.specs.declared.planned.PlannedStop.{PlannedStop}
+use Rattle.pt_desk_spelling.specs.Fields.{days_byte}
+use Rattle.pt_desk_spelling.specs.Replies.{reply_spelling}
+use Rattle.pt_desk_spelling.specs.Requests.{role_number, subject_of, kind_number, entry_number, point_bytes}
 use Rattle.pt_tables_rows.specs.Schema.{table_version}
 use Rattle.pt_desk_rules.specs.Chain as travel
 use Rattle.pt_desk_rules.specs.Parts.{Part, record_in, records_of}

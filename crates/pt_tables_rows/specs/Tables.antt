@@ -19,8 +19,8 @@ use Rattle.pt_desk_rules.specs.Sound.{HasStops}
 use Rattle.pt_desk_rules.specs.State.{State}
 use Rattle.pt_desk_rules.specs.declared.change.Change.{Change}
 use Rattle.pt_desk_rules.specs.declared.table_name.TableName.{TableName}
-use Rattle.pt_records.specs.Records.{Each, IsInOrder}
-use Rattle.pt_scheduling.specs.Plan.{Plan}
+use Rattle.pt_base_records.specs.Records.{Each, IsInOrder}
+use Rattle.pt_desk_scheduling.specs.Plan.{Plan}
 use Rattle.pt_tables_rows.specs.Rows.{rows_in, versioned_rows}
 use Rattle.pt_tables_rows.specs.Schema.{table_version, table_in, tables_of, tables_between, names_of, names_between}
 use Rattle.pt_tables_rows.specs.Schema.{schema_of, desk_schema, tables}

@@ -4,12 +4,12 @@ ghost use Rattle.std.specs.Prelude.{List};
 ghost use Rattle.sqlite.specs.Order.{Row};
 ghost use Rattle.sqlite.specs.Table.{Table as StoredTable};
 
-use pt_base::{Place, Rider, Trip, Vehicle};
+use pt_base_records::Keyed;
+use pt_base_values::{Place, Rider, Trip, Vehicle};
 use pt_corridor::FixedRoute;
+use pt_desk_requests::Caller;
 use pt_desk_rules::{FiledEntry, Kept, TravelTable};
-use pt_records::Keyed;
-use pt_requests::Caller;
-use pt_scheduling::Plan;
+use pt_desk_scheduling::Plan;
 
 /// A table of records. Each record has rows of its own.
 pub trait TableOf {
@@ -34,7 +34,7 @@ impl TableOf for Callers {
     ghost use Rattle.std.specs.Prelude.{◌∷◌, []};
     ghost use Rattle.pt_tables_rows.specs.Rows.{caller_row};
     ghost use Rattle.pt_tables_rows.specs.Schema.{callers_table};
-    ghost use Rattle.pt_spelling.specs.Ranges.{IsCaller};
+    ghost use Rattle.pt_desk_spelling.specs.Ranges.{IsCaller};
 
     type Record = Caller;
 
@@ -91,7 +91,7 @@ impl TableOf for FixedRoutes {
     ghost use Rattle.std.specs.Prelude.{◌∷◌, []};
     ghost use Rattle.pt_tables_rows.specs.Rows.{route_row};
     ghost use Rattle.pt_tables_rows.specs.Schema.{fixed_table};
-    ghost use Rattle.pt_spelling.specs.Ranges.{IsRoute};
+    ghost use Rattle.pt_desk_spelling.specs.Ranges.{IsRoute};
 
     type Record = FixedRoute;
 
@@ -110,7 +110,7 @@ impl TableOf for Vehicles {
     ghost use Rattle.std.specs.Prelude.{◌∷◌, []};
     ghost use Rattle.pt_tables_rows.specs.Rows.{vehicle_row};
     ghost use Rattle.pt_tables_rows.specs.Schema.{vehicles_table};
-    ghost use Rattle.pt_spelling.specs.Ranges.{IsVehicle};
+    ghost use Rattle.pt_desk_spelling.specs.Ranges.{IsVehicle};
 
     type Record = Vehicle;
 
@@ -239,7 +239,7 @@ pub struct VehicleChairs;
 impl TableOf for VehicleChairs {
     ghost use Rattle.pt_tables_rows.specs.Rows.{vehicle_chair_rows};
     ghost use Rattle.pt_tables_rows.specs.Schema.{vehicle_chairs_table};
-    ghost use Rattle.pt_spelling.specs.Ranges.{IsVehicle};
+    ghost use Rattle.pt_desk_spelling.specs.Ranges.{IsVehicle};
 
     type Record = Vehicle;
 

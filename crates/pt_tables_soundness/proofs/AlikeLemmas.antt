@@ -2,13 +2,13 @@
 use Rattle.std.proofs.Common.{◌≡◌, ℕ, ◌+◌, ◌-◌, ◌≤◌, Bool, IsTrue, List, [], ◌∷◌, ◌++◌, length, map, Option, None, Some, is_some, if◌then◌else◌, not, refl, sym, ap, ap₂, subst, ◌∙◌, arith}
 use Rattle.std.specs.Prelude.{◌==◌, ◌&&◌, nat_le, nat_lt, slice_get, slice_index, unwrap_or}
 use Rattle.std.specs.List.{list_any}
-use Rattle.pt_base.specs.Ranges.{last_minute}
-use Rattle.pt_base.specs.TripStatus.{stands}
-use Rattle.pt_base.specs.declared.place.Place.{Place}
-use Rattle.pt_base.specs.declared.rider.Rider.{Rider}
-use Rattle.pt_base.specs.declared.trip.Trip.{Trip}
-use Rattle.pt_base.specs.declared.trip_status.TripStatus.{TripStatus}
-use Rattle.pt_base.specs.declared.vehicle.Vehicle.{Vehicle}
+use Rattle.pt_base_values.specs.Ranges.{last_minute}
+use Rattle.pt_base_values.specs.TripStatus.{stands}
+use Rattle.pt_base_values.specs.declared.place.Place.{Place}
+use Rattle.pt_base_values.specs.declared.rider.Rider.{Rider}
+use Rattle.pt_base_values.specs.declared.trip.Trip.{Trip}
+use Rattle.pt_base_values.specs.declared.trip_status.TripStatus.{TripStatus}
+use Rattle.pt_base_values.specs.declared.vehicle.Vehicle.{Vehicle}
 use Rattle.pt_feasible.specs.ServiceTimes.{TimesFit}
 use Rattle.pt_feasible.specs.Stop.{lets_leave, takes_aboard}
 use Rattle.pt_feasible.specs.Visit.{depot_visit, stop_visit, visits}
@@ -16,22 +16,22 @@ use Rattle.pt_feasible.specs.declared.stop.Stop.{Stop}
 use Rattle.pt_feasible.specs.declared.stop.StopKind.{StopKind}
 use Rattle.pt_feasible.specs.declared.stop.StopKind.TheVariants.{Pickup, Drop}
 use Rattle.pt_feasible.specs.declared.visit.Visit.{Visit}
-use Rattle.pt_records.specs.Keys.{pair_key}
-use Rattle.pt_records.specs.Records.{record_at}
-use Rattle.pt_records.proofs.OrderLemmas.{Each-weaker}
-use Rattle.pt_requests.specs.declared.caller.Caller.{Caller}
-use Rattle.pt_requests.specs.declared.caller.Role.{Role}
-use Rattle.pt_requests.specs.declared.caller.Role.TheVariants as role
-use Rattle.pt_scheduling.specs.Plan.{after_stop, Plan, plan_key, planned_stops, stops_among, trip_stop}
-use Rattle.pt_scheduling.specs.declared.planned.PlannedStop.{PlannedStop}
+use Rattle.pt_base_records.specs.Keys.{pair_key}
+use Rattle.pt_base_records.specs.Records.{record_at}
+use Rattle.pt_base_records.proofs.OrderLemmas.{Each-weaker}
+use Rattle.pt_desk_requests.specs.declared.caller.Caller.{Caller}
+use Rattle.pt_desk_requests.specs.declared.caller.Role.{Role}
+use Rattle.pt_desk_requests.specs.declared.caller.Role.TheVariants as role
+use Rattle.pt_desk_scheduling.specs.Plan.{after_stop, Plan, plan_key, planned_stops, stops_among, trip_stop}
+use Rattle.pt_desk_scheduling.specs.declared.planned.PlannedStop.{PlannedStop}
 use Rattle.pt_desk_rules.specs.Booking.{rows_of}
 use Rattle.pt_desk_rules.specs.Fleet.{has_version, in_force, is_in_force, is_newer, vehicle_count, versions_of}
 use Rattle.pt_desk_rules.specs.Sound.{DrivesIn, HasDepot, HasFiledRider, HasPlaces, HasStandingTrips, HasTimes, IsNumberedTo, IsOfRider, IsPlanned, StandsIn}
 use Rattle.pt_desk_rules.specs.State.{rider_key, trip_key, vehicle_key}
 use Rattle.pt_desk_rules.specs.Travel.{TravelTable, table_on}
 use Rattle.pt_desk_rules.specs.declared.change.FiledEntry.{FiledEntry}
-use Rattle.pt_soundness.specs.Tables.{AreSoundEntries, AreSoundPlans, AreSoundRiders, AreSoundTables, AreSoundTrips, AreSoundVehicles, HasDriven, HasRider, has_driven, has_rider}
-use Rattle.pt_soundness.proofs.PairedLemmas.{BothOrNone, Paired, any_paired, at_paired, each_paired, filter_paired, found_paired, length_paired, order_paired, other_there, some_paired, there_paired}
+use Rattle.pt_tables_soundness.specs.Tables.{AreSoundEntries, AreSoundPlans, AreSoundRiders, AreSoundTables, AreSoundTrips, AreSoundVehicles, HasDriven, HasRider, has_driven, has_rider}
+use Rattle.pt_tables_soundness.proofs.PairedLemmas.{BothOrNone, Paired, any_paired, at_paired, each_paired, filter_paired, found_paired, length_paired, order_paired, other_there, some_paired, there_paired}
 
 abbrev pub AlikeRider : Rider → Rider → Type 0
 AlikeRider one other = one.id ≡ other.id

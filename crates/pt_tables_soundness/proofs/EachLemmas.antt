@@ -1,7 +1,7 @@
 -- A property of each record of a list, as a loop checks it.
 use Rattle.std.proofs.Common.{◌≡◌, ℕ, ◌+◌, ◌<◌, zero, suc, Bool, true, false, IsTrue, List, [], ◌∷◌, length, drop, get_or, drop-cons, add-one, refl, sym, ap, ◌∙◌, subst, arith}
 use Rattle.std.proofs.lemmas.List.{drop_all}
-use Rattle.pt_records.specs.Records.{Each}
+use Rattle.pt_base_records.specs.Records.{Each}
 
 pub each_at : {A : Type 0} (P : A → Type 0) (x : A) (xs : List A) (i : ℕ) → i < length xs → x ≡ get_or xs i x → Each P xs → P x
 each_at P x [] i lt at each = absurd (omega arith)

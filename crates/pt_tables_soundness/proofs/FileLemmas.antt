@@ -3,17 +3,17 @@ use Rattle.std.proofs.Common.{◌≡◌, inl, inr, ℕ, ◌+◌, ◌/◌, ◌<�
 use Rattle.std.specs.Prelude.{◌==◌, ◌&&◌, nat_le, filter}
 use Rattle.std.proofs.lemmas.List.{drop_all}
 use Rattle.std.proofs.lemmas.Bool.Decides.{nat_tests}
-use Rattle.pt_records.specs.Keys.{pair_key}
-use Rattle.pt_records.specs.Records.{Each, IsInOrder, is_within}
-use Rattle.pt_records.proofs.OrderLemmas.{Each-both, Each-weaker}
-use Rattle.pt_records.proofs.TableLemmas.{same_or_other}
+use Rattle.pt_base_records.specs.Keys.{pair_key}
+use Rattle.pt_base_records.specs.Records.{Each, IsInOrder, is_within}
+use Rattle.pt_base_records.proofs.OrderLemmas.{Each-both, Each-weaker}
+use Rattle.pt_base_records.proofs.TableLemmas.{same_or_other}
 use Rattle.pt_desk_rules.specs.State.{most_entries}
 use Rattle.pt_desk_rules.specs.Sound.{AreNumberedFrom, IsSoundFile}
 use Rattle.pt_desk_rules.specs.State.{entry_key, entries_of, span_of}
 use Rattle.pt_desk_rules.specs.declared.change.FiledEntry.{FiledEntry}
-use Rattle.pt_soundness.specs.Files.{next_position, IsAt}
-use Rattle.pt_soundness.specs.Tables.{AreSoundFiles}
-use Rattle.pt_soundness.proofs.EachLemmas.{next_from}
+use Rattle.pt_tables_soundness.specs.Files.{next_position, IsAt}
+use Rattle.pt_tables_soundness.specs.Tables.{AreSoundFiles}
+use Rattle.pt_tables_soundness.proofs.EachLemmas.{next_from}
 
 abbrev pub AreFiledFrom : ℕ → ℕ → List FiledEntry → Type 0
 AreFiledFrom last next [] = Unit {0}

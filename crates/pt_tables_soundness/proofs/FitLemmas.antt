@@ -7,14 +7,14 @@ use Rattle.std.specs.List.{list_any}
 use Rattle.std.proofs.lemmas.List.{drop_all}
 use Rattle.std.proofs.lemmas.Bool.{and_parts}
 use Rattle.std.proofs.lemmas.Bool.Decides.{nat_tests}
-use Rattle.pt_base.specs.declared.vehicle.Vehicle.{Vehicle}
+use Rattle.pt_base_values.specs.declared.vehicle.Vehicle.{Vehicle}
 use Rattle.pt_travel.specs.Chain.{Row, IsTime}
 use Rattle.pt_desk_rules.specs.Booking.{AreTimes}
 use Rattle.pt_desk_rules.specs.Fleet.{in_force, is_in_force, is_newer, versions_of}
 use Rattle.pt_desk_rules.specs.Sound.{HoldsInForce}
-use Rattle.pt_scheduling.specs.Plan.{Plan}
-use Rattle.pt_scheduling.specs.declared.planned.PlannedStop.{PlannedStop}
-use Rattle.pt_soundness.proofs.EachLemmas.{next_from}
+use Rattle.pt_desk_scheduling.specs.Plan.{Plan}
+use Rattle.pt_desk_scheduling.specs.declared.planned.PlannedStop.{PlannedStop}
+use Rattle.pt_tables_soundness.proofs.EachLemmas.{next_from}
 
 -- rows determine the driving times
 time_one : (rows : List Row) (from to : ℕ) (a b : Option ℕ) → IsTime rows from to a → IsTime rows from to b → a ≡ b

@@ -6,9 +6,9 @@ use Rattle.std.specs.Prelude.{◌==◌, ◌&&◌, ◌||◌, filter, slice_get}
 use lib.Dec.{eqb}
 use Rattle.std.specs.List.{list_any}
 use Rattle.std.proofs.lemmas.Bool.Decides.{nat_tests}
-use Rattle.pt_base.specs.declared.vehicle.Vehicle.{Vehicle}
-use Rattle.pt_records.specs.Keys.{pair_key}
-use Rattle.pt_records.specs.Records.{Each, IsInOrder, is_within, within}
+use Rattle.pt_base_values.specs.declared.vehicle.Vehicle.{Vehicle}
+use Rattle.pt_base_records.specs.Keys.{pair_key}
+use Rattle.pt_base_records.specs.Records.{Each, IsInOrder, is_within, within}
 use Rattle.pt_desk_rules.specs.Fleet.{has_version, vehicle_count, versions_of}
 use Rattle.pt_desk_rules.specs.State.{most_versions}
 use Rattle.pt_desk_rules.specs.Sound.{HasFirstDay}

@@ -1,9 +1,9 @@
 -- A record that is found is the only one with its key.
 use Rattle.std.proofs.Common.{◌≡◌, ℕ, Bool, IsTrue, List, Option, Some, subst}
-use Rattle.pt_base.specs.TripStatus.{stands}
-use Rattle.pt_base.specs.declared.trip.Trip.{Trip}
-use Rattle.pt_records.specs.Keys.{pair_key}
-use Rattle.pt_records.specs.Records.{record_at}
+use Rattle.pt_base_values.specs.TripStatus.{stands}
+use Rattle.pt_base_values.specs.declared.trip.Trip.{Trip}
+use Rattle.pt_base_records.specs.Keys.{pair_key}
+use Rattle.pt_base_records.specs.Records.{record_at}
 use Rattle.pt_desk_rules.specs.Sound.{StandsIn}
 use Rattle.pt_desk_rules.specs.State.{trip_key}
 

@@ -3,16 +3,16 @@ use Rattle.std.proofs.Common.{◌≡◌, inl, inr, ℕ, ◌+◌, ◌<◌, ◌≤
 use Rattle.std.specs.Prelude.{◌==◌}
 use Rattle.std.proofs.lemmas.List.{drop_all}
 use Rattle.std.proofs.lemmas.Bool.Decides.{nat_tests}
-use Rattle.pt_records.specs.Records.{Each}
+use Rattle.pt_base_records.specs.Records.{Each}
 use Rattle.pt_feasible.specs.declared.stop.StopKind.{StopKind}
 use Rattle.pt_feasible.specs.declared.stop.StopKind.TheVariants.{Pickup, Drop}
-use Rattle.pt_scheduling.specs.Plan.{stops_of_trip, IsPair}
-use Rattle.pt_scheduling.specs.declared.planned.PlannedStop.{PlannedStop}
-use Rattle.pt_soundness.specs.Pairs.{met_after, met_with, IsRestAfter}
-use Rattle.pt_soundness.specs.declared.pairs.Met.{Met}
-use Rattle.pt_soundness.specs.declared.pairs.Met.TheVariants as met
-use Rattle.pt_soundness.proofs.EachLemmas.{next_from}
-use Rattle.pt_soundness.proofs.FleetLemmas.{each_of, one_of}
+use Rattle.pt_desk_scheduling.specs.Plan.{stops_of_trip, IsPair}
+use Rattle.pt_desk_scheduling.specs.declared.planned.PlannedStop.{PlannedStop}
+use Rattle.pt_tables_soundness.specs.Pairs.{met_after, met_with, IsRestAfter}
+use Rattle.pt_tables_soundness.specs.declared.pairs.Met.{Met}
+use Rattle.pt_tables_soundness.specs.declared.pairs.Met.TheVariants as met
+use Rattle.pt_tables_soundness.proofs.EachLemmas.{next_from}
+use Rattle.pt_tables_soundness.proofs.FleetLemmas.{each_of, one_of}
 
 not_drop : Pickup ≡ Drop → ⊥
 not_drop is = cc

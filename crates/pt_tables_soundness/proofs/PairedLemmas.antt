@@ -4,7 +4,7 @@ use Rattle.std.proofs.Common.{get_or, cond, find, filter, Option, None, Some, is
 use Rattle.std.proofs.Common.{arith}
 use Rattle.std.specs.Prelude.{◌==◌, ◌||◌, Any, slice_get, slice_index_or}
 use Rattle.std.specs.List.{list_any}
-use Rattle.pt_records.specs.Records.{Each, IsInOrder, record_at}
+use Rattle.pt_base_records.specs.Records.{Each, IsInOrder, record_at}
 
 abbrev pub Paired : {A : Type 0} → (A → A → Type 0) → List A → List A → Type 0
 Paired R [] [] = Unit {0}

@@ -1,21 +1,21 @@
 -- A state is sound if each of its tables is.
 use Rattle.std.proofs.Common.{ℕ, zero, suc, ◌-◌, ◌≤◌, IsTrue, List, Option, None, Some, [], ◌∷◌, lit<, lit≤, take, refl, arith}
-use Rattle.pt_base.specs.declared.rider.Rider.{Rider}
-use Rattle.pt_base.specs.declared.vehicle.Vehicle.{Vehicle}
-use Rattle.pt_records.specs.Records.{Each}
-use Rattle.pt_records.proofs.OrderLemmas.{Each-both, Each-weaker}
-use Rattle.pt_records.proofs.SplitLemmas.{Each-at}
-use Rattle.pt_requests.specs.declared.caller.Role.{Role}
-use Rattle.pt_requests.specs.declared.caller.Role.TheVariants as role
+use Rattle.pt_base_values.specs.declared.rider.Rider.{Rider}
+use Rattle.pt_base_values.specs.declared.vehicle.Vehicle.{Vehicle}
+use Rattle.pt_base_records.specs.Records.{Each}
+use Rattle.pt_base_records.proofs.OrderLemmas.{Each-both, Each-weaker}
+use Rattle.pt_base_records.proofs.SplitLemmas.{Each-at}
+use Rattle.pt_desk_requests.specs.declared.caller.Role.{Role}
+use Rattle.pt_desk_requests.specs.declared.caller.Role.TheVariants as role
 use Rattle.pt_desk_rules.specs.Facts.{has_subject}
 use Rattle.pt_desk_rules.specs.Parts.{Part, records_of}
 use Rattle.pt_desk_rules.specs.Parts as part
 use Rattle.pt_desk_rules.specs.Sound.{HasFirstDay, HasSubject, IsSound}
 use Rattle.pt_desk_rules.specs.State.{State}
-use Rattle.pt_scheduling.specs.Plan.{IsRoutePlan}
+use Rattle.pt_desk_scheduling.specs.Plan.{IsRoutePlan}
 use Rattle.pt_desk_rules.specs.TableNames.{all_tables, number_of, part_of, table_count}
-use Rattle.pt_soundness.specs.Tables.{has_driven, has_rider, HasDriven, HasRider, IsSoundIn, IsSoundTo, KeepsLinesIn, KeepsRangesIn, keeps_ranges}
-use Rattle.pt_store.specs.Ranges.{IsVehicle}
+use Rattle.pt_tables_soundness.specs.Tables.{has_driven, has_rider, HasDriven, HasRider, IsSoundIn, IsSoundTo, KeepsLinesIn, KeepsRangesIn, keeps_ranges}
+use Rattle.pt_desk_store.specs.Ranges.{IsVehicle}
 use Rattle.pt_desk_rules.specs.Ranges.{FitsIn, KeepsRanges}
 use Rattle.pt_desk_rules.specs.declared.table_name.TableName.{TableName}
 use Rattle.pt_desk_rules.specs.declared.table_name.TableName.TheVariants as table

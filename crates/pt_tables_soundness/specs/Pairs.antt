@@ -2,10 +2,10 @@
 use Rattle.std.specs.Prelude.{◌≡◌, ℕ, ◌==◌, if◌then◌else◌, List, [], ◌∷◌, Option, Some, None}
 use Rattle.pt_feasible.specs.declared.stop.StopKind.{StopKind}
 use Rattle.pt_feasible.specs.declared.stop.StopKind.TheVariants.{Pickup, Drop}
-use Rattle.pt_scheduling.specs.Plan.{IsPair}
-use Rattle.pt_scheduling.specs.declared.planned.PlannedStop.{PlannedStop}
-use Rattle.pt_soundness.specs.declared.pairs.Met.{Met}
-use Rattle.pt_soundness.specs.declared.pairs.Met.TheVariants as met
+use Rattle.pt_desk_scheduling.specs.Plan.{IsPair}
+use Rattle.pt_desk_scheduling.specs.declared.planned.PlannedStop.{PlannedStop}
+use Rattle.pt_tables_soundness.specs.declared.pairs.Met.{Met}
+use Rattle.pt_tables_soundness.specs.declared.pairs.Met.TheVariants as met
 
 -- after one more stop of the trip; None if it may not come here
 abbrev pub met_with : Met → StopKind → Option Met

@@ -1,16 +1,16 @@
 -- The tables of the database, and what a sound state requires of each. These are the ranges of its records, and each
 -- line of soundness whose last table it is.
 use Rattle.std.specs.Prelude.{ℕ, Bool, true, IsTrue, List, Option, None, Some, is_some, ◌-◌, take}
-use Rattle.pt_base.specs.declared.place.Place.{Place}
-use Rattle.pt_base.specs.declared.rider.Rider.{Rider}
-use Rattle.pt_base.specs.declared.trip.Trip.{Trip}
-use Rattle.pt_base.specs.declared.vehicle.Vehicle.{Vehicle}
+use Rattle.pt_base_values.specs.declared.place.Place.{Place}
+use Rattle.pt_base_values.specs.declared.rider.Rider.{Rider}
+use Rattle.pt_base_values.specs.declared.trip.Trip.{Trip}
+use Rattle.pt_base_values.specs.declared.vehicle.Vehicle.{Vehicle}
 use Rattle.pt_corridor.specs.Route.{FixedRoute}
-use Rattle.pt_records.specs.Records.{Each, IsInOrder, IsTable, record_at}
-use Rattle.pt_requests.specs.declared.caller.Caller.{Caller}
-use Rattle.pt_requests.specs.declared.caller.Role.{Role}
-use Rattle.pt_requests.specs.declared.caller.Role.TheVariants as role
-use Rattle.pt_scheduling.specs.Plan.{Plan, plan_key, IsRoutePlan}
+use Rattle.pt_base_records.specs.Records.{Each, IsInOrder, IsTable, record_at}
+use Rattle.pt_desk_requests.specs.declared.caller.Caller.{Caller}
+use Rattle.pt_desk_requests.specs.declared.caller.Role.{Role}
+use Rattle.pt_desk_requests.specs.declared.caller.Role.TheVariants as role
+use Rattle.pt_desk_scheduling.specs.Plan.{Plan, plan_key, IsRoutePlan}
 use Rattle.pt_desk_rules.specs.Fleet.{has_version}
 use Rattle.pt_desk_rules.specs.State.{most_callers, most_places, most_routes, most_riders, most_tables}
 use Rattle.pt_desk_rules.specs.Sound.{HasOneHolder, IsKeptWrite, IsOfCaller, HasFiledRider, HasAuthor, IsSoundFile}
@@ -24,7 +24,7 @@ use Rattle.pt_desk_rules.specs.declared.change.FiledEntry.{FiledEntry}
 use Rattle.pt_desk_rules.specs.Parts.{Part, records_of}
 use Rattle.pt_desk_rules.specs.Ranges.{FitsIn}
 use Rattle.pt_desk_rules.specs.TableNames.{all_tables, number_of, part_of}
-use Rattle.pt_store.specs.Ranges.{IsWord}
+use Rattle.pt_desk_store.specs.Ranges.{IsWord}
 use Rattle.pt_desk_rules.specs.declared.table_name.TableName.{TableName}
 use Rattle.pt_desk_rules.specs.declared.table_name.TableName.TheVariants as table
 

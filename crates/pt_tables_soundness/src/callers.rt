@@ -1,11 +1,11 @@
 ghost use Rattle.std.specs.Prelude.{◌≡◌, ◌↔◌, IsTrue};
-ghost use Rattle.pt_records.specs.Records.{Each};
+ghost use Rattle.pt_base_records.specs.Records.{Each};
 ghost use Rattle.pt_desk_rules.specs.Sound.{HasOneHolder};
-ghost use Rattle.pt_soundness.specs.Tables.{AreSoundCallers};
+ghost use Rattle.pt_tables_soundness.specs.Tables.{AreSoundCallers};
 
+use pt_base_records::Table;
+use pt_desk_requests::Caller;
 use pt_desk_rules::limits::MOST_CALLERS;
-use pt_records::Table;
-use pt_requests::Caller;
 
 /// Whether the two are the same caller, or have different digests.
 fn differ(first: &Caller, second: &Caller) -> bool

@@ -1,5 +1,5 @@
 ghost use Rattle.std.specs.Prelude.{◌↔◌, IfOk, IsTrue};
-ghost use Rattle.pt_soundness.specs.Tables.{IsSoundBefore, IsSoundIn, KeepsRangesIn};
+ghost use Rattle.pt_tables_soundness.specs.Tables.{IsSoundBefore, IsSoundIn, KeepsRangesIn};
 
 use crate::callers::are_sound_callers;
 use crate::entries::are_sound_entries;
@@ -11,7 +11,7 @@ use crate::plans::are_sound_plans;
 use crate::trips::are_sound_trips;
 use crate::vehicles::are_sound_vehicles;
 use pt_desk_rules::TableName;
-use pt_store::ListKeeper;
+use pt_desk_store::ListKeeper;
 use std::alloc::{AllocError, Global};
 
 /// Whether the records of a table are those of a sound state, if all tables before it are sound. Records that were read

@@ -1,13 +1,13 @@
 ghost use Rattle.std.specs.Prelude.{◌↔◌, IsTrue};
 ghost use Rattle.pt_desk_rules.specs.Sound.{HasAuthor, HasFiledRider};
-ghost use Rattle.pt_records.specs.Records.{Each};
-ghost use Rattle.pt_soundness.specs.Tables.{AreSoundEntries};
+ghost use Rattle.pt_base_records.specs.Records.{Each};
+ghost use Rattle.pt_tables_soundness.specs.Tables.{AreSoundEntries};
 
 use crate::files::are_sound_files;
-use pt_base::Rider;
+use pt_base_records::{Key, Table};
+use pt_base_values::Rider;
+use pt_desk_requests::Caller;
 use pt_desk_rules::FiledEntry;
-use pt_records::{Key, Table};
-use pt_requests::Caller;
 
 /// Whether the rider of the entry's case file exists.
 fn has_rider(riders: &Table<Rider>, filed: &FiledEntry) -> bool

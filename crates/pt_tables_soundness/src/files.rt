@@ -1,11 +1,11 @@
 ghost use Rattle.std.specs.Prelude.{◌≡◌, ◌↔◌, IsTrue};
 ghost use Rattle.pt_desk_rules.specs.State.{entry_key};
-ghost use Rattle.pt_records.specs.Records.{IsInOrder};
-ghost use Rattle.pt_soundness.specs.Files.{next_position, IsAt};
-ghost use Rattle.pt_soundness.specs.Tables.{AreSoundFiles};
+ghost use Rattle.pt_base_records.specs.Records.{IsInOrder};
+ghost use Rattle.pt_tables_soundness.specs.Files.{next_position, IsAt};
+ghost use Rattle.pt_tables_soundness.specs.Tables.{AreSoundFiles};
 
 use pt_desk_rules::FiledEntry;
-use pt_rights::MOST_ENTRIES;
+use pt_rights_files::MOST_ENTRIES;
 
 /// Nobody's number.
 const NOBODY: u32 = 0;

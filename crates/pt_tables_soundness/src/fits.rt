@@ -1,22 +1,22 @@
 ghost use Rattle.std.specs.Prelude.{◌≡◌, ◌↔◌, [], Any, IfOk, IsTrue};
-ghost use Rattle.pt_base.specs.declared.vehicle.Vehicle.{Vehicle};
+ghost use Rattle.pt_base_values.specs.declared.vehicle.Vehicle.{Vehicle};
 ghost use Rattle.pt_desk_rules.specs.Booking.{rows_of};
 ghost use Rattle.pt_desk_rules.specs.Fleet.{in_force, versions_of};
 ghost use Rattle.pt_desk_rules.specs.Sound.{DrivesIn, HasFirstDay, HasTimes};
 ghost use Rattle.pt_desk_rules.specs.Travel.{table_on};
 ghost use Rattle.pt_feasible.specs.Route.{stops_of};
-ghost use Rattle.pt_records.specs.Records.{Each};
-ghost use Rattle.pt_scheduling.specs.Plan.{stops_among, IsPlannedRoute, IsRoutePlan};
-ghost use Rattle.pt_soundness.specs.Tables.{AreSoundTables};
+ghost use Rattle.pt_base_records.specs.Records.{Each};
+ghost use Rattle.pt_desk_scheduling.specs.Plan.{stops_among, IsPlannedRoute, IsRoutePlan};
+ghost use Rattle.pt_tables_soundness.specs.Tables.{AreSoundTables};
 
 use crate::travel::are_of_places;
 use crate::vehicles::versions_of;
-use pt_base::{Day, Place, Trip, Vehicle};
+use pt_base_records::Table;
+use pt_base_values::{Day, Place, Trip, Vehicle};
 use pt_desk_rules::limits::MOST_TABLES;
 use pt_desk_rules::{TravelTable, in_force, table_on};
+use pt_desk_scheduling::{Plan, PlannedStop, stops_among};
 use pt_feasible::{Route, settle};
-use pt_records::Table;
-use pt_scheduling::{Plan, PlannedStop, stops_among};
 use pt_travel::Raw;
 use std::alloc::{AllocError, Global};
 

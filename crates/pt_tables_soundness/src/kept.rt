@@ -1,12 +1,12 @@
 ghost use Rattle.std.specs.Prelude.{◌↔◌, IfOk, IsTrue};
-ghost use Rattle.pt_records.specs.Records.{Each};
+ghost use Rattle.pt_base_records.specs.Records.{Each};
 ghost use Rattle.pt_desk_rules.specs.Sound.{IsKeptWrite, IsOfCaller};
-ghost use Rattle.pt_soundness.specs.Tables.{AreSoundKept};
+ghost use Rattle.pt_tables_soundness.specs.Tables.{AreSoundKept};
 
+use pt_base_records::{Key, Table};
+use pt_desk_requests::Caller;
 use pt_desk_rules::Kept;
-use pt_records::{Key, Table};
-use pt_requests::Caller;
-use pt_spelling_reading::is_spelling;
+use pt_desk_spelling_reading::is_spelling;
 use std::alloc::{AllocError, Global};
 
 /// Whether the caller of a kept request exists.

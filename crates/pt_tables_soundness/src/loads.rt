@@ -3,17 +3,17 @@ ghost use Rattle.pt_desk_rules.specs.Fleet.{in_force};
 ghost use Rattle.pt_desk_rules.specs.Sound.{HasFirstDay, LoadsFitIn};
 ghost use Rattle.pt_feasible.specs.Loads.{LoadsFit};
 ghost use Rattle.pt_feasible.specs.Route.{stops_of};
-ghost use Rattle.pt_records.specs.Records.{Each};
-ghost use Rattle.pt_scheduling.specs.Plan.{stops_among, IsPlannedRoute, IsRoutePlan};
-ghost use Rattle.pt_soundness.specs.Tables.{AreSoundLoads};
+ghost use Rattle.pt_base_records.specs.Records.{Each};
+ghost use Rattle.pt_desk_scheduling.specs.Plan.{stops_among, IsPlannedRoute, IsRoutePlan};
+ghost use Rattle.pt_tables_soundness.specs.Tables.{AreSoundLoads};
 
 use crate::fits::route_of;
 use crate::vehicles::versions_of;
-use pt_base::{Day, Trip, Vehicle};
+use pt_base_records::Table;
+use pt_base_values::{Day, Trip, Vehicle};
 use pt_desk_rules::in_force;
+use pt_desk_scheduling::{Plan, PlannedStop};
 use pt_feasible::{Route, loads_fit};
-use pt_records::Table;
-use pt_scheduling::{Plan, PlannedStop};
 use std::alloc::{AllocError, Global};
 
 /// Whether one of these has room for all who are aboard on the route.

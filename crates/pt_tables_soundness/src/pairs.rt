@@ -1,10 +1,10 @@
 ghost use Rattle.std.specs.Prelude.{◌≡◌, ◌↔◌, ℕ, [], IsTrue};
-ghost use Rattle.pt_records.specs.Records.{Each};
-ghost use Rattle.pt_scheduling.specs.Plan.{stops_of_trip, IsPair, IsRoutePlan};
+ghost use Rattle.pt_base_records.specs.Records.{Each};
+ghost use Rattle.pt_desk_scheduling.specs.Plan.{stops_of_trip, IsPair, IsRoutePlan};
 
-use pt_base::TripId;
+use pt_base_values::TripId;
+use pt_desk_scheduling::{Plan, PlannedStop};
 use pt_feasible::{MAX_STOPS, StopKind};
-use pt_scheduling::{Plan, PlannedStop};
 
 /// The stops of a trip that have come so far.
 #[derive(Clone, Copy)]
@@ -15,7 +15,7 @@ pub(crate) enum Met {
 }
 
 impl Met {
-    ghost use Rattle.pt_soundness.specs.Pairs.{met_after, met_with, IsRestAfter};
+    ghost use Rattle.pt_tables_soundness.specs.Pairs.{met_after, met_with, IsRestAfter};
 
     /// After one more stop of the trip; `None` if it may not come here.
     fn with(self, kind: StopKind) -> Option<Met>

@@ -1,12 +1,12 @@
 ghost use Rattle.std.specs.Prelude.{◌↔◌, IsTrue};
-ghost use Rattle.pt_records.specs.Records.{Each};
-ghost use Rattle.pt_soundness.specs.Tables.{AreSoundPlaces, AreSoundRoutes, AreSoundRiders, HasRider};
+ghost use Rattle.pt_base_records.specs.Records.{Each};
+ghost use Rattle.pt_tables_soundness.specs.Tables.{AreSoundPlaces, AreSoundRoutes, AreSoundRiders, HasRider};
 
-use pt_base::{Place, Rider};
+use pt_base_records::{Key, Table};
+use pt_base_values::{Place, Rider};
 use pt_corridor::FixedRoute;
+use pt_desk_requests::{Caller, Role};
 use pt_desk_rules::limits::{MOST_PLACES, MOST_RIDERS, MOST_ROUTES};
-use pt_records::{Key, Table};
-use pt_requests::{Caller, Role};
 
 /// Whether the places are those of a sound state.
 pub(crate) fn are_sound_places(places: &Table<Place>) -> bool

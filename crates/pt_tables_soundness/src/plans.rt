@@ -1,17 +1,17 @@
 ghost use Rattle.std.specs.Prelude.{◌≡◌, ◌==◌, ◌↔◌, IsTrue};
 ghost use Rattle.std.specs.List.{list_any};
-ghost use Rattle.pt_base.specs.TripStatus.{stands};
-ghost use Rattle.pt_records.specs.Keys.{pair_key};
-ghost use Rattle.pt_records.specs.Records.{Each};
-ghost use Rattle.pt_scheduling.specs.Plan.{plan_key};
+ghost use Rattle.pt_base_values.specs.TripStatus.{stands};
+ghost use Rattle.pt_base_records.specs.Keys.{pair_key};
+ghost use Rattle.pt_base_records.specs.Records.{Each};
+ghost use Rattle.pt_desk_scheduling.specs.Plan.{plan_key};
 ghost use Rattle.pt_desk_rules.specs.Sound.{HasStandingTrips, IsPlanned, StandsIn};
-ghost use Rattle.pt_soundness.specs.Tables.{AreSoundPlans};
+ghost use Rattle.pt_tables_soundness.specs.Tables.{AreSoundPlans};
 
 use crate::pairs::are_route_plans;
-use pt_base::{Trip, TripId};
+use pt_base_records::{Key, Keyed, Table};
+use pt_base_values::{Trip, TripId};
 use pt_desk_rules::have_stops;
-use pt_records::{Key, Keyed, Table};
-use pt_scheduling::{Plan, PlannedStop};
+use pt_desk_scheduling::{Plan, PlannedStop};
 use std::cmp::Ordering;
 
 /// Whether a trip is not cancelled, and is in the vehicle and on the day of a plan.

@@ -2,11 +2,11 @@ ghost use Rattle.std.specs.Prelude.{◌≡◌, ◌↔◌, IsTrue, is_some};
 ghost use Rattle.pt_desk_rules.specs.Rules.{are_there};
 ghost use Rattle.pt_desk_rules.specs.Sound.{IsOfPlaces};
 ghost use Rattle.pt_desk_rules.specs.State.{place_key};
-ghost use Rattle.pt_records.specs.Records.{Each, record_at};
+ghost use Rattle.pt_base_records.specs.Records.{Each, record_at};
 
-use pt_base::{Place, PlaceId};
+use pt_base_records::{Key, Table};
+use pt_base_values::{Place, PlaceId};
 use pt_desk_rules::TravelTable;
-use pt_records::{Key, Table};
 use pt_travel::Row;
 
 /// Whether the place of this number exists.

@@ -1,10 +1,10 @@
 ghost use Rattle.std.specs.Prelude.{◌↔◌, IsTrue};
-ghost use Rattle.pt_records.specs.Records.{Each};
+ghost use Rattle.pt_base_records.specs.Records.{Each};
 ghost use Rattle.pt_desk_rules.specs.Sound.{HasPlaces, IsNumberedTo, IsOfRider};
-ghost use Rattle.pt_soundness.specs.Tables.{AreSoundTrips};
+ghost use Rattle.pt_tables_soundness.specs.Tables.{AreSoundTrips};
 
-use pt_base::{Place, Rider, Trip};
-use pt_records::{Key, Table};
+use pt_base_records::{Key, Table};
+use pt_base_values::{Place, Rider, Trip};
 
 /// Whether the trip's number is at most the last number given.
 fn is_numbered_to(last: u32, trip: &Trip) -> bool

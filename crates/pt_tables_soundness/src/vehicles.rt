@@ -1,15 +1,15 @@
 ghost use Rattle.std.specs.Prelude.{◌≡◌, ℕ, ◌≤◌, ◌↔◌, ◌∷◌, IsTrue, length};
-ghost use Rattle.pt_records.specs.Records.{Each, IsInOrder};
+ghost use Rattle.pt_base_records.specs.Records.{Each, IsInOrder};
 ghost use Rattle.pt_desk_rules.specs.Fleet.{has_version, vehicle_count, versions_of};
 ghost use Rattle.pt_desk_rules.specs.State.{most_versions};
 ghost use Rattle.pt_desk_rules.specs.Sound.{HasDepot, HasFirstDay, IsFleet};
 ghost use Rattle.pt_desk_rules.specs.State.{vehicle_key, versions_from};
-ghost use Rattle.pt_soundness.specs.Tables.{AreSoundVehicles, HasDriven};
+ghost use Rattle.pt_tables_soundness.specs.Tables.{AreSoundVehicles, HasDriven};
 
-use pt_base::{Place, Vehicle, VehicleId};
+use pt_base_records::{Key, Span, Table};
+use pt_base_values::{Place, Vehicle, VehicleId};
+use pt_desk_requests::{Caller, Role};
 use pt_desk_rules::limits::{MOST_VEHICLES, MOST_VERSIONS};
-use pt_records::{Key, Span, Table};
-use pt_requests::{Caller, Role};
 
 /// Whether the depot of a version exists.
 fn has_depot(places: &Table<Place>, version: &Vehicle) -> bool

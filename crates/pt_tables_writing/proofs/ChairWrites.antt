@@ -17,14 +17,14 @@ use Rattle.pt_tables_rows.specs.BinaryOp.TheVariants.{Compare}
 use Rattle.pt_tables_rows.specs.CompareOp.TheVariants.{Eq}
 use Rattle.pt_tables_rows.specs.Compute.{everything}
 use Rattle.sqlite_value.specs.Keys.{first_key}
-use Rattle.pt_base.specs.declared.rider.Rider.{Rider}
-use Rattle.pt_base.specs.declared.trip.Trip.{Trip}
-use Rattle.pt_base.specs.declared.vehicle.Vehicle.{Vehicle}
+use Rattle.pt_base_values.specs.declared.rider.Rider.{Rider}
+use Rattle.pt_base_values.specs.declared.trip.Trip.{Trip}
+use Rattle.pt_base_values.specs.declared.vehicle.Vehicle.{Vehicle}
 use Rattle.pt_desk_rules.specs.State.{rider_key, trip_key, vehicle_key}
-use Rattle.pt_records.specs.Records.{put}
+use Rattle.pt_base_records.specs.Records.{put}
 use Rattle.pt_tables_rows.specs.Rows.{number_value, row_if, rider_chair_rows, trip_chair_rows, vehicle_chair_rows}
 use Rattle.pt_tables_rows.specs.Schema.{desk_schema, rider_chairs_table, trip_chairs_table, vehicle_chairs_table}
-use Rattle.pt_spelling.specs.Ranges.{IsVehicle}
+use Rattle.pt_desk_spelling.specs.Ranges.{IsVehicle}
 use Rattle.pt_tables_writing.specs.Grouped.{Adds}
 use Rattle.pt_tables_writing.specs.Writes.{Puts, Takes}
 use Rattle.pt_tables_writing.specs.declared.chairs.TheConstants.{PUT_RIDER_CHAIR, TAKE_RIDER_CHAIR, PUT_TRIP_CHAIR, TAKE_TRIP_CHAIR, INSERT_VEHICLE_CHAIRS, DELETE_VEHICLE_CHAIRS}

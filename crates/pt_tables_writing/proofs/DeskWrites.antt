@@ -13,7 +13,7 @@ use Rattle.sqlite_keyed.proofs.ListLemmas.{IsPermutation-same}
 use Rattle.pt_tables_rows.specs.Compute.{everything}
 use Rattle.sqlite_value.specs.Keys.{first_key}
 use Rattle.sqlite_value.proofs.OrderLemmas.{value_cmp-Int}
-use Rattle.pt_base.specs.declared.policy.Policy.{Policy}
+use Rattle.pt_base_values.specs.declared.policy.Policy.{Policy}
 use Rattle.pt_tables_rows.specs.Rows.{number_value, desk_row}
 use Rattle.pt_tables_rows.specs.Schema.{table_version, desk_schema, desk_table}
 use Rattle.pt_tables_writing.specs.Writes.{Rewrites}

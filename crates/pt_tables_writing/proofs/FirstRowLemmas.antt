@@ -15,7 +15,7 @@ use Rattle.sqlite.specs.Listing.{understood}
 use Rattle.sqlite.specs.State.{State, Executes}
 use Rattle.sqlite_keyed.proofs.ListLemmas.{IsPermutation-same}
 use Rattle.pt_tables_rows.specs.Compute.{everything}
-use Rattle.pt_base.specs.declared.policy.Policy.{Policy}
+use Rattle.pt_base_values.specs.declared.policy.Policy.{Policy}
 use Rattle.pt_tables_writing.specs.Least.{first_admin}
 use Rattle.pt_tables_rows.specs.Rows.{number_value, desk_row, caller_row}
 use Rattle.pt_tables_rows.specs.Schema.{table_version, desk_schema, desk_table, callers_table}

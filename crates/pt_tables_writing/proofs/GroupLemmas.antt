@@ -4,7 +4,6 @@ use Rattle.std.proofs.Common.{◌≡◌, ◌≢◌, ◌++◌, ◌+◌, ℕ, true
 use Rattle.std.specs.Prelude.{◌==◌}
 use Rattle.std.specs.List.{AllByRecursion, list_all}
 use Rattle.std.proofs.lemmas.Bool.Decides.{nat_tests}
-use Rattle.std.specs.Option.{unwrap_or}
 use Rattle.sqlite.specs.Effect.{Database, IsDatabase}
 use Rattle.sqlite.specs.Order.{Row}
 use Rattle.sqlite.specs.Table.{Table}
@@ -12,9 +11,9 @@ use Rattle.sqlite.specs.Tree.{Trees, IsTable, rowid}
 use Rattle.sqlite.specs.View.{is_int}
 use Rattle.sqlite_keyed.proofs.ListLemmas.{all_from_test, all-append}
 use Rattle.sqlite_trees.proofs.ListLemmas.{all_both}
-use Rattle.pt_base.specs.declared.rider.Rider.{Rider}
-use Rattle.pt_base.specs.declared.trip.Trip.{Trip}
-use Rattle.pt_base.specs.declared.vehicle.Vehicle.{Vehicle}
+use Rattle.pt_base_values.specs.declared.rider.Rider.{Rider}
+use Rattle.pt_base_values.specs.declared.trip.Trip.{Trip}
+use Rattle.pt_base_values.specs.declared.vehicle.Vehicle.{Vehicle}
 use Rattle.pt_desk_rules.specs.Parts.{Part, edit_of, key_in, records_of}
 use Rattle.pt_desk_rules.specs.Parts as part
 use Rattle.pt_desk_rules.specs.State.{State, caller_key, kept_key, place_key, route_key, rider_key, entry_key, vehicle_key, travel_key, trip_key}
@@ -27,27 +26,26 @@ use Rattle.pt_tables_rows.specs.Schema.{travel_table, rider_chairs_table, vehicl
 use Rattle.pt_tables_rows.specs.Tables.{AreRows, HaveRowids, Stands, columns_of, IsStoredPlan}
 use Rattle.pt_tables_rows.proofs.NameLemmas.{all_mapped, at_table}
 use Rattle.pt_tables_rows.proofs.SameRowsLists.{all_back, all_front}
-use Rattle.pt_store.specs.Listed.{known_of}
+use Rattle.pt_desk_store.specs.Listed.{known_of}
 use Rattle.pt_desk_rules.specs.TableNames.{all_tables}
 use Rattle.pt_desk_rules.specs.declared.change.Change.{Change}
 use Rattle.pt_desk_rules.specs.declared.table_name.TableName.{TableName}
 use Rattle.pt_desk_rules.specs.declared.table_name.TableName.TheVariants as name
-use Rattle.pt_records.specs.declared.span.Span.{Span}
-use Rattle.pt_base.specs.declared.policy.Policy.{Policy}
-use Rattle.pt_records.specs.Records.{Edit, edited, take_all}
-use Rattle.pt_records.proofs.TableLemmas.{IsInOrder-take_all}
-use Rattle.pt_scheduling.specs.Plan.{plan_key, Plan}
+use Rattle.pt_base_records.specs.declared.span.Span.{Span}
+use Rattle.pt_base_records.specs.Records.{Edit, edited, take_all}
+use Rattle.pt_base_records.proofs.TableLemmas.{IsInOrder-take_all}
+use Rattle.pt_desk_scheduling.specs.Plan.{plan_key, Plan}
 use Rattle.pt_desk_rules.specs.Ranges.{FitsFiled, FitsKept, FitsPlace, FitsTravel, FitsRider, FitsTrip}
-use Rattle.pt_spelling.specs.Ranges.{IsCaller, IsRoute, IsVehicle}
+use Rattle.pt_desk_spelling.specs.Ranges.{IsCaller, IsRoute, IsVehicle}
 use Rattle.pt_tables_rows.proofs.SameRows.{stored-plans}
-use Rattle.pt_base.specs.declared.place.Place.{Place}
+use Rattle.pt_base_values.specs.declared.place.Place.{Place}
 use Rattle.pt_corridor.specs.Route.{FixedRoute}
 use Rattle.pt_desk_rules.specs.Travel.{TravelTable}
 use Rattle.pt_desk_rules.specs.declared.change.FiledEntry.{FiledEntry}
 use Rattle.pt_desk_rules.specs.declared.kept.Kept.{Kept}
-use Rattle.pt_requests.specs.declared.caller.Caller.{Caller}
+use Rattle.pt_desk_requests.specs.declared.caller.Caller.{Caller}
 use Rattle.pt_tables_writing.specs.Writes.{Holds, Rewrites}
-use Rattle.pt_tables_writing.specs.Groups.{AgreesFor, Ends, KnowsIn, KnowsTaken, Leads, Then, WritesFleet, WritesRiders}
+use Rattle.pt_tables_writing.specs.Groups.{AgreesFor, Ends, KnowsIn, KnowsTaken, Leads, Then, WritesFleet, WritesLast, WritesRiders}
 use Rattle.pt_tables_writing.specs.Groups.{WritesTrips, with_people, with_area, with_trips, AgreesWith, KnowsEdited, OfEach}
 use Rattle.pt_tables_writing.proofs.StoredLemmas.{Each-take_all}
 use Rattle.pt_tables_writing.specs.Stored.{EditsTable, PutsAll, TakesSpans}
@@ -234,12 +232,9 @@ Unmarked-vehicles change known =
 abbrev pub Marks-vehicles : Change → Database → Database → Type 0
 Marks-vehicles change = PutsAll vehicle_chairs_table vehicle_key IsVehicle vehicle_chair_rows change.vehicles.puts
 
--- the agency's row after the change
-abbrev pub Known-settings : Change → State → Database → Database → Type 0
-Known-settings change known old new =
-    OfEach (AgreesFor change known) (λ content old new. (p : Policy) (n : ℕ) →
-    Rewrites desk_table (desk_row p n ∷ []) (desk_row (unwrap_or change.policy content.policy) (unwrap_or change.last_trip content.last_trip) ∷ []) old new) old new
-    × IsDatabase new
+-- the last accepted writes and the agency's row after the change
+abbrev pub Known-last : Change → State → Database → Database → Type 0
+Known-last change known = OfEach (AgreesFor change known) (WritesLast change)
 
 -- the tables are there, each with its rows
 pub record Are (s m : State) (db : Database) : Type 0 where
@@ -264,23 +259,19 @@ step place new n a b {s = s} {m = m} {t = t} {before = before} {after = after} a
     record { schema = done.schema; parts = turned_at place s new m n t before after a b done all.parts old_parts new_parts apart apart_back }
 
 pub people_lead : (change : Change) (known : State) (a e : Database)
-    → Then (Then (Then (Known-callers change known.callers) (Known-kept change known.kept)) (OfEach (AgreesFor change known) (WritesRiders change)))
+    → Then (Then (Known-callers change known.callers) (OfEach (AgreesFor change known) (WritesRiders change)))
     (Known-entries change known.entries) a e
     → OfEach (AgreesFor change known) (λ content. Leads change content content (with_people change content)) a e
 people_lead change known a e four content agrees told puts stands =
     let three = four.1 in
-    let two = three.1 in
     let m = content in
     let s1 : State = record content { callers = edited caller_key change.callers content.callers } in
-    let all_1 = step 1 s1 m a two.0 (are content a stands)
-    (λ _. two.1 content.callers (agrees.parts part.callers) (puts.ranges.parts part.callers) (told.order part.callers)
+    let all_1 = step 1 s1 m a three.0 (are content a stands)
+    (λ _. three.1 content.callers (agrees.parts part.callers) (puts.ranges.parts part.callers) (told.order part.callers)
     (told.ranges.parts part.callers)) refl refl refl refl in
-    let s2 : State = record s1 { kept = edited kept_key change.kept content.kept } in
-    let all_2 = step 2 s2 m two.0 three.0 all_1 (λ has. two.2 has content.kept (agrees.parts part.kept) (puts.ranges.parts part.kept) (told.order part.kept)
-    (told.ranges.parts part.kept)) refl refl refl refl in
-    let both = three.2 all_2.schema content agrees in
-    let s3 : State = record s2 { riders = edited rider_key change.riders content.riders } in
-    let all_3 = step 6 s3 m three.0 both.0 all_2 (λ _. both.1 (puts.ranges.parts part.riders) (told.order part.riders) (told.ranges.parts part.riders)) refl refl refl refl in
+    let both = three.2 all_1.schema content agrees in
+    let s3 : State = record s1 { riders = edited rider_key change.riders content.riders } in
+    let all_3 = step 6 s3 m three.0 both.0 all_1 (λ _. both.1 (puts.ranges.parts part.riders) (told.order part.riders) (told.ranges.parts part.riders)) refl refl refl refl in
     let n : State = record m { riders = edited rider_key change.riders m.riders } in
     let all_4 = step 11 s3 n both.0 four.0 all_3 (λ has. both.2 has (puts.ranges.parts part.riders) (told.order part.riders) (told.ranges.parts part.riders)) refl refl refl refl in
     let s4 : State = record s3 { entries = edited entry_key change.entries content.entries } in
@@ -319,7 +310,7 @@ area_leads change known a e four content agrees told puts stands =
     stand (with_area change s) e all_6
 
 pub trips_lead : (change : Change) (known : State) (plans : List Plan) (a d : Database)
-    → Then (Then (OfEach (AgreesFor change known) (WritesTrips change)) (Known-planned change plans)) (Known-settings change known) a d
+    → Then (Then (OfEach (AgreesFor change known) (WritesTrips change)) (Known-planned change plans)) (Known-last change known) a d
     → OfEach (AgreesWith change known plans) (λ content. Ends change content (with_area change (with_people change content))
     (with_trips change (with_area change (with_people change content)))) a d
 trips_lead change known plans a d three content agrees told puts stands =
@@ -336,6 +327,10 @@ trips_lead change known plans a d three content agrees told puts stands =
     (λ has. two.2 has content.planned agrees.1 (stored-plans change.planned.puts (puts.ranges.parts part.planned)
     puts.stops) (told.order part.planned) (stored-plans s.planned (told.ranges.parts part.planned) told.stops)) refl refl refl
     refl in
-    let s3 : State = with_trips change s in
-    let all_4 = step 0 s3 s3 three.0 d all_3 (λ has. (three.2 has).0 content agrees.0 content.policy content.last_trip) refl refl refl refl in
-    (stand s3 d all_4, (three.2 all_3.schema).1)
+    let ends = three.2 all_3.schema content agrees.0 in
+    let s3 : State = record s2 { kept = edited kept_key change.kept s.kept } in
+    let all_4 = step 2 s3 s3 three.0 ends.0 all_3
+    (λ _. ends.1 (puts.ranges.parts part.kept) (told.order part.kept) (told.ranges.parts part.kept)) refl refl refl refl in
+    let s4 : State = with_trips change s in
+    let all_5 = step 0 s4 s4 ends.0 d all_4 (λ has. (ends.2 has).0) refl refl refl refl in
+    (stand s4 d all_5, (ends.2 all_4.schema).1)

@@ -11,7 +11,7 @@ use Rattle.pt_tables_rows.specs.BinaryOp.TheVariants.{Compare}
 use Rattle.pt_tables_rows.specs.CompareOp.TheVariants.{Eq, Ge}
 use Rattle.sqlite.specs.Ops.{binary, is_true}
 use Rattle.sqlite_typed.proofs.TestLemmas.{at_ints}
-use Rattle.pt_records.specs.Keys.{pair_key}
+use Rattle.pt_base_records.specs.Keys.{pair_key}
 use Rattle.pt_tables_writing.proofs.DeleteLemmas.{has_columns, has_columns_from}
 
 int_cmp-pos : (a b : ℕ) → int_cmp (pos a) (pos b) ≡ nat_cmp a b

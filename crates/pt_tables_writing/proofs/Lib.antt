@@ -25,3 +25,4 @@ pub mod TurnLemmas
 pub mod UpsertLemmas
 pub mod VehicleRows
 pub mod WriteLemmas
+mod LastLemmas

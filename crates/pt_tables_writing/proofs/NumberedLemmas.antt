@@ -16,9 +16,9 @@ use Rattle.sqlite_rules.specs.Lists.{Has}
 use Rattle.sqlite_trees.proofs.TreeLemmas.{later_rowids}
 use Rattle.sqlite_value.proofs.OrderLemmas.{value_cmp-Int}
 use Rattle.sqlite_keyed.proofs.ListLemmas.{all_weaker, filter_all, filter_none, filter-map, filter-filter, filter_same, IsPermutation-filter}
-use Rattle.pt_records.specs.Records.{Each, IsInOrder, put}
-use Rattle.pt_records.proofs.OrderLemmas.{Each-weaker, compared}
-use Rattle.pt_records.proofs.RecordLemmas.{put_past, put_over, put_before}
+use Rattle.pt_base_records.specs.Records.{Each, IsInOrder, put}
+use Rattle.pt_base_records.proofs.OrderLemmas.{Each-weaker, compared}
+use Rattle.pt_base_records.proofs.RecordLemmas.{put_past, put_over, put_before}
 use Rattle.pt_tables_rows.specs.Tables.{columns_of}
 
 -- ---- rows of a tree

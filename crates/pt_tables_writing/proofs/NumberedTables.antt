@@ -4,7 +4,7 @@ use Rattle.std.specs.Prelude.{slice_get}
 use Rattle.sqlite.specs.Cast.{cast_row}
 use Rattle.sqlite.specs.Collation.TheVariants.{Binary}
 use Rattle.sqlite.specs.Command.TheVariants.{InsertOr, Delete}
-use Rattle.sqlite.specs.Effect.{value_rows}
+use Rattle.sqlite.specs.Effect.{value_rows, IsDatabase}
 use Rattle.sqlite.specs.Listing.{understood}
 use Rattle.sqlite.specs.Order.{Row, column}
 use Rattle.sqlite.specs.Rows.{shown, stamped}
@@ -23,7 +23,7 @@ use Rattle.pt_tables_rows.specs.Compute.{everything}
 use Rattle.sqlite_value.specs.Keys.{first_key}
 use Rattle.pt_desk_rules.specs.Ranges.{FitsKept, FitsPlace, FitsRider, FitsTrip}
 use Rattle.pt_desk_rules.specs.State.{caller_key, kept_key, place_key, rider_key, route_key, trip_key}
-use Rattle.pt_spelling.specs.Ranges.{IsCaller, IsRoute}
+use Rattle.pt_desk_spelling.specs.Ranges.{IsCaller, IsRoute}
 use Rattle.pt_tables_rows.specs.Rows.{number_value, caller_row, kept_row, place_row, rider_row, route_row, trip_row}
 use Rattle.pt_tables_rows.specs.Schema.{desk_schema, tables, callers_table, kept_table, places_table, riders_table, fixed_table, trips_table}
 use Rattle.pt_tables_rows.specs.Tables.{columns_of}
@@ -35,7 +35,7 @@ use Rattle.pt_tables_writing.specs.declared.numbered.TheConstants.{PUT_ROUTE, TA
 use Rattle.pt_tables_writing.proofs.CastLemmas.{cast_null, cast_int, optional_cast}
 use Rattle.pt_tables_writing.proofs.NumberedWrites.{IsNumbered, puts_record, takes_record}
 use Rattle.pt_tables_writing.proofs.RemovalLemmas.{IsRemoval, removed}
-use Rattle.pt_tables_writing.proofs.UpsertLemmas.{IsUpsert, by_number, only_first, upserted}
+use Rattle.pt_tables_writing.proofs.UpsertLemmas.{IsUpsert, by_number, only_first, upserted, upserted_sound}
 
 -- ---- what the statements make of the records
 
@@ -56,6 +56,7 @@ module _ {A : Type 0} (table : Table) (key : A → ℕ) (Fits : A → Type 0) (r
   pub record AreStored (put take : List ℕ) : Type 1 where
     pub puts : PutsBy put
     pub takes : TakesBy take
+    pub sound : (x : A) (old new : State) (count : ℕ) → old.now.schema ≡ desk_schema → Executes put (row_of x) old new (Ok count) → IsDatabase new.now
 
 -- ---- what is computed of the texts and the rows
 
@@ -143,6 +144,8 @@ module _ (put take : List ℕ) (table : Table) (at count : ℕ) where
           (upserted put (row_by x) table (pos (key x)) (stored (row_by x)) (upsert (key x) (drop 1 (row_of x)) are (is x) (cast x)) old new n has run);
       takes = λ x old new n has run.
           takes_record table numbered key Fits row_by (λ y. refl) x old.now new.now (removed take table (removal are) (pos (key x)) old new n has run);
+      sound = λ x old new n has run.
+          upserted_sound put (row_by x) table (pos (key x)) (stored (row_by x)) (upsert (key x) (drop 1 (row_of x)) are (is x) (cast x)) old new n has run;
     }
 
 -- ---- the tables

@@ -11,7 +11,7 @@ use Rattle.sqlite.specs.View.{is_int}
 use Rattle.sqlite.specs.declared.types.Value.TheVariants.{Int}
 use Rattle.sqlite_keyed.proofs.ListLemmas.{all-filter, ascending-filter}
 use Rattle.sqlite_trees.proofs.TreeLemmas.{IsTable-put_row, all-put_row}
-use Rattle.pt_records.specs.Records.{put}
+use Rattle.pt_base_records.specs.Records.{put}
 use Rattle.pt_tables_rows.specs.Rows.{row_if}
 use Rattle.pt_tables_rows.specs.Tables.{columns_of}
 use Rattle.pt_tables_writing.specs.Writes.{Holds, Rewrites, Puts, Takes}

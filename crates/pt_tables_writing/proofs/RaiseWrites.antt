@@ -22,7 +22,7 @@ use Rattle.pt_tables_rows.specs.Program.{Program}
 use Rattle.pt_tables_rows.specs.Compute.{everything}
 use Rattle.sqlite_value.specs.Keys.{first_key}
 use Rattle.sqlite_value.proofs.OrderLemmas.{value_cmp-Int}
-use Rattle.pt_base.specs.declared.policy.Policy.{Policy}
+use Rattle.pt_base_values.specs.declared.policy.Policy.{Policy}
 use Rattle.pt_tables_rows.specs.Rows.{number_value, versioned_row, desk_row}
 use Rattle.pt_tables_rows.specs.Schema.{table_version, desk_schema, desk_table}
 use Rattle.pt_tables_rows.specs.Tables.{columns_of, AreRows, Others}

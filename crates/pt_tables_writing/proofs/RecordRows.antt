@@ -10,10 +10,10 @@ use Rattle.sqlite.specs.Order.{Row}
 use Rattle.sqlite.specs.Table.{Table}
 use Rattle.sqlite.specs.Tree.{Trees}
 use Rattle.sqlite_keyed.proofs.ListLemmas.{all_weaker, filter_all, filter_none, IsPermutation-flat_map}
-use Rattle.pt_records.specs.Records.{Each, IsInOrder, put, record_at}
-use Rattle.pt_records.proofs.OrderLemmas.{compared, record_at-past, record_at-here, record_at-above}
-use Rattle.pt_records.proofs.RecordLemmas.{put_past, put_over}
-use Rattle.pt_records.proofs.TableLemmas.{Each-filter}
+use Rattle.pt_base_records.specs.Records.{Each, IsInOrder, put, record_at}
+use Rattle.pt_base_records.proofs.OrderLemmas.{compared, record_at-past, record_at-here, record_at-above}
+use Rattle.pt_base_records.proofs.RecordLemmas.{put_past, put_over}
+use Rattle.pt_base_records.proofs.TableLemmas.{Each-filter}
 use Rattle.pt_tables_writing.specs.Grouped.{Adds}
 use Rattle.pt_tables_writing.specs.Writes.{Holds, Rewrites, Puts, Takes}
 use Rattle.pt_tables_writing.proofs.DeleteLemmas.{Removes}

@@ -22,13 +22,13 @@ use Rattle.pt_tables_rows.specs.BinaryOp.TheVariants.{Compare}
 use Rattle.pt_tables_rows.specs.CompareOp.TheVariants.{Eq, Ge}
 use Rattle.pt_tables_rows.specs.Compute.{everything}
 use Rattle.sqlite_keyed.proofs.ListLemmas.{filter_all}
-use Rattle.pt_records.specs.Keys.{pair_key}
-use Rattle.pt_records.specs.Records.{Each}
-use Rattle.pt_scheduling.proofs.PlanLemmas.{found_key}
-use Rattle.pt_scheduling.proofs.RouteLemmas.{Each-found}
+use Rattle.pt_base_records.specs.Keys.{pair_key}
+use Rattle.pt_base_records.specs.Records.{Each}
+use Rattle.pt_desk_scheduling.proofs.PlanLemmas.{found_key}
+use Rattle.pt_desk_scheduling.proofs.RouteLemmas.{Each-found}
 use Rattle.pt_feasible.specs.contracts.stop.StopKind.{the_type}
-use Rattle.pt_scheduling.specs.Plan.{Plan, plan_key}
-use Rattle.pt_scheduling.specs.declared.planned.PlannedStop.{PlannedStop}
+use Rattle.pt_desk_scheduling.specs.Plan.{Plan, plan_key}
+use Rattle.pt_desk_scheduling.specs.declared.planned.PlannedStop.{PlannedStop}
 use Rattle.pt_tables_writing.specs.Grouped.{Adds, KeepsStops}
 use Rattle.pt_tables_rows.specs.Rows.{stop_row, number_value, stop_rows, stop_rows_from}
 use Rattle.pt_tables_rows.specs.Schema.{desk_schema, stops_table}

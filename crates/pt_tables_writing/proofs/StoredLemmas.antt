@@ -2,18 +2,20 @@
 use Rattle.std.proofs.Common.{◌≡◌, ◌++◌, ◌<◌, ◌⊎◌, inl, inr, ℕ, zero, suc, Bool, true, false, not, cond, List, []}
 use Rattle.std.proofs.Common.{◌∷◌, length, get_or, Option, None, Some, flat_map, filter, refl, sym, ap, subst, ◌∙◌}
 use Rattle.std.proofs.Common.{arith}
-use Rattle.std.specs.Prelude.{◌==◌, ◌||◌}
+use Rattle.std.specs.Prelude.{◌==◌, ◌||◌, ◌&&◌, nat_le}
 use Rattle.std.proofs.lemmas.Bool.Decides.{nat_tests}
 use Rattle.sqlite.specs.Effect.{Database}
 use Rattle.sqlite.specs.Order.{Row}
 use Rattle.sqlite.specs.Table.{Table}
-use Rattle.pt_records.specs.Records.{Each, Edit, IsInOrder, edited, is_within, put, put_all, record_at, take_all, take_away, within}
-use Rattle.pt_records.specs.declared.span.Span.{Span}
-use Rattle.pt_records.proofs.OrderLemmas.{Each-put, IsInOrder-put}
-use Rattle.pt_records.proofs.TableLemmas.{Each-filter, IsInOrder-filter, IsInOrder-take_all}
+use Rattle.pt_base_records.specs.Records.{Each, Edit, IsInOrder, edited, is_within, put, put_all, record_at, take_all, take_away, within}
+use Rattle.pt_base_records.specs.declared.span.Span.{Span}
+use Rattle.pt_base_records.proofs.OrderLemmas.{compared, Each-put, Each-weaker, IsInOrder-put}
+use Rattle.pt_base_records.proofs.RecordLemmas.{put_over, put_past}
+use Rattle.pt_base_records.proofs.SplitLemmas.{put_first}
+use Rattle.pt_base_records.proofs.TableLemmas.{Each-filter, IsInOrder-filter, IsInOrder-take_all}
 use Rattle.pt_tables_rows.specs.Schema.{desk_schema}
-use Rattle.pt_tables_writing.specs.Groups.{KnowsEdited, KnowsTaken, OfEach}
-use Rattle.pt_tables_writing.specs.Stored.{without, without_all, PutsAll, TakesAll, TakesSpans, EditsTable}
+use Rattle.pt_tables_writing.specs.Groups.{KnowsEdited, KnowsReplaced, KnowsTaken, OfEach}
+use Rattle.pt_tables_writing.specs.Stored.{without, without_all, PutsAll, TakesAll, TakesSpans, EditsTable, IsKey, OnlyPuts}
 use Rattle.pt_tables_writing.specs.Writes.{Puts, Replaces, Takes, Rewrites}
 use Rattle.pt_tables_writing.proofs.TurnLemmas.{rewrites_then}
 
@@ -209,6 +211,58 @@ pub known_stands : {A : Type 0} (known there : Option A) (before : A) → (known
 known_stands known there before (inl none) found = absurd (let no = sym none ∙ found in cc)
 known_stands known there before (inr same) found = sym same ∙ found
 
+-- ---- what has a record's key makes no difference where the record is put
+
+is_it : (n k : ℕ) → (nat_le k n && nat_le n k) ≡ (n == k)
+is_it n k = grind (arith, nat_tests)
+
+same_as : (n k : ℕ) → n ≡ k → (n == k) ≡ true
+same_as n k same = grind (arith, nat_tests)
+
+is_other : (n k : ℕ) → (n ≡ k → ⊥) → (n == k) ≡ false
+is_other n k apart = grind (arith, nat_tests)
+
+within_key : (n k : ℕ) (span : Span) → IsKey k span → is_within n span ≡ (n == k)
+within_key n k span (from, to) =
+    ap (λ (low : ℕ). nat_le low n && nat_le n span.to) from ∙ ap (λ (high : ℕ). nat_le k n && nat_le n high) to ∙ is_it n k
+
+-- a record with another key stays
+kept_by : {A : Type 0} (key : A → ℕ) (k : ℕ) (span : Span) (x : A) (xs : List A) → IsKey k span → (key x ≡ k → ⊥)
+    → take_away key span (x ∷ xs) ≡ x ∷ take_away key span xs
+kept_by key k span x xs own other =
+    ap (λ b. cond (not b) (x ∷ take_away key span xs) (take_away key span xs)) (within_key (key x) k span own ∙ is_other (key x) k other)
+
+all_kept : {A : Type 0} (key : A → ℕ) (k : ℕ) (span : Span) (xs : List A) → IsKey k span → Each (λ y. k < key y) xs
+    → take_away key span xs ≡ xs
+all_kept key k span [] own above = refl
+all_kept key k span (x ∷ xs) own above =
+    kept_by key k span x xs own (λ same. absurd (omega (arith, above.0, same))) ∙ ap (λ l. x ∷ l) (all_kept key k span xs own above.1)
+
+put_beside : {A : Type 0} (key : A → ℕ) (new : A) (span : Span) (xs : List A) → IsKey (key new) span → IsInOrder key xs
+    → put key new (take_away key span xs) ≡ put key new xs
+put_beside key new span [] own order = refl
+put_beside key new span (x ∷ xs) own order = elim (compared (key x) (key new)) [
+  | inl lt ↦
+      ap (put key new) (kept_by key (key new) span x xs own (λ same. absurd (omega (arith, lt, same))))
+      ∙ put_past key new x (take_away key span xs) lt ∙ ap (λ l. x ∷ l) (put_beside key new span xs own order.1)
+      ∙ sym (put_past key new x xs lt)
+  | inr (inl is) ↦
+      let above = subst (λ (n : ℕ). Each (λ y. n < key y) xs) is order.0 in
+      ap (λ b. put key new (cond (not b) (x ∷ take_away key span xs) (take_away key span xs))) (within_key (key x) (key new) span own ∙ same_as (key x) (key new) is)
+      ∙ ap (put key new) (all_kept key (key new) span xs own above) ∙ put_first key new xs above ∙ sym (put_over key new x xs is)
+  | inr (inr gt) ↦
+      let above : Each (λ y. key new < key y) xs = Each-weaker (λ y. key x < key y) (λ y. key new < key y) (λ y more. omega (arith, gt, more)) xs order.0 in
+      ap (put key new) (all_kept key (key new) span (x ∷ xs) own (gt, above))
+]
+
+-- removals of its key before a record is put
+put_alone : {A : Type 0} (key : A → ℕ) (new : A) (spans : List Span) (xs : List A) → Each (IsKey (key new)) spans → IsInOrder key xs
+    → put key new (take_all key spans xs) ≡ put key new xs
+put_alone key new [] xs own order = refl
+put_alone key new (span ∷ spans) xs own order =
+    put_alone key new spans (take_away key span xs) own.1 (IsInOrder-filter key (λ x. not (is_within (key x) span)) xs order)
+    ∙ put_beside key new span xs own.0 order
+
 -- ---- tables
 
 module _ {A : Type 0} (t : Table) (key : A → ℕ) (Fits : A → Type 0) (rows : A → List Row) where
@@ -256,11 +310,14 @@ module _ {A : Type 0} (t : Table) (key : A → ℕ) (Fits : A → Type 0) (rows 
       (rewrites_then t (flat_map rows xs) (flat_map rows now) (flat_map rows (put_all key puts now)) a b c before then)
 
   -- an edit that only replaces a record that the lists have
-  pub replaced_made : (edit : Edit A) (before new : A) (known : List A) → edit ≡ record { away = []; puts = new ∷ [] }
+  pub replaced_made : (edit : Edit A) (before new : A) (known : List A) → OnlyPuts key new edit
       → record_at key (key new) known ≡ Some before → (a b : Database) → Replaces t key Fits rows before new a b
       → OfEach (KnowsEdited key edit known) (EditsTable t key Fits rows edit) a b
-  replaced_made edit before new known is found a b replaces there agrees =
-      let here = subst (λ e. KnowsEdited key e known there) is agrees in
-      subst (λ e. EditsTable t key Fits rows e there a b) (sym is)
-      (λ fit order fits. replaces fit.0 there order fits
-      (known_stands (record_at key (key new) known) (record_at key (key new) there) before here.replaced.0 found))
+  replaced_made edit before new known only found a b replaces there agrees = λ fit order fits.
+      let fit' = subst (Each Fits) only.puts fit in
+      let here = subst (λ puts. KnowsReplaced key puts known there) only.puts agrees.replaced in
+      let same : edited key edit there ≡ put key new there =
+      ap (λ puts. put_all key puts (take_all key edit.away there)) only.puts ∙ put_alone key new edit.away there only.away order in
+      subst (λ ys. Rewrites t (flat_map rows there) (flat_map rows ys) a b) (sym same)
+      (replaces fit'.0 there order fits
+      (known_stands (record_at key (key new) known) (record_at key (key new) there) before here.0 found))

@@ -11,12 +11,12 @@ use Rattle.sqlite.specs.Term.{lit, col, op2}
 use Rattle.pt_tables_rows.specs.BinaryOp.TheVariants.{Compare}
 use Rattle.pt_tables_rows.specs.CompareOp.TheVariants.{Eq}
 use Rattle.pt_tables_rows.specs.Compute.{everything}
-use Rattle.pt_base.specs.declared.vehicle.Vehicle.{Vehicle}
+use Rattle.pt_base_values.specs.declared.vehicle.Vehicle.{Vehicle}
 use Rattle.pt_desk_rules.specs.State.{vehicle_key}
 use Rattle.pt_tables_writing.specs.Grouped.{Adds}
 use Rattle.pt_tables_rows.specs.Rows.{number_value, vehicle_row}
 use Rattle.pt_tables_rows.specs.Schema.{desk_schema, vehicles_table}
-use Rattle.pt_spelling.specs.Ranges.{IsVehicle}
+use Rattle.pt_desk_spelling.specs.Ranges.{IsVehicle}
 use Rattle.pt_tables_writing.specs.Writes.{Takes}
 use Rattle.pt_tables_writing.specs.declared.grouped.vehicles.TheConstants.{DELETE_VEHICLE, INSERT_VEHICLE}
 use Rattle.pt_tables_writing.proofs.AppendLemmas.{adds, behind_all}

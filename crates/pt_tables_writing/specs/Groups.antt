@@ -8,17 +8,18 @@ use Rattle.pt_desk_rules.specs.Parts as part
 use Rattle.pt_desk_rules.specs.State.{State, caller_key, kept_key, place_key, route_key, rider_key, entry_key}
 use Rattle.pt_desk_rules.specs.State.{vehicle_key, travel_key, trip_key}
 use Rattle.pt_desk_rules.specs.declared.change.Change.{Change}
-use Rattle.pt_records.specs.Records.{Each, Edit, record_at, within, edited}
-use Rattle.pt_records.specs.declared.span.Span.{Span}
-use Rattle.pt_scheduling.specs.Plan.{Plan, plan_key}
-use Rattle.pt_tables_rows.specs.Rows.{rider_row, trip_row, vehicle_row, rider_chair_rows, trip_chair_rows}
+use Rattle.pt_base_records.specs.Records.{Each, Edit, record_at, within, edited}
+use Rattle.pt_base_records.specs.declared.span.Span.{Span}
+use Rattle.pt_desk_scheduling.specs.Plan.{Plan, plan_key}
+use Rattle.pt_tables_rows.specs.Rows.{desk_row, kept_row, rider_row, trip_row, vehicle_row, rider_chair_rows, trip_chair_rows}
 use Rattle.pt_tables_rows.specs.Rows.{vehicle_chair_rows}
-use Rattle.pt_tables_rows.specs.Schema.{desk_schema, riders_table, trips_table, vehicles_table, rider_chairs_table}
+use Rattle.pt_tables_rows.specs.Schema.{desk_schema, desk_table, kept_table, riders_table, trips_table, vehicles_table, rider_chairs_table}
 use Rattle.pt_tables_rows.specs.Schema.{trip_chairs_table, vehicle_chairs_table}
 use Rattle.pt_tables_rows.specs.Tables.{Stands, IsWellFormed, PutsWellFormed}
-use Rattle.pt_spelling.specs.Ranges.{IsVehicle}
-use Rattle.pt_desk_rules.specs.Ranges.{FitsRider, FitsTrip}
+use Rattle.pt_desk_spelling.specs.Ranges.{IsVehicle}
+use Rattle.pt_desk_rules.specs.Ranges.{FitsKept, FitsRider, FitsTrip}
 use Rattle.pt_tables_writing.specs.Stored.{EditsTable, PutsAll, TakesSpans}
+use Rattle.pt_tables_writing.specs.Writes.{Rewrites}
 
 -- within each of these spans of keys, the known records are the stored ones
 abbrev pub KnowsTaken : {A : Type 0} → (A → ℕ) → List Span → List A → List A → Type 0
@@ -56,11 +57,10 @@ AgreesWith change known plans there =
 abbrev pub OfEach : {A : Type 0} → (A → Type 0) → (A → Database → Database → Type 0) → Database → Database → Type 0
 OfEach {A} Agrees Changes old new = (there : A) → Agrees there → Changes there old new
 
--- callers and their last accepted writes, riders and their entries
+-- callers, riders and their entries
 abbrev pub with_people : Change → State → State
 with_people change s = record s {
   callers = edited caller_key change.callers s.callers;
-  kept = edited kept_key change.kept s.kept;
   riders = edited rider_key change.riders s.riders;
   entries = edited entry_key change.entries s.entries;
 }
@@ -74,9 +74,10 @@ with_area change s = record s {
   travel = edited travel_key change.travel s.travel;
 }
 
--- trips, planned stops and the agency's row
+-- trips, planned stops, callers' last accepted writes and the agency's row
 abbrev pub with_trips : Change → State → State
 with_trips change s = record s {
+  kept = edited kept_key change.kept s.kept;
   trips = edited trip_key change.trips s.trips;
   planned = edited plan_key change.planned s.planned;
   policy = unwrap_or change.policy s.policy;
@@ -109,6 +110,13 @@ abbrev pub WritesTrips : Change → State → Database → Database → Type 0
 WritesTrips change s =
     Then (EditsTable trips_table trip_key FitsTrip (λ x. trip_row x ∷ []) change.trips s.trips)
     (EditsTable trip_chairs_table trip_key FitsTrip trip_chair_rows change.trips s.trips)
+
+-- the edit of callers' last accepted writes, and then the agency's row as it is after the change; it leaves a database
+abbrev pub WritesLast : Change → State → Database → Database → Type 0
+WritesLast change s =
+    Then (EditsTable kept_table kept_key FitsKept (λ x. kept_row x ∷ []) change.kept s.kept)
+    (λ old new. Rewrites desk_table (desk_row s.policy s.last_trip ∷ [])
+    (desk_row (unwrap_or change.policy s.policy) (unwrap_or change.last_trip s.last_trip) ∷ []) old new × IsDatabase new)
 
 -- the edit of vehicles, and then the wheelchair places of those that are put
 abbrev pub WritesVehicles : Change → State → Database → Database → Type 0

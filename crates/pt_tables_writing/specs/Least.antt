@@ -3,11 +3,11 @@ use Rattle.std.specs.Prelude.{◌≡◌, ◌≢◌, ◌⊎◌, ℕ, List, [], �
 use Rattle.sqlite.specs.Effect.{IsDatabase}
 use Rattle.sqlite.specs.State.{State as Connected}
 use Rattle.sqlite.specs.Tree.{Trees}
-use Rattle.pt_base.specs.declared.policy.Policy.{Policy}
-use Rattle.pt_store.specs.LeastState.{IsLeastState}
+use Rattle.pt_base_values.specs.declared.policy.Policy.{Policy}
+use Rattle.pt_desk_store.specs.LeastState.{IsLeastState}
 use Rattle.pt_desk_rules.specs.State.{State, new_state}
-use Rattle.pt_requests.specs.declared.caller.Caller.{Caller}
-use Rattle.pt_requests.specs.declared.caller.Role.TheVariants.{Admin}
+use Rattle.pt_desk_requests.specs.declared.caller.Caller.{Caller}
+use Rattle.pt_desk_requests.specs.declared.caller.Role.TheVariants.{Admin}
 use Rattle.pt_tables_rows.specs.Rows.{desk_row}
 use Rattle.pt_tables_rows.specs.Schema.{desk_schema, no_schema}
 use Rattle.pt_tables_rows.specs.Tables.{HasRows}

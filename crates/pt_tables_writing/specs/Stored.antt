@@ -1,10 +1,10 @@
 -- What edits do to the rows of one table.
-use Rattle.std.specs.Prelude.{ℕ, ◌==◌, not, List, [], ◌∷◌, flat_map, filter}
+use Rattle.std.specs.Prelude.{◌≡◌, ℕ, ◌==◌, not, List, [], ◌∷◌, flat_map, filter}
 use Rattle.sqlite.specs.Effect.{Database}
 use Rattle.sqlite.specs.Order.{Row}
 use Rattle.sqlite.specs.Table.{Table}
-use Rattle.pt_records.specs.Records.{Edit, Each, IsInOrder, edited, put_all, take_all}
-use Rattle.pt_records.specs.declared.span.Span.{Span}
+use Rattle.pt_base_records.specs.Records.{Edit, Each, IsInOrder, edited, put_all, take_all}
+use Rattle.pt_base_records.specs.declared.span.Span.{Span}
 use Rattle.pt_tables_writing.specs.Writes.{Rewrites}
 
 -- the records without the one that has this one's key
@@ -38,6 +38,15 @@ TakesAll {A} table key Fits rows gone old new =
 abbrev pub TakesSpans : {A : Type 0} → Table → (A → ℕ) → (A → Type 0) → (A → List Row) → List Span → List A
     → Database → Database → Type 0
 TakesSpans table key Fits rows spans xs old new = Turns table key Fits rows xs (take_all key spans xs) old new
+
+-- the span is this key alone
+abbrev pub IsKey : ℕ → Span → Type 0
+IsKey key span = (span.from ≡ key) × (span.to ≡ key)
+
+-- the edit puts this record, and removes nothing but what has its key
+pub record OnlyPuts {A : Type 0} (key : A → ℕ) (new : A) (edit : Edit A) : Type 0 where
+  pub away : Each (IsKey (key new)) edit.away
+  pub puts : edit.puts ≡ new ∷ []
 
 -- the edit is made in a table that has these records
 abbrev pub EditsTable : {A : Type 0} → Table → (A → ℕ) → (A → Type 0) → (A → List Row) → Edit A → List A

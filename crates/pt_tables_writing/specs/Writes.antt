@@ -6,8 +6,8 @@ use Rattle.sqlite.specs.Order.{Row}
 use Rattle.sqlite.specs.Table.{Table}
 use Rattle.sqlite.specs.Tree.{Trees, IsTable, rowid}
 use Rattle.sqlite.specs.View.{is_int}
-use Rattle.pt_records.specs.Records.{Each, IsInOrder, put, record_at}
-use Rattle.pt_base.specs.declared.policy.Policy.{Policy}
+use Rattle.pt_base_records.specs.Records.{Each, IsInOrder, put, record_at}
+use Rattle.pt_base_values.specs.declared.policy.Policy.{Policy}
 use Rattle.pt_tables_rows.specs.Rows.{desk_row, versioned_row}
 use Rattle.pt_tables_rows.specs.Schema.{desk_schema, desk_table}
 use Rattle.pt_tables_rows.specs.Tables.{AreRows, Others}

@@ -10,7 +10,7 @@ ghost use Rattle.pt_tables_writing.specs.Writes.{Puts};
 ghost use Rattle.pt_desk_rules.specs.Ranges.{FitsRider, FitsTrip};
 
 use crate::stored::Stored;
-use pt_base::{Rider, Trip, Vehicle};
+use pt_base_values::{Rider, Trip, Vehicle};
 use pt_tables_rows::tables::{RiderChairs, TripChairs, VehicleChairs};
 use sqlite::{Alter, Error, Transaction, params};
 

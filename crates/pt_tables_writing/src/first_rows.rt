@@ -8,8 +8,8 @@ ghost use Rattle.pt_tables_rows.specs.Rows.{desk_row, caller_row};
 ghost use Rattle.pt_tables_rows.specs.Schema.{desk_schema, desk_table, callers_table};
 ghost use Rattle.pt_tables_rows.specs.Tables.{Fills};
 
-use pt_base::Policy;
-use pt_requests::Digest;
+use pt_base_values::Policy;
+use pt_desk_requests::Digest;
 use pt_tables_rows::{DESK, TABLE_VERSION};
 use sqlite::{Alter, Error, Transaction, params};
 

@@ -1,14 +1,25 @@
 //! The tables whose primary key is the rowid.
 
+ghost use Rattle.std.specs.Prelude.{[], ◌∷◌, IsTrue, OnOk};
+ghost use Rattle.sqlite.specs.Effect.{IsDatabase};
+ghost use Rattle.sqlite.specs.Held.{state};
+ghost use Rattle.sqlite.specs.State.{HasCleanDisk};
+ghost use Rattle.pt_desk_rules.specs.Ranges.{FitsKept};
+ghost use Rattle.pt_desk_rules.specs.State.{kept_key};
+ghost use Rattle.pt_tables_rows.specs.Rows.{kept_row};
+ghost use Rattle.pt_tables_rows.specs.Schema.{kept_table};
+ghost use Rattle.pt_tables_writing.specs.Step.{Writes};
+ghost use Rattle.pt_tables_writing.specs.Writes.{Puts};
+
 use crate::stored::Stored;
 use columns::{kind_number, optional_number, points_bytes, status_number};
 pub use desk::raise_version;
 pub(crate) use desk::write_desk;
-use pt_base::{Place, Rider, Trip};
+use pt_base_values::{Place, Rider, Trip};
 use pt_corridor::FixedRoute;
+use pt_desk_requests::Caller;
 use pt_desk_rules::Kept;
-use pt_requests::Caller;
-use pt_spelling::{days_byte, role_number, spell_reply, subject_of};
+use pt_desk_spelling::{days_byte, role_number, spell_reply, subject_of};
 use pt_tables_rows::tables::{Callers, FixedRoutes, KeptWrites, Places, Riders, Trips};
 use sqlite::{Alter, Error, Transaction, params};
 
@@ -47,19 +58,29 @@ const PUT_KEPT: &str = "INSERT INTO kept (caller, number, request, reply) \
 
 const TAKE_KEPT: &str = "DELETE FROM kept WHERE caller = ?1";
 
+/// Puts a caller's last accepted write, instead of the one before it.
+pub(crate) fn put_kept<S: Alter>(tx: &mut Transaction<'_, S>, kept: &Kept) -> Result<(), Error>
+    ensures step { Writes S.Store tx.old tx.new (λ old new. Puts kept_table kept_key FitsKept (λ x. kept_row x ∷ [])
+        kept.now old new × IsDatabase new) result }
+    ensures open { HasCleanDisk (state S.Store tx.new.conn.now) → IsTrue (state S.Store tx.old.conn.now).in_transaction
+        → OnOk result (IsTrue (state S.Store tx.old.conn.now).is_open) }
+{
+    let reply = spell_reply(&kept.reply);
+    tx.execute(
+        PUT_KEPT,
+        params![
+            kept.caller.number(),
+            kept.number,
+            kept.request.bytes(),
+            reply.as_slice()
+        ],
+    )?;
+    Ok(())
+}
+
 impl Stored for KeptWrites {
     fn put<S: Alter>(tx: &mut Transaction<'_, S>, kept: &Kept) -> Result<(), Error> {
-        let reply = spell_reply(&kept.reply);
-        tx.execute(
-            PUT_KEPT,
-            params![
-                kept.caller.number(),
-                kept.number,
-                kept.request.bytes(),
-                reply.as_slice()
-            ],
-        )?;
-        Ok(())
+        put_kept(tx, kept)
     }
 
     fn take<S: Alter>(tx: &mut Transaction<'_, S>, kept: &Kept) -> Result<(), Error> {

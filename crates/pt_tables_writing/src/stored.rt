@@ -6,7 +6,7 @@ ghost use Rattle.pt_tables_writing.specs.Step.{Writes};
 ghost use Rattle.pt_tables_writing.specs.Stored.{EditsTable, PutsAll, TakesAll, TakesSpans};
 ghost use Rattle.pt_tables_writing.specs.Writes.{Puts, Takes};
 
-use pt_records::{Edits, Keyed, Span, Table};
+use pt_base_records::{Edits, Keyed, Span, Table};
 use pt_tables_rows::tables::TableOf;
 use sqlite::{Alter, Error, Transaction};
 

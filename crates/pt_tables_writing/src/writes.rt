@@ -1,11 +1,12 @@
-ghost use Rattle.std.specs.Prelude.{◌≡◌, ◌∷◌, [], IsTrue, OnOk, OnErr, false};
+ghost use Rattle.std.specs.Prelude.{◌≡◌, ◌∷◌, [], IfSome, IsTrue, None, OnOk, OnErr, false};
 ghost use Rattle.std.specs.Option.{unwrap_or};
 ghost use Rattle.sqlite.specs.Held.{state};
 ghost use Rattle.sqlite.specs.State.{HasCleanDisk, Survives};
-ghost use Rattle.pt_desk_rules.specs.State.{State, applied};
+ghost use Rattle.pt_desk_rules.specs.State.{State, applied, puts_one};
 ghost use Rattle.sqlite.specs.Effect.{IsDatabase};
 ghost use Rattle.pt_tables_writing.specs.Groups.{AgreesFor, AgreesWith, Ends, OfEach, Leads, with_people, with_area};
 ghost use Rattle.pt_tables_writing.specs.Groups.{with_trips, WritesRiders, WritesVehicles, WritesFleet, WritesTrips};
+ghost use Rattle.pt_tables_writing.specs.Groups.{WritesLast};
 ghost use Rattle.pt_tables_writing.specs.Committing.{IsMade, LeadsTo};
 ghost use Rattle.pt_tables_writing.specs.Least.{IsUndone};
 ghost use Rattle.pt_tables_rows.specs.Rows.{desk_row};
@@ -14,14 +15,14 @@ ghost use Rattle.pt_tables_rows.specs.Tables.{IsWellFormed, PutsWellFormed};
 ghost use Rattle.pt_tables_writing.specs.Step.{Writes};
 ghost use Rattle.pt_tables_writing.specs.Writes.{Rewrites};
 
-use crate::numbered::write_desk;
+use crate::numbered::{put_kept, write_desk};
 use crate::plans::write_plans;
 use crate::stored::{put_each, take_spans, write_edits};
-use pt_base::Policy;
-use pt_desk_rules::Change;
-use pt_records::Table;
-use pt_scheduling::Plan;
-use pt_store::ListKeeper;
+use pt_base_records::Table;
+use pt_base_values::Policy;
+use pt_desk_rules::{Change, Kept};
+use pt_desk_scheduling::Plan;
+use pt_desk_store::ListKeeper;
 use pt_tables_rows::tables::{
     Callers, Entries, FixedRoutes, KeptWrites, Places, RiderChairs, Riders, TravelTables,
     TripChairs, Trips, VehicleChairs, Vehicles,
@@ -42,7 +43,7 @@ fn write_riders<S: Alter>(
     write_edits::<S, RiderChairs>(tx, &change.riders, riders)
 }
 
-/// Writes the changes of callers, of their last accepted writes, of riders and of entries.
+/// Writes the changes of callers, of riders and of entries.
 ///
 /// `known` must have the stored records that the change removes.
 fn write_people<S: Alter>(
@@ -55,7 +56,6 @@ fn write_people<S: Alter>(
         Leads change.now content content (with_people change.now content))) result }
 {
     write_edits::<S, Callers>(tx, &change.callers, known.callers_table())?;
-    write_edits::<S, KeptWrites>(tx, &change.kept, known.kept_table())?;
     write_riders(tx, change, known)?;
     write_edits::<S, Entries>(tx, &change.entries, known.entries_table())
 }
@@ -155,7 +155,57 @@ fn write_booked<S: Alter>(
     write_edits::<S, TripChairs>(tx, &change.trips, trips)
 }
 
-/// Writes the changes of trips, of planned stops and of the agency's row. All other tables are already written.
+/// The accepted write that the change keeps, if it changes no other and leaves the agency's row.
+fn kept_alone(change: &Change) -> Option<&Kept>
+    ensures kept { IfSome result (λ kept. change.now.kept ≡ puts_one kept.now) }
+    ensures policy { IfSome result (λ kept. change.now.policy ≡ None) }
+    ensures last_trip { IfSome result (λ kept. change.now.last_trip ≡ None) }
+{
+    if change.policy.is_some() || change.last_trip.is_some() || !change.kept.spans().is_empty() {
+        return None;
+    }
+    let [kept] = change.kept.puts() else {
+        return None;
+    };
+    Some(kept)
+}
+
+/// Writes the changes of callers' last accepted writes, then the agency's row.
+fn write_kept_and_settings<S: Alter>(
+    tx: &mut Transaction<'_, S>,
+    change: &Change,
+    known: &ListKeeper,
+) -> Result<(), Error>
+    ensures step { Writes S.Store tx.old tx.new
+        (OfEach (AgreesFor change.now known.now.content) (WritesLast change.now)) result }
+    ensures open { HasCleanDisk (state S.Store tx.new.conn.now) → IsTrue (state S.Store tx.old.conn.now).in_transaction
+        → OnOk result (IsTrue (state S.Store tx.old.conn.now).is_open) }
+{
+    write_edits::<S, KeptWrites>(tx, &change.kept, known.kept_table())?;
+    write_settings(tx, change, known)
+}
+
+/// Writes the changes of callers' last accepted writes, and the agency's row where the change gives it a new value.
+///
+/// The last statement is one that always runs.
+fn write_last<S: Alter>(
+    tx: &mut Transaction<'_, S>,
+    change: &Change,
+    known: &ListKeeper,
+) -> Result<(), Error>
+    ensures step { Writes S.Store tx.old tx.new
+        (OfEach (AgreesFor change.now known.now.content) (WritesLast change.now)) result }
+    ensures open { HasCleanDisk (state S.Store tx.new.conn.now) → IsTrue (state S.Store tx.old.conn.now).in_transaction
+        → OnOk result (IsTrue (state S.Store tx.old.conn.now).is_open) }
+{
+    match kept_alone(change) {
+        Some(kept) => put_kept(tx, kept),
+        None => write_kept_and_settings(tx, change, known),
+    }
+}
+
+/// Writes the changes of trips, of planned stops, of callers' last accepted writes and of the agency's row. All other
+/// tables are already written.
 fn write_trips<S: Alter>(
     tx: &mut Transaction<'_, S>,
     change: &Change,
@@ -171,7 +221,7 @@ fn write_trips<S: Alter>(
 {
     write_booked(tx, change, known)?;
     write_plans(tx, &change.planned, plans)?;
-    write_settings(tx, change, known)
+    write_last(tx, change, known)
 }
 
 /// Writes the whole change, each table after the tables that it references.

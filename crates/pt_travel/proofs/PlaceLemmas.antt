@@ -1,5 +1,6 @@
 -- Positions of places in a list, and how many a list without repeats can have.
-use Rattle.std.proofs.Common.{◌≡◌, ℕ, ◌<◌, ◌⊎◌, inl, inr, sym, ap, ◌∙◌, subst, None, Some, List, [], ◌∷◌, ◌++◌, length, get_or, take, All, Contains, eqb, ltb, not, true, arith}
+use Rattle.std.proofs.Common.{◌≡◌, ℕ, ◌<◌, ◌⊎◌, inl, inr, sym, ap, ◌∙◌, subst, None, Some, List, [], ◌∷◌, ◌++◌}
+use Rattle.std.proofs.Common.{length, get_or, take, All, Contains, eqb, ltb, not, true, arith}
 use Rattle.std.specs.List.{position, position_or_len}
 use Rattle.std.proofs.lemmas.Bool.{cases_Bool, eqb-true, eq-eqb, ne_eqb, cond-true, false≢true, ltb-false, lt-ltb}
 use Rattle.std.proofs.lemmas.List.{get_or-take, length-take, get_or_default, length-append}
@@ -15,23 +16,27 @@ use Rattle.std.proofs.lemmas.Map.Keys.{IsDistinct-push, IsDistinct-from_apart}
 use Rattle.std.proofs.lemmas.Map.Made.{is_member-Decides, length-le_from_is_member}
 use Rattle.std.proofs.lemmas.List.Sums.{prefix_len_passes, position_or_len_is}
 
-pub position-found : (places : List ℕ) (place k : ℕ) → position (λ p. eqb p place) places ≡ Some k → (k < length places) × (get_or places k 0 ≡ place)
+pub position-found : (places : List ℕ) (place k : ℕ) → position (λ p. eqb p place) places ≡ Some k
+    → (k < length places) × (get_or places k 0 ≡ place)
 position-found places place k e =
     let at = position-Some (λ p. eqb p place) places k 0 e in
     (at.0, eqb-true (get_or places k 0) place at.1)
 
-pub position-absent : (places : List ℕ) (place : ℕ) → position (λ p. eqb p place) places ≡ None → Contains places place → ⊥
+pub position-absent : (places : List ℕ) (place : ℕ) → position (λ p. eqb p place) places ≡ None
+    → Contains places place → ⊥
 position-absent places place e (k, in_k, is) =
     let n = position_or_len (λ p. eqb p place) places in
     elim (cases_Bool (ltb n (length places))) [
       | inl found ↦ let s : Some n ≡ None = sym (cond-true (ltb n (length places)) (Some n) None found) ∙ e in cc s
       | inr past ↦
-          let passes = prefix_len_passes (λ p. not (eqb p place)) places k place (omega (arith, ltb-false n (length places) past)) in
+          let passes = prefix_len_passes (λ p. not (eqb p place)) places k place
+          (omega (arith, ltb-false n (length places) past)) in
           false≢true (sym (ap not (eq-eqb (get_or places k place) place is)) ∙ passes)
     ]
 
 -- a list with no repeats, another place and a list that has them all
-pub crowded : (places list : List ℕ) (place : ℕ) → ((i j : ℕ) → i < length places → j < length places → get_or places i 0 ≡ get_or places j 0 → i ≡ j)
+pub crowded : (places list : List ℕ) (place : ℕ)
+    → ((i j : ℕ) → i < length places → j < length places → get_or places i 0 ≡ get_or places j 0 → i ≡ j)
     → (Contains places place → ⊥) → All (Contains list) places → Contains list place → length places < length list
 crowded places list place distinct new all one =
     let more = places ++ place ∷ [] in
@@ -46,12 +51,20 @@ crowded places list place distinct new all one =
     (false_from_ne_true (is_member eqb places place) (λ e. new
     ((is_member-Decides Decides-eqb places place).0 e))) in
     let within : (q : ℕ) → is_member eqb more q ≡ true → is_member eqb list q ≡ true =
-    λ q e. (is_member-Decides Decides-eqb list q).1 (All-contains (Contains list) more q (All-push (Contains list) places place all one) ((is_member-Decides Decides-eqb more q).0 e)) in
-    omega (arith, length-le_from_is_member nat_eq_equiv more list distinct_more within, length-append places (place ∷ []))
+    λ q e. (is_member-Decides Decides-eqb list q).1 (All-contains (Contains list) more q
+    (All-push (Contains list) places place all one) ((is_member-Decides Decides-eqb more q).0 e)) in
+    omega (
+      arith,
+      length-le_from_is_member nat_eq_equiv more list distinct_more within,
+      length-append places
+          (place ∷ []),
+    )
 
 -- the places before the end of an array are as apart as those of the array
-pub distinct-take : (numbers : List ℕ) (n : ℕ) → ((i j : ℕ) → i < n → j < n → get_or numbers i 0 ≡ get_or numbers j 0 → i ≡ j)
-    → (i j : ℕ) → i < length (take n numbers) → j < length (take n numbers) → get_or (take n numbers) i 0 ≡ get_or (take n numbers) j 0 → i ≡ j
+pub distinct-take : (numbers : List ℕ) (n : ℕ)
+    → ((i j : ℕ) → i < n → j < n → get_or numbers i 0 ≡ get_or numbers j 0 → i ≡ j)
+    → (i j : ℕ) → i < length (take n numbers) → j < length (take n numbers)
+    → get_or (take n numbers) i 0 ≡ get_or (take n numbers) j 0 → i ≡ j
 distinct-take numbers n distinct i j in_i in_j same =
     let in_i' : i < n = omega (arith, length-take n numbers) in
     let in_j' : j < n = omega (arith, length-take n numbers) in
@@ -63,27 +76,37 @@ pub record HasPut (old new : List ℕ) (place : ℕ) : Type 0 where
   pub keeps : (other : ℕ) → Contains old other → Contains new other
   pub needs : (list : List ℕ) → All (Contains list) old → Contains list place → All (Contains list) new
 
-pub put-kept : (old new : List ℕ) (place : ℕ) → ((new ≡ old) × Contains old place) ⊎ (new ≡ old ++ place ∷ []) → HasPut old new place
+pub put-kept : (old new : List ℕ) (place : ℕ) → ((new ≡ old) × Contains old place) ⊎ (new ≡ old ++ place ∷ [])
+    → HasPut old new place
 put-kept old new place (inl (same, there)) =
-    subst (λ (x : List ℕ). HasPut old x place) (sym same) (record { has = there; keeps = λ other h. h; needs = λ list all one. all })
+    subst (λ (x : List ℕ). HasPut old x place) (sym same)
+    (record { has = there; keeps = λ other h. h; needs = λ list all one. all })
 put-kept old new place (inr more) =
     subst (λ (x : List ℕ). HasPut old x place) (sym more)
-    (record { has = Contains-push old place; keeps = λ other h. Contains-append_left old (place ∷ []) other h; needs = λ list all one. All-push (Contains list) old place all one })
+    (record {
+      has = Contains-push old place;
+      keeps = λ other h. Contains-append_left old (place ∷ []) other h;
+      needs = λ list all one. All-push (Contains list) old place all one;
+    })
 
 -- in a list with no repeats, the position of a place is where it was seen
-pub position-is : (places : List ℕ) (place k : ℕ) → ((i j : ℕ) → i < length places → j < length places → get_or places i 0 ≡ get_or places j 0 → i ≡ j)
+pub position-is : (places : List ℕ) (place k : ℕ)
+    → ((i j : ℕ) → i < length places → j < length places → get_or places i 0 ≡ get_or places j 0 → i ≡ j)
     → k < length places → get_or places k 0 ≡ place → position (λ p. eqb p place) places ≡ Some k
 position-is places place k distinct in_k at =
     let first : position_or_len (λ p. eqb p place) places ≡ k =
     position_or_len_is (λ p. eqb p place) places k 0 (omega arith)
-    (λ j less. ne_eqb (get_or places j 0) place (λ same. absurd (omega (arith, distinct j k (omega arith) in_k (same ∙ sym at)))))
+    (λ j less. ne_eqb (get_or places j 0) place (λ same. absurd
+    (omega (arith, distinct j k (omega arith) in_k (same ∙ sym at)))))
     (λ _. eq-eqb (get_or places k 0) place at)
     in
     rw first (cond-true (ltb k (length places)) (Some k) None (lt-ltb k (length places) in_k))
 
 -- the numbers before the end of an array are in range, if those of the array are
-pub in-range : (numbers : List ℕ) (n place : ℕ) → ((i : ℕ) → i < n → IsInRange 1 4294967295 (get_or numbers i 0)) → Contains (take n numbers) place → IsInRange 1 4294967295 place
+pub in-range : (numbers : List ℕ) (n place : ℕ) → ((i : ℕ) → i < n → IsInRange 1 4294967295 (get_or numbers i 0))
+    → Contains (take n numbers) place → IsInRange 1 4294967295 place
 in-range numbers n place valid (k, in_k, is) =
     let in_n : k < n = omega (arith, length-take n numbers) in
     let in_numbers : k < length numbers = omega (arith, length-take n numbers) in
-    subst (IsInRange 1 4294967295) (get_or_default numbers k 0 place in_numbers ∙ sym (get_or-take n numbers k place in_n) ∙ is) (valid k in_n)
+    subst (IsInRange 1 4294967295) (get_or_default numbers k 0 place in_numbers ∙ sym
+    (get_or-take n numbers k place in_n) ∙ is) (valid k in_n)

@@ -1,6 +1,6 @@
 -- Chains of rows of a travel table, and the driving times that they give.
 use Rattle.std.specs.Prelude.{◌≡◌, ℕ, ◌<◌, ◌≤◌, List, [], ◌∷◌, Option, None, Some, Contains, sum_by}
-use Rattle.pt_base.specs.Ranges.{last_minute}
+use Rattle.pt_base_values.specs.Ranges.{last_minute}
 
 -- a row of a travel table: from one place, to another, and the minutes of the drive
 abbrev pub Row : Type 0

@@ -1,7 +1,7 @@
 -- The driving times that a closed table returns.
 use Rattle.std.specs.Prelude.{ℕ, List, Option, None, Some, ◌==◌, nat_le, if◌then◌else◌}
 use Rattle.std.specs.List.{position}
-use Rattle.pt_base.specs.Ranges.{last_minute}
+use Rattle.pt_base_values.specs.Ranges.{last_minute}
 use Rattle.pt_travel.specs.Matrix.{entry}
 
 -- the minutes if they are within a day, else None

@@ -2,7 +2,7 @@
 -- places.
 use Rattle.std.specs.Prelude.{◌≡◌, ℕ, ◌<◌, ◌≤◌, List, [], ◌∷◌, length, slice_index}
 use Rattle.pt_travel.specs.Chain.{Row, IsChain, total_of}
-use Rattle.pt_travel.specs.Matrix.{entry, IsCapped}
+use Rattle.pt_travel.specs.Matrix.{entry, IsCapped, no_way}
 
 -- each place between the ends of a chain is one of the places `Is`
 abbrev pub Via : (ℕ → Type 0) → List Row → Type 0
@@ -17,7 +17,7 @@ IsBelow table Is from to minutes = (chain : List Row) → IsChain table from to 
 
 -- some chain takes exactly these minutes, if they are within a day
 abbrev pub IsAttained : List Row → ℕ → ℕ → ℕ → Type 0
-IsAttained table from to minutes = minutes < 1440
+IsAttained table from to minutes = minutes < no_way
     → (chain : List Row) × IsChain table from to chain × (total_of chain ≡ minutes)
 
 -- a place is among the first k of a list

@@ -5,7 +5,7 @@ use Rattle.std.specs.Option.{IsSomeAnd}
 use Rattle.std.specs.List.{position}
 use Rattle.std.proofs.lemmas.Bool.{cases_eq, cases_Bool, eq-eqb, ne_eqb, le-leb, leb-true, cond-true, cond-false}
 use Rattle.std.proofs.lemmas.List.Quantifiers.{position-Some}
-use Rattle.pt_base.specs.Ranges.{last_minute}
+use Rattle.pt_base_values.specs.Ranges.{last_minute}
 use Rattle.pt_travel.specs.declared.closed.Closed.{Closed}
 use Rattle.pt_travel.specs.Matrix.{entry, HasTriangles}
 use Rattle.pt_travel.specs.Closed.{within_a_day, entry_at, minutes_between}

@@ -4,6 +4,7 @@ pub mod Closure
 pub mod Laws
 pub mod Matrix
 pub mod Places
+pub mod Reader
 pub mod Table
 pub mod Times
 pub mod Text

@@ -2,15 +2,15 @@
 use Rattle.std.specs.Prelude.{◌≡◌, ◌≢◌, ℕ, ◌+◌, ◌-◌, ◌*◌, ◌^◌, ◌<◌, ◌≤◌, ◌⊎◌, ◌↔◌, List, [], ◌∷◌, ◌++◌, length}
 use Rattle.std.specs.Prelude.{map, min, codes, slice_index_or, All, Contains}
 use Rattle.std.specs.List.{fold}
-use Rattle.pt_base.specs.Ranges.{last_minute}
+use Rattle.pt_base_values.specs.Ranges.{last_minute}
 use Rattle.csv.specs.Reading.{AreRecords, Reached, default_config, strip_bom}
 use Rattle.csv.specs.declared.parser.State.{State}
 use Rattle.csv.specs.declared.parser.State.TheVariants as state
-use Rattle.pt_base.specs.declared.fault.Fault.{Fault}
-use Rattle.pt_base.specs.declared.fault.Cause.{Cause}
-use Rattle.pt_base.specs.declared.fault.Cause.TheVariants as cause
+use Rattle.pt_base_values.specs.declared.fault.Fault.{Fault}
+use Rattle.pt_base_values.specs.Fault.{code_of, fault_at}
+use Rattle.pt_base_values.specs.declared.fault.Cause.TheVariants as cause
 use Rattle.pt_travel.specs.Chain.{Row}
-use Rattle.pt_travel.specs.Table.{Rises}
+use Rattle.pt_travel.specs.Table.{IsNewPair, Rises, most_places}
 
 -- a record of CSV: the bytes of its fields
 abbrev pub Record : Type 0
@@ -75,13 +75,14 @@ AreSound places records =
 abbrev pub IsSortedFrom : List Record → List Row → Type 0
 IsSortedFrom records rows = Rises rows × ((row : Row) → Contains rows row ↔ Contains (map row_of records) row)
 
--- what is wrong with a record, after others that are sound
-abbrev pub HasFault : List ℕ → List Record → Record → Cause → Type 0
-HasFault places earlier fields why =
-    ((why ≡ cause.TravelRecord) × (length fields ≢ 3))
-    ⊎ ((why ≡ cause.TravelPlace) × (length fields ≡ 3) × (NamesPlaces places fields → ⊥))
-    ⊎ ((why ≡ cause.TravelMinutes) × (length fields ≡ 3) × NamesPlaces places fields × (IsMinutes (field fields 2) → ⊥))
-    ⊎ ((why ≡ cause.TravelPair) × IsSound places fields × (other : Row) × Contains (map row_of earlier) other
+-- the code of what is wrong with a record, after others that are sound
+abbrev pub HasFault : List ℕ → List Record → Record → ℕ → Type 0
+HasFault places earlier fields code =
+    ((code ≡ code_of cause.TravelRecord) × (length fields ≢ 3))
+    ⊎ ((code ≡ code_of cause.TravelPlace) × (length fields ≡ 3) × (NamesPlaces places fields → ⊥))
+    ⊎ ((code ≡ code_of cause.TravelMinutes) × (length fields ≡ 3) × NamesPlaces places fields
+    × (IsMinutes (field fields 2) → ⊥))
+    ⊎ ((code ≡ code_of cause.TravelPair) × IsSound places fields × (other : Row) × Contains (map row_of earlier) other
     × Conflicts (row_of fields) other)
 
 -- what was read so far: nothing, or the header row and sound records below it, with their rows in order
@@ -97,14 +98,20 @@ number_after count = min (count + 1) (2 ^ 32 - 1)
 -- the fault of the record after those that were read so far
 abbrev pub IsNextFault : List ℕ → List Record → Record → Fault → Type 0
 IsNextFault places seen fields fault =
-    ((seen ≡ []) × (fault ≡ record { cause = cause.TravelHeader; row = 1 }) × (fields ≢ header))
+    ((seen ≡ []) × (fault ≡ fault_at cause.TravelHeader 1) × (fields ≢ header))
     ⊎ ((records : List Record) × (seen ≡ header ∷ records) × AreSound places records
-    × HasFault places records fields fault.cause
+    × HasFault places records fields fault.code
     × (fault.row ≡ number_after (length seen)))
+
+-- the record after those that were read so far adds a row: it is sound, and its pair of places is new
+abbrev pub AddsRow : List ℕ → List Record → Record → Type 0
+AddsRow places seen fields =
+    (records : List Record) × (seen ≡ header ∷ records) × AreSound places records × IsSound places fields
+    × IsNewPair (map row_of records) (row_of fields)
 
 -- a text reads as a table of these rows
 pub record ReadsAs (text places : List ℕ) (rows : List Row) : Type 0 where
-  pub few_places : length places ≤ 100
+  pub few_places : length places ≤ most_places
   pub records : List Record
   pub all_of_them : HasRecords text (header ∷ records)
   pub sound : AreSound places records
@@ -118,12 +125,12 @@ LacksHeader text = HasRecords text [] ⊎ ((first : Record) × BeginsWith text (
 abbrev pub FailsAt : List ℕ → List ℕ → Fault → Type 0
 FailsAt text places fault =
     (earlier : List Record) × (fields : Record) × BeginsWith text (header ∷ earlier ++ (fields ∷ []))
-    × AreSound places earlier × HasFault places earlier fields fault.cause
+    × AreSound places earlier × HasFault places earlier fields fault.code
     × (fault.row ≡ number_after (length earlier + 1))
 
 -- the first fault of a text: too many places, then no header row, then that of the first record that is not sound
 abbrev pub IsFirstFault : List ℕ → List ℕ → Fault → Type 0
 IsFirstFault text places fault =
-    ((fault ≡ record { cause = cause.TravelPlaces; row = 0 }) × (100 < length places))
-    ⊎ ((fault ≡ record { cause = cause.TravelHeader; row = 1 }) × (length places ≤ 100) × LacksHeader text)
-    ⊎ ((length places ≤ 100) × FailsAt text places fault)
+    ((fault ≡ fault_at cause.TravelPlaces 0) × (most_places < length places))
+    ⊎ ((fault ≡ fault_at cause.TravelHeader 1) × (length places ≤ most_places) × LacksHeader text)
+    ⊎ ((length places ≤ most_places) × FailsAt text places fault)

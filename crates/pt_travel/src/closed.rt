@@ -6,7 +6,7 @@ use crate::Times;
 use crate::matrix::{self, Line};
 use crate::places::Places;
 use crate::raw::{MOST_MINUTES, Raw};
-use pt_base::PlaceId;
+use pt_base_values::{Fault, PlaceId};
 use std::alloc::{AllocError, Global};
 
 /// The driving times by the least chains of a table's rows.
@@ -19,13 +19,16 @@ pub struct Closed {
 }
 
 impl Closed {
-    ghost use Rattle.std.specs.Prelude.{IfOk};
+    ghost use Rattle.std.specs.Prelude.{◌≡◌, IfErr, IfOk};
+    ghost use Rattle.pt_base_values.specs.Fault.{fault};
+    ghost use Rattle.pt_base_values.specs.declared.fault.Cause.TheVariants as cause;
     ghost use Rattle.pt_travel.specs.Chain.{IsTime};
     ghost use Rattle.pt_travel.specs.Times.{time_in};
 
-    /// The closure of a table. It asks for all its memory at once.
-    pub fn of(alloc: Global, raw: &Raw) -> Result<Self, AllocError>
+    /// The closure of a table. It asks for all its memory at once, and the fault is out of memory.
+    pub fn of(alloc: Global, raw: &Raw) -> Result<Self, Fault>
         ensures least { IfOk result (λ closed. (from to : ℕ) → IsTime raw.now from to (time_in closed from to)) }
+        ensures memory { IfErr result (λ refused. refused ≡ fault cause.Memory) }
     {
         let places = raw.places();
         let mut lines = matrix::direct(alloc, raw.rows(), &places)?;

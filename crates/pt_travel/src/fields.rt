@@ -4,7 +4,7 @@ ghost use Rattle.pt_travel.specs.Text.{IsDigits, IsMinutes, IsPlace, number_of};
 
 use crate::places::Places;
 use crate::raw::MOST_MINUTES;
-use pt_base::PlaceId;
+use pt_base_values::PlaceId;
 
 /// The place among these that a field of 1 to 10 digits names.
 pub(crate) fn place(field: &[u8], places: &Places) -> Option<PlaceId>

@@ -1,9 +1,9 @@
 ghost use Rattle.std.specs.Prelude.{◌≡◌, ℕ, ◌+◌, ◌==◌, ◌<◌, ◌≤◌, [], length, min, All, IfOk, if◌then◌else◌};
 ghost use Rattle.std.specs.Prelude.{slice_index, slice_index_or};
-ghost use Rattle.pt_travel.specs.Matrix.{entry, IsCapped, PutsRow};
+ghost use Rattle.pt_travel.specs.Matrix.{entry, IsCapped, PutsRow, no_way};
 ghost use Rattle.pt_travel.specs.Closure.{IsClosedOver};
 ghost use Rattle.pt_travel.specs.Places.{list_of};
-ghost use Rattle.pt_travel.specs.Table.{NamesOnly};
+ghost use Rattle.pt_travel.specs.Table.{NamesOnly, most_places};
 
 use crate::places::Places;
 use crate::raw::{MOST_PLACES, Row};
@@ -29,10 +29,10 @@ pub(crate) fn direct(alloc: Global, rows: &[Row], places: &Places) -> Result<Vec
 
 // The lines of n places before any row is put in: 0 from each place to itself, and no other way.
 fn apart(alloc: Global, n: usize) -> Result<Vec<Line>, AllocError>
-    requires { n ≤ 100 }
+    requires { n ≤ most_places }
     ensures size { IfOk result (λ lines. length lines.items ≡ n) }
-    ensures entries { IfOk result (λ lines. (i j : ℕ) → i < n → j < 100
-        → entry lines.items i j ≡ (if i == j then 0 else 1440)) }
+    ensures entries { IfOk result (λ lines. (i j : ℕ) → i < n → j < most_places
+        → entry lines.items i j ≡ (if i == j then 0 else no_way)) }
 {
     let mut lines = Vec::with_capacity(alloc, n)?;
     for i in 0..n {
@@ -42,8 +42,8 @@ fn apart(alloc: Global, n: usize) -> Result<Vec<Line>, AllocError>
 }
 
 fn alone(i: usize) -> Line
-    requires { i < 100 }
-    ensures { (j : ℕ) → j < 100 → slice_index result j ≡ (if i == j then 0 else 1440) }
+    requires { i < most_places }
+    ensures { (j : ℕ) → j < most_places → slice_index result j ≡ (if i == j then 0 else no_way) }
 {
     let mut line = [NO_WAY; MOST_PLACES];
     line[i] = 0;
@@ -64,10 +64,10 @@ fn put(lines: &mut Vec<Line>, places: &Places, row: &Row)
 /// Shortens each entry to the way over the place at `k`, if that is shorter.
 pub(crate) fn shorten(lines: &mut Vec<Line>, k: usize)
     requires in_range { k < length lines.old.items }
-    requires few { length lines.old.items ≤ 100 }
+    requires few { length lines.old.items ≤ most_places }
     requires capped { IsCapped lines.old.items }
     ensures size { length lines.new.items ≡ length lines.old.items }
-    ensures entries { (i j : ℕ) → i < length lines.old.items → j < 100
+    ensures entries { (i j : ℕ) → i < length lines.old.items → j < most_places
         → entry lines.new.items i j
         ≡ min (entry lines.old.items i j) (entry lines.old.items i k + entry lines.old.items k j) }
 {
@@ -78,11 +78,11 @@ pub(crate) fn shorten(lines: &mut Vec<Line>, k: usize)
 }
 
 fn shorten_line(line: &mut Line, middle: &Line, k: usize)
-    requires in_range { k < 100 }
-    requires capped { (j : ℕ) → j < 100 → slice_index line.old j ≤ 1440 }
-    requires middle_capped { (j : ℕ) → j < 100 → slice_index middle.now j ≤ 1440 }
-    ensures size { length line.new ≡ 100 }
-    ensures entries { (j : ℕ) → j < 100
+    requires in_range { k < most_places }
+    requires capped { (j : ℕ) → j < most_places → slice_index line.old j ≤ no_way }
+    requires middle_capped { (j : ℕ) → j < most_places → slice_index middle.now j ≤ no_way }
+    ensures size { length line.new ≡ most_places }
+    ensures entries { (j : ℕ) → j < most_places
         → slice_index line.new j ≡ min (slice_index line.old j) (slice_index line.old k + slice_index middle.now j) }
 {
     let first = line[k];

@@ -1,8 +1,9 @@
 ghost use Rattle.std.specs.Int.{IsInRange};
 ghost use Rattle.std.specs.Prelude.{◌≡◌, ℕ, ◌<◌, ◌≤◌, List, length, slice_index};
+ghost use Rattle.pt_travel.specs.Table.{most_places};
 
 use crate::raw::{MOST_PLACES, Row};
-use pt_base::PlaceId;
+use pt_base_values::PlaceId;
 
 /// The number of guesses at positions of places.
 const GUESSES: usize = 1024;
@@ -14,7 +15,7 @@ pub(crate) struct Places {
     len: usize,
     // For each hash, the position of the last place with that hash.
     guesses: [u8; GUESSES],
-    ghost within: { len ≤ 100 },
+    ghost within: { len ≤ most_places },
     ghost valid: { (i : ℕ) → i < len → IsInRange 1 4_294_967_295 (slice_index numbers i) },
     ghost distinct: { (i j : ℕ) → i < len → j < len → slice_index numbers i ≡ slice_index numbers j → i ≡ j },
 }
@@ -39,7 +40,7 @@ impl Places {
     /// The places that a table's rows name; `None` if they are more than 100.
     pub fn of(rows: &[Row]) -> Option<Self>
         ensures named { IfSome result (λ places. NamesOnly (list_of places) rows.now) }
-        ensures too_many { IsNone result → (list : List ℕ) → NamesOnly list rows.now → 100 < length list }
+        ensures too_many { IsNone result → (list : List ℕ) → NamesOnly list rows.now → most_places < length list }
     {
         let mut places = Places::none();
         for row in rows {
@@ -52,7 +53,7 @@ impl Places {
 
     /// Each place of a list of at most 100.
     pub fn from_list(list: &[PlaceId]) -> Self
-        requires { length list.now ≤ 100 }
+        requires { length list.now ≤ most_places }
         ensures { (place : ℕ) → Contains (list_of result) place ↔ Contains list.now place }
     {
         let mut places = Places::none();
@@ -66,7 +67,7 @@ impl Places {
     fn insert(&mut self, place: PlaceId) -> bool
         ensures kept { OnTrue result (((list_of self.new ≡ list_of self.old) × Contains (list_of self.old) place)
             ⊎ (list_of self.new ≡ list_of self.old ++ place ∷ [])) }
-        ensures full { OnFalse result ((length (list_of self.old) ≡ 100)
+        ensures full { OnFalse result ((length (list_of self.old) ≡ most_places)
             × (Contains (list_of self.old) place → ⊥)) }
     {
         if self.position(place).is_some() {
@@ -84,7 +85,7 @@ impl Places {
     /// The number of places.
     pub fn len(&self) -> usize
         ensures value { result ≡ length (list_of self.now) }
-        ensures within { result ≤ 100 }
+        ensures within { result ≤ most_places }
     {
         self.len
     }

@@ -1,10 +1,10 @@
 ghost use Rattle.std.specs.Prelude.{◌≡◌, ◌≤◌, ◌↔◌, All, IsSome, IfSome, IfOk, IsTrue};
-ghost use Rattle.pt_base.specs.Ranges.{last_minute};
+ghost use Rattle.pt_base_values.specs.Ranges.{last_minute};
 ghost use Rattle.pt_travel.specs.Table.{ComesBefore, NamesOnly, Rises, IsTable};
 ghost use Rattle.pt_travel.specs.Places.{list_of};
 
 use crate::places::Places;
-use pt_base::{LAST_MINUTE, PlaceId};
+use pt_base_values::{LAST_MINUTE, PlaceId};
 use std::alloc::{AllocError, Global};
 use std::marker::Model;
 

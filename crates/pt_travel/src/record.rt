@@ -1,17 +1,18 @@
 ghost use Rattle.std.specs.Prelude.{◌≡◌, ℕ, ◌⊎◌, ◌↔◌, List, [], ◌∷◌, ◌++◌, length, slice_index_or};
 ghost use Rattle.std.specs.Prelude.{IsTrue, IfOk, OnOk, IfErr};
 ghost use Rattle.csv.specs.Records.{fields_of};
-ghost use Rattle.pt_base.specs.declared.fault.Cause.TheVariants as cause;
+ghost use Rattle.pt_base_values.specs.Fault.{code_of, fault_at};
+ghost use Rattle.pt_base_values.specs.declared.fault.Cause.TheVariants as cause;
 ghost use Rattle.pt_travel.specs.Places.{list_of};
 ghost use Rattle.pt_travel.specs.Table.{Rises};
-ghost use Rattle.pt_travel.specs.Text.{HasFault, IsNextFault, IsReadSoFar, IsSound, Record};
+ghost use Rattle.pt_travel.specs.Text.{AddsRow, HasFault, IsNextFault, IsReadSoFar, IsSound, Record};
 ghost use Rattle.pt_travel.specs.Text.{header, number_after, row_of};
 
 use crate::places::Places;
 use crate::raw::Row;
 use crate::{fields, sorted};
 use csv::ByteRecord;
-use pt_base::{Cause, Fault};
+use pt_base_values::{Cause, Fault};
 
 /// Takes the record of this number: the header row, or a row that is put among the others in order.
 pub(crate) fn take(
@@ -24,17 +25,17 @@ pub(crate) fn take(
     ensures taken { OnOk result ((seen : List Record) → number ≡ number_after (length seen)
         → IsReadSoFar (list_of places.now) seen rows.old.items
         → IsReadSoFar (list_of places.now) (seen ++ fields_of given.now ∷ []) rows.new.items) }
-    ensures faulty { IfErr result (λ fault. (fault ≡ record { cause = cause.Memory; row = 0 })
-        ⊎ ((seen : List Record) → number ≡ number_after (length seen)
+    ensures faulty { IfErr result (λ fault. (seen : List Record) → number ≡ number_after (length seen)
         → IsReadSoFar (list_of places.now) seen rows.old.items
-        → IsNextFault (list_of places.now) seen (fields_of given.now) fault)) }
+        → ((fault ≡ fault_at cause.Memory 0) × AddsRow (list_of places.now) seen (fields_of given.now))
+        ⊎ IsNextFault (list_of places.now) seen (fields_of given.now) fault) }
 {
     if number == 1 {
         return header(given);
     }
     match row(given, places) {
         Ok(row) => sorted::put(rows, row, number),
-        Err(cause) => Err(Fault { cause, row: number }),
+        Err(cause) => Err(Fault::at(cause, number)),
     }
 }
 
@@ -42,7 +43,7 @@ pub(crate) fn take(
 #[tactic(auto, using(crate::proofs::RecordLemmas::header_from))]
 fn header(given: &ByteRecord) -> Result<(), Fault>
     ensures header { OnOk result (fields_of given.now ≡ header) }
-    ensures other { IfErr result (λ fault. (fault ≡ record { cause = cause.TravelHeader; row = 1 })
+    ensures other { IfErr result (λ fault. (fault ≡ fault_at cause.TravelHeader 1)
         × (fields_of given.now ≡ header → ⊥)) }
 {
     if given.len() == 3
@@ -52,10 +53,7 @@ fn header(given: &ByteRecord) -> Result<(), Fault>
     {
         return Ok(());
     }
-    Err(Fault {
-        cause: Cause::TravelHeader,
-        row: 1,
-    })
+    Err(Fault::at(Cause::TravelHeader, 1))
 }
 
 // The row that a record spells, or the cause of its fault.
@@ -63,7 +61,7 @@ fn row(given: &ByteRecord, places: &Places) -> Result<Row, Cause>
     ensures sound { IfOk result (λ row. IsSound (list_of places.now) (fields_of given.now)
         × (row ≡ row_of (fields_of given.now))) }
     ensures faulty { IfErr result (λ why. (earlier : List Record)
-        → HasFault (list_of places.now) earlier (fields_of given.now) why) }
+        → HasFault (list_of places.now) earlier (fields_of given.now) (code_of why)) }
 {
     if given.len() != 3 {
         return Err(Cause::TravelRecord);

@@ -1,10 +1,11 @@
 ghost use Rattle.std.specs.Prelude.{◌≡◌, ℕ, ◌<◌, ◌≤◌, ◌⊎◌, ◌↔◌, length, slice_index_or, Contains, IsTrue, OnOk, IfErr};
-ghost use Rattle.pt_base.specs.declared.fault.Cause.TheVariants as cause;
-ghost use Rattle.pt_travel.specs.Table.{ComesBefore, Rises};
+ghost use Rattle.pt_base_values.specs.Fault.{fault_at};
+ghost use Rattle.pt_base_values.specs.declared.fault.Cause.TheVariants as cause;
+ghost use Rattle.pt_travel.specs.Table.{ComesBefore, IsNewPair, Rises};
 ghost use Rattle.pt_travel.specs.Text.{Conflicts};
 
 use crate::raw::{Row, comes_before};
-use pt_base::{Cause, Fault};
+use pt_base_values::{Cause, Fault};
 use std::alloc::AllocError;
 
 /// Puts a row among others in order, unless it is there; `number` is the number of its record.
@@ -13,8 +14,8 @@ pub(crate) fn put(rows: &mut Vec<Row>, row: Row, number: u32) -> Result<(), Faul
     ensures rises { OnOk result (Rises rows.new.items) }
     ensures rows { OnOk result ((other : ℕ × ℕ × ℕ) → Contains rows.new.items other
         ↔ (Contains rows.old.items other ⊎ (other ≡ row))) }
-    ensures refused { IfErr result (λ fault. (fault ≡ record { cause = cause.Memory; row = 0 })
-        ⊎ ((fault ≡ record { cause = cause.TravelPair; row = number }) × (other : ℕ × ℕ × ℕ)
+    ensures refused { IfErr result (λ fault. ((fault ≡ fault_at cause.Memory 0) × IsNewPair rows.old.items row)
+        ⊎ ((fault ≡ fault_at cause.TravelPair number) × (other : ℕ × ℕ × ℕ)
         × Contains rows.old.items other × Conflicts row other)) }
 {
     let k = place_for(rows, &row);
@@ -22,10 +23,7 @@ pub(crate) fn put(rows: &mut Vec<Row>, row: Row, number: u32) -> Result<(), Faul
         if rows[k].2 == row.2 {
             return Ok(());
         }
-        return Err(Fault {
-            cause: Cause::TravelPair,
-            row: number,
-        });
+        return Err(Fault::at(Cause::TravelPair, number));
     }
     match rows.insert(k, row) {
         Ok(()) => Ok(()),

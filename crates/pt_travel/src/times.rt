@@ -1,7 +1,7 @@
 ghost use Rattle.std.specs.Prelude.{◌≡◌, ℕ, ◌+◌, ◌≤◌, Option, Some, IfSome, IsSomeAnd};
-ghost use Rattle.pt_base.specs.Ranges.{last_minute};
+ghost use Rattle.pt_base_values.specs.Ranges.{last_minute};
 
-use pt_base::PlaceId;
+use pt_base_values::PlaceId;
 
 /// Driving times between places, in minutes, with the laws that planning relies on.
 pub trait Times {

@@ -1,7 +1,7 @@
 //! The planner's answers over the plain, if its conditions hold.
 use crate::times::Plain;
 use pt_audit::{Log, check};
-use pt_insertion::{Asked, Chosen, Duty, are_rising, are_without, best};
+use pt_insertion_search::{Asked, Chosen, Duty, are_rising, are_without, best};
 use std::test::Fail;
 
 /// The best place of the trip.

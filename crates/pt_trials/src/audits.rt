@@ -3,8 +3,8 @@ use crate::asking::is_right;
 use crate::four_places::Place::{A, Away, B};
 use crate::four_places::{asked, empty, seated, vehicle};
 use pt_audit::{End, Line, Raise, read_log};
-use pt_base::{Cause, Fault};
-use pt_insertion::{Asked, Duty};
+use pt_base_values::{Cause, Fault};
+use pt_insertion_search::{Asked, Duty};
 use std::alloc::Global;
 use std::process::Abort;
 use std::test::Fail;
@@ -147,14 +147,7 @@ fn finds_the_first_row_out_of_form(rt: HostRuntime) -> Result<(), Fail> {
         ("AUDIT 1\n\nDONE\n", 2),
     ] {
         let fault = read_log(rt.alloc(), text.as_bytes()).err();
-        assert_eq!(rt;
-            fault,
-            Some(Fault {
-                cause: Cause::LogLine,
-                row
-            }),
-            "{text}"
-        );
+        assert_eq!(rt; fault, Some(Fault::at(Cause::LogLine, row)), "{text}");
     }
     let log = read_log(
         rt.alloc(),

@@ -2,13 +2,13 @@
 //! From A it is 30 to B and 10 to C; from B it is 25 to C.
 ghost use Rattle.std.specs.Prelude.{◌≤◌};
 ghost use Rattle.std.specs.Int.{IsInRange};
-ghost use Rattle.pt_base.specs.Ranges.{last_minute};
+ghost use Rattle.pt_base_values.specs.Ranges.{last_minute};
 
 use crate::numbers::minute;
 use crate::times::Plain;
-use pt_base::{Day, Load, Minute, PlaceId, TripId, Vehicle, VehicleId, Weekdays};
+use pt_base_values::{Day, Load, Minute, PlaceId, TripId, Vehicle, VehicleId, Weekdays};
 use pt_feasible::Route;
-use pt_insertion::Asked;
+use pt_insertion_search::Asked;
 use pt_travel::Times;
 use std::alloc::Global;
 

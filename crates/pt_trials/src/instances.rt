@@ -3,9 +3,9 @@ ghost use Rattle.std.specs.Prelude.{◌≤◌};
 
 use crate::dice::Dice;
 use crate::numbers::minute;
-use pt_base::{Day, Load, Minute, PlaceId, TripId, Vehicle, VehicleId, Weekdays};
+use pt_base_values::{Day, Load, Minute, PlaceId, TripId, Vehicle, VehicleId, Weekdays};
 use pt_feasible::{Route, Stop};
-use pt_insertion::Asked;
+use pt_insertion_search::Asked;
 use std::alloc::{AllocError, Global};
 use std::test::Fail;
 

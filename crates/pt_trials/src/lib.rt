@@ -1,15 +1,11 @@
-//! Examples for the planner's crates and for logs of refusals. These, case files and visitors' days are also compared
-//! with plain second evaluations, over many cases from fixed seeds. `tests/second_desk` compares the whole desk.
+//! Examples for the planner's crates and for logs of refusals. The best place of a trip and logs are also compared with
+//! plain second evaluations, over many cases from fixed seeds. `tests/second_desk` compares the whole desk.
 #![tactic(auto)]
 
 #[cfg(test)]
 mod asking;
 #[cfg(test)]
 mod audits;
-#[cfg(test)]
-mod case_files;
-#[cfg(test)]
-mod corridor;
 #[cfg(test)]
 mod dice;
 #[cfg(test)]
@@ -29,14 +25,8 @@ mod plain;
 #[cfg(test)]
 mod routes;
 #[cfg(test)]
-mod service_times;
-#[cfg(test)]
 mod table_rows;
 #[cfg(test)]
 mod times;
-#[cfg(test)]
-mod travel;
-#[cfg(test)]
-mod visitors;
 #[cfg(test)]
 mod written_logs;

@@ -7,8 +7,8 @@ use crate::instances::{Shape, asked, route, vehicle};
 use crate::plain;
 use crate::times::Plain;
 use pt_audit::{End, Line, Log, Raise, read_log};
-use pt_insertion::{Asked, Duty, are_rising, are_without, best};
 use pt_insertion_log::explain;
+use pt_insertion_search::{Asked, Duty, are_rising, are_without, best};
 use std::alloc::{AllocError, Global};
 use std::test::Fail;
 

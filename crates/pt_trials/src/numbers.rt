@@ -1,10 +1,5 @@
-//! Days and minutes by their numbers.
-use pt_base::{Day, FIRST_DAY, LAST_DAY, LAST_MINUTE, Minute};
-
-/// The day; the first or the last one if the number is out of range.
-pub fn day(number: u32) -> Day {
-    Day::of(number.clamp(FIRST_DAY, LAST_DAY)).unwrap()
-}
+//! Minutes by their numbers.
+use pt_base_values::{LAST_MINUTE, Minute};
 
 /// The minute; the last of the day if the number is out of range.
 pub fn minute(number: u32) -> Minute {

@@ -1,9 +1,9 @@
 //! A plain check of a log: it builds each case's list of stops anew, and uses wide numbers.
 use crate::times::Plain;
 use pt_audit::{End, Line, Raise, Visit};
-use pt_base::Vehicle;
+use pt_base_values::Vehicle;
 use pt_feasible::{MAX_STOPS, Route, Stop, StopKind, Stops};
-use pt_insertion::{Asked, Duty};
+use pt_insertion_search::{Asked, Duty};
 use pt_travel::Times;
 use std::alloc::{AllocError, Global};
 

@@ -1,14 +1,14 @@
 //! Routes with their times, as examples.
 ghost use Rattle.std.specs.Prelude.{◌≡◌, ◌+◌, ◌<◌, ◌≤◌, length};
 ghost use Rattle.std.specs.Int.{IsInRange};
-ghost use Rattle.pt_base.specs.Ranges.{last_minute};
+ghost use Rattle.pt_base_values.specs.Ranges.{last_minute};
 ghost use Rattle.pt_feasible.specs.Route.{stops_of};
 
 use crate::four_places::Place::{A, Away, B, Depot, Far};
 use crate::four_places::{Place, seated, vehicle};
 use crate::numbers::minute;
 use crate::times::Plain;
-use pt_base::{Minute, TripId, Vehicle};
+use pt_base_values::{Minute, TripId, Vehicle};
 use pt_feasible::{
     Passes, Route, Stop, StopKind, Stops, earliest_times, latest_times, loads_fit, settle,
     settle_counted, settle_from,
@@ -94,7 +94,7 @@ fn fits<L: Ledger>(route: &Route, vehicle: &Vehicle, blank: Blank) -> bool
     requires some { 0 < L.parts }
     requires two { length (stops_of route.now) ≡ 2 }
 {
-    fits_in_five_passes(route, vehicle, &mut Passes::<L>::none(blank))
+    fits_in_five_passes(route, vehicle, &mut Passes::<L>::new(blank))
 }
 
 #[test]

@@ -1,5 +1,5 @@
 //! Tables of driving times, as examples.
-use pt_base::{Cause, Fault, PlaceId};
+use pt_base_values::{Cause, Fault, PlaceId};
 use pt_travel::{Closed, Raw, Row, Times};
 use std::alloc::{AllocError, Global};
 use std::test::Fail;

@@ -1,7 +1,7 @@
 ghost use Rattle.std.specs.Prelude.{◌≡◌};
 ghost use Rattle.pt_feasible.specs.Plain.{plain_minutes, plain-stays, plain-within_a_day, plain-triangle};
 
-use pt_base::PlaceId;
+use pt_base_values::PlaceId;
 use pt_travel::Times;
 
 /// Driving times between places by their numbers, whose last six digits are three east and three north.

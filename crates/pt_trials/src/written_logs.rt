@@ -2,9 +2,9 @@
 use crate::four_places::Place::{A, Away, B};
 use crate::four_places::{asked, empty, seated, vehicle};
 use crate::times::Plain;
-use pt_base::{Cause, Fault};
-use pt_insertion::{Asked, Duty, are_rising, are_without, best};
+use pt_base_values::{Cause, Fault};
 use pt_insertion_log::explain;
+use pt_insertion_search::{Asked, Duty, are_rising, are_without, best};
 use std::io::{ErrorKind, Write};
 use std::test::Fail;
 

@@ -1,5 +1,5 @@
-use Rattle.pt_insertion.proofs.BetweenLemmas.{old_times_fit}
-use Rattle.pt_laws.proofs.old_schedules_are_floors.Goals as goal
+use Rattle.pt_insertion_search.proofs.BetweenLemmas.{old_times_fit}
+use Rattle.pt_desk_planning_laws.proofs.old_schedules_are_floors.Goals as goal
 
 pub returns : goal.returns
 returns c = λ minutes vehicle asked i j stops least b law day later new is fits.

@@ -9,7 +9,7 @@ use crate::grouped::entry_texts::{
 };
 use crate::stored::Stored;
 use pt_desk_rules::FiledEntry;
-use pt_spelling::entry_number;
+use pt_desk_spelling::entry_number;
 use pt_tables_rows::tables::Entries;
 use sqlite::{Alter, Error, Transaction, params};
 

@@ -7,8 +7,8 @@ ghost use Rattle.pt_tables_rows.specs.Rows.{conditions_text, entry_conditions};
 ghost use Rattle.pt_tables_writing.specs.declared.grouped.entry_texts.TheConstants.{LONGEST_CONDITIONS};
 
 use arrayvec::ArrayVec;
-use pt_conditions::condition_text;
-use pt_rights::{Entry, Grant};
+use pt_rights_conditions::condition_text;
+use pt_rights_files::{Entry, Grant};
 use sqlite::types::{ToSql, ValueRef};
 
 /// How many bytes the conditions of a grant have at most: four of 43, and three semicolons.

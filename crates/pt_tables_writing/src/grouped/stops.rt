@@ -1,5 +1,5 @@
 ghost use Rattle.std.specs.Prelude.{◌≡◌, ◌<◌, ◌^◌, ◌∷◌, [], drop, length, take};
-ghost use Rattle.pt_scheduling.specs.Plan.{plan_key};
+ghost use Rattle.pt_desk_scheduling.specs.Plan.{plan_key};
 ghost use Rattle.pt_tables_rows.specs.Rows.{stop_number, stop_row, stop_rows, stop_rows_from};
 ghost use Rattle.pt_tables_rows.specs.Schema.{stops_table};
 ghost use Rattle.pt_tables_rows.specs.Tables.{IsStoredPlan};
@@ -8,9 +8,9 @@ ghost use Rattle.pt_tables_writing.specs.Step.{Writes};
 ghost use Rattle.pt_tables_writing.specs.Writes.{Replaces};
 
 use crate::stored::Stored;
-use pt_base::{Day, VehicleId};
+use pt_base_values::{Day, VehicleId};
+use pt_desk_scheduling::{Plan, PlannedStop};
 use pt_feasible::StopKind;
-use pt_scheduling::{Plan, PlannedStop};
 use pt_tables_rows::tables::Plans;
 use sqlite::{Alter, Error, Transaction, params};
 

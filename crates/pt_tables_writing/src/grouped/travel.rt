@@ -5,7 +5,7 @@ ghost use Rattle.pt_tables_writing.specs.Grouped.{Adds};
 ghost use Rattle.pt_tables_writing.specs.Step.{Writes};
 
 use crate::stored::Stored;
-use pt_base::Day;
+use pt_base_values::Day;
 use pt_desk_rules::TravelTable;
 use pt_tables_rows::tables::TravelTables;
 use pt_travel::Row;

@@ -5,8 +5,8 @@ ghost use Rattle.pt_tables_writing.specs.Grouped.{Adds};
 ghost use Rattle.pt_tables_writing.specs.Step.{Writes};
 
 use crate::stored::Stored;
-use pt_base::Vehicle;
-use pt_spelling::days_byte;
+use pt_base_values::Vehicle;
+use pt_desk_spelling::days_byte;
 use pt_tables_rows::tables::Vehicles;
 use sqlite::{Alter, Error, Transaction, params};
 

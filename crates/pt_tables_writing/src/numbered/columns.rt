@@ -2,12 +2,12 @@
 
 ghost use Rattle.std.specs.Prelude.{◌≡◌, ◌≤◌, ◌+◌, ◌++◌, length, flat_map};
 ghost use Rattle.sqlite.specs.declared.types.Value.TheVariants.{Int};
-ghost use Rattle.pt_spelling.specs.Fields.{signed_bytes};
-ghost use Rattle.pt_spelling.specs.Requests.{kind_number, point_bytes};
+ghost use Rattle.pt_desk_spelling.specs.Fields.{signed_bytes};
+ghost use Rattle.pt_desk_spelling.specs.Requests.{kind_number, point_bytes};
 ghost use Rattle.pt_tables_rows.specs.Rows.{optional_value, status_number};
 
 use arrayvec::ArrayVec;
-use pt_base::{Minute, Residence, TripStatus};
+use pt_base_values::{Minute, Residence, TripStatus};
 use pt_corridor::FixedRoute;
 
 /// How many bytes the points of a route have at most.
@@ -60,7 +60,7 @@ pub(crate) fn points_bytes(route: &FixedRoute) -> ArrayVec<u8, MOST_POINT_BYTES>
 }
 
 /// Adds a signed number as its two's complement, the most significant byte first.
-#[tactic(auto, unfolding(pt_spelling::specs::Fields::number_bytes))]
+#[tactic(auto, unfolding(pt_desk_spelling::specs::Fields::number_bytes))]
 fn push_signed(number: i32, out: &mut ArrayVec<u8, MOST_POINT_BYTES>)
     requires { length out.old.items + 4 ≤ MOST_POINT_BYTES }
     ensures text { out.new.items ≡ out.old.items ++ signed_bytes number }

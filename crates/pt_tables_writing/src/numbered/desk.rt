@@ -7,7 +7,7 @@ ghost use Rattle.pt_tables_rows.specs.Schema.{desk_schema, desk_table};
 ghost use Rattle.pt_tables_writing.specs.Step.{Writes};
 ghost use Rattle.pt_tables_writing.specs.Writes.{Rewrites, RaisesVersion};
 
-use pt_base::Policy;
+use pt_base_values::Policy;
 use pt_tables_rows::{DESK, TABLE_VERSION};
 use sqlite::{Alter, Error, Transaction, params};
 

@@ -1,7 +1,7 @@
 use Rattle.std.proofs.Common.{◌≡◌, ℕ, Option, None, Some, codes, refl}
 use Rattle.clap.specs.Words.{found_of, rows_of}
-use Rattle.pt_command_line.specs.Line.{HasWordThat, IsByWord}
-use Rattle.pt_command_line.proofs.asked.by_at.Goals as goal
+use Rattle.pt_app_command_line.specs.Line.{HasWordThat, IsByWord}
+use Rattle.pt_app_command_line.proofs.asked.by_at.Goals as goal
 
 pub returns-in_err-minute_at-in_default-clause-none : goal.returns-in_err-minute_at-in_default-clause-none
 returns-in_err-minute_at-in_default-clause-none c = λ none by.

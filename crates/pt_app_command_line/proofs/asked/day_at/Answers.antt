@@ -1,6 +1,6 @@
 use Rattle.std.proofs.Common.{◌≡◌, subst}
-use Rattle.pt_base.specs.SpelledDay.{SpellsDay}
-use Rattle.pt_command_line.proofs.asked.day_at.Goals as goal
+use Rattle.pt_base_values.specs.SpelledDay.{SpellsDay}
+use Rattle.pt_app_command_line.proofs.asked.day_at.Goals as goal
 
 pub returns-clause-none : goal.returns-clause-none
 returns-clause-none c = λ none day has.

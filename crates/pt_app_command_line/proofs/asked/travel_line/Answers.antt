@@ -1,7 +1,7 @@
 use Rattle.std.proofs.Common.{refl}
 use Rattle.clap.specs.Words.{found_of, rows_of}
-use Rattle.pt_command_line.proofs.LineLemmas.{travel_day, travel_number}
-use Rattle.pt_command_line.proofs.asked.travel_line.Goals as goal
+use Rattle.pt_app_command_line.proofs.LineLemmas.{travel_day, travel_number}
+use Rattle.pt_app_command_line.proofs.asked.travel_line.Goals as goal
 
 pub returns-in_err-number_at-clause-none : goal.returns-in_err-number_at-clause-none
 returns-in_err-number_at-clause-none c = λ none asked asks.

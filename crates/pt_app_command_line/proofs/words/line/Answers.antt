@@ -1,11 +1,11 @@
 use Rattle.std.proofs.Common.{◌≡◌, ◌∙◌, Global, map, refl, string_bytes, subst, sym}
-use Rattle.pt_base.specs.Fault.{fault}
-use Rattle.pt_base.specs.declared.fault.Cause.TheVariants as cause
-use Rattle.pt_command_line.specs.Line.{AsksOf}
-use Rattle.pt_command_line.proofs.PlainLemmas.{spelled_is_line}
-use Rattle.pt_command_line.proofs.SameLemmas.{same_line}
-use Rattle.pt_command_line.proofs.WordLemmas.{desk_is_simple, memory_alone}
-use Rattle.pt_command_line.proofs.words.line.Goals as goal
+use Rattle.pt_base_values.specs.Fault.{fault}
+use Rattle.pt_base_values.specs.declared.fault.Cause.TheVariants as cause
+use Rattle.pt_app_command_line.specs.Line.{AsksOf}
+use Rattle.pt_app_command_line.proofs.PlainLemmas.{spelled_is_line}
+use Rattle.pt_app_command_line.proofs.SameLemmas.{same_line}
+use Rattle.pt_app_command_line.proofs.WordLemmas.{desk_is_simple, memory_alone}
+use Rattle.pt_app_command_line.proofs.words.line.Goals as goal
 
 pub returns-in-Ok-clause-wrong : goal.returns-in-Ok-clause-wrong
 returns-in-Ok-clause-wrong c = λ is asked line.

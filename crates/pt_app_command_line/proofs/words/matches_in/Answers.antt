@@ -1,5 +1,5 @@
-use Rattle.pt_command_line.proofs.WordLemmas.{refused_by_faults}
-use Rattle.pt_command_line.proofs.words.matches_in.Goals as goal
+use Rattle.pt_app_command_line.proofs.WordLemmas.{refused_by_faults}
+use Rattle.pt_app_command_line.proofs.words.matches_in.Goals as goal
 
 pub returns-clause-refused : goal.returns-clause-refused
 returns-clause-refused c =

@@ -1,7 +1,7 @@
 use Rattle.std.proofs.Common.{◌≡◌, ◌∙◌, ◌+◌, ◌<◌, ℕ, List, add-one, ap, drop, drop-cons, get_or, length, map, refl}
 use Rattle.clap.specs.Words.{App, app_of, with_subcommand}
-use Rattle.pt_command_line.specs.CommandLine.{command, with_commands}
-use Rattle.pt_command_line.proofs.words.with_commands.Goals as goal
+use Rattle.pt_app_command_line.specs.CommandLine.{command, with_commands}
+use Rattle.pt_app_command_line.proofs.words.with_commands.Goals as goal
 
 abbrev more : App → App → App
 more program command = with_subcommand program command.top

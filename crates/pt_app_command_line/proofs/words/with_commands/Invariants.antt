@@ -1,7 +1,7 @@
 use Rattle.std.proofs.Common.{◌≡◌, drop, map}
 use Rattle.clap.specs.Words.{app_of}
-use Rattle.pt_command_line.specs.CommandLine.{command, with_commands}
-use Rattle.pt_command_line.proofs.words.with_commands.Given as goal
+use Rattle.pt_app_command_line.specs.CommandLine.{command, with_commands}
+use Rattle.pt_app_command_line.proofs.words.with_commands.Given as goal
 
 abbrev pub invariant-loop-name : goal.invariant-loop-name
 invariant-loop-name l =

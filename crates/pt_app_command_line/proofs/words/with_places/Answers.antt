@@ -1,7 +1,7 @@
 use Rattle.std.proofs.Common.{◌≡◌, ◌∙◌, ◌+◌, ◌<◌, ℕ, List, add-one, ap, drop, drop-cons, get_or, length, map, refl}
 use Rattle.clap.specs.Words.{App, Text, with_rule}
-use Rattle.pt_command_line.specs.CommandLine.{place, with_places}
-use Rattle.pt_command_line.proofs.words.with_places.Goals as goal
+use Rattle.pt_app_command_line.specs.CommandLine.{place, with_places}
+use Rattle.pt_app_command_line.proofs.words.with_places.Goals as goal
 
 -- the places from here on are this one and the rest
 one_more : {X : Type 0} (name : X → Text) (app : App) (places : List X) (at : ℕ) (d : X) → at < length places

@@ -1,8 +1,8 @@
 use Rattle.std.proofs.Common.{◌≡◌, drop, false, map}
 use Rattle.clap.specs.Words.{app_of}
 use Rattle.clap.specs.declared.builder.command.Command.TheViews.{out-Command as fields_of}
-use Rattle.pt_command_line.specs.CommandLine.{with_places}
-use Rattle.pt_command_line.proofs.words.with_places.Given as goal
+use Rattle.pt_app_command_line.specs.CommandLine.{with_places}
+use Rattle.pt_app_command_line.proofs.words.with_places.Given as goal
 
 abbrev pub invariant-loop-name : goal.invariant-loop-name
 invariant-loop-name l = record {

@@ -1,4 +1,4 @@
-use Rattle.pt_commands.proofs.asking.ask.Goals as goal
+use Rattle.pt_app_commands.proofs.asking.ask.Goals as goal
 
 -- the outcome is by the desk's reply
 pub returns : goal.returns

@@ -1,5 +1,5 @@
-use Rattle.pt_commands.proofs.RefusalLemmas.{explained_none}
-use Rattle.pt_commands.proofs.refusals.explain_refusal.Goals as goal
+use Rattle.pt_app_commands.proofs.RefusalLemmas.{explained_none}
+use Rattle.pt_app_commands.proofs.refusals.explain_refusal.Goals as goal
 
 pub returns-in-Ok-Facts-clause-refused : goal.returns-in-Ok-Facts-clause-refused
 returns-in-Ok-Facts-clause-refused g c = λ done clean sound number told left outcome.

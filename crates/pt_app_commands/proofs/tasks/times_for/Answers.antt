@@ -1,8 +1,8 @@
 use Rattle.std.proofs.Common.{ap, subst}
 use Rattle.pt_desk.specs.Places.{numbers_in}
-use Rattle.pt_commands.specs.Tasks.{IsTimesRead}
-use Rattle.pt_commands.proofs.TaskLemmas.{times_read, times_read_by}
-use Rattle.pt_commands.proofs.tasks.times_for.Goals as goal
+use Rattle.pt_app_commands.specs.Tasks.{IsTimesRead}
+use Rattle.pt_app_commands.proofs.TaskLemmas.{times_read, times_read_by}
+use Rattle.pt_app_commands.proofs.tasks.times_for.Goals as goal
 
 pub returns-in-Ok : goal.returns-in-Ok
 returns-in-Ok g c = record {

@@ -1,9 +1,9 @@
 use Rattle.std.proofs.Common.{◌≡◌, ◌∙◌, ℕ, List, ◌++◌, Some, ap, inl, refl, sym}
-use Rattle.pt_base.specs.declared.fault.Cause.TheVariants as cause
-use Rattle.pt_base.specs.Fault.{fault}
-use Rattle.pt_http.proofs.AnsweringLemmas.{answers_failed, answers_none, answers_otherwise, answers_told, handed}
-use Rattle.pt_serve.specs.Connection.{AnswersFrom, IsAnsweredFrom}
-use Rattle.pt_serve.proofs.connection.answer_connection.Goals as goal
+use Rattle.pt_base_values.specs.declared.fault.Cause.TheVariants as cause
+use Rattle.pt_base_values.specs.Fault.{fault}
+use Rattle.pt_http_exchange.proofs.AnsweringLemmas.{answers_failed, answers_none, answers_otherwise, answers_told, handed}
+use Rattle.pt_app_serve.specs.Connection.{AnswersFrom, IsAnsweredFrom}
+use Rattle.pt_app_serve.proofs.connection.answer_connection.Goals as goal
 
 pub returns-in_err-inbox : goal.returns-in_err-inbox
 returns-in_err-inbox g c =

@@ -1,9 +1,9 @@
 use Rattle.std.proofs.Common.{◌≡◌, Some, ap, inr, refl, rules}
-use Rattle.pt_base.specs.declared.fault.Cause.TheVariants as cause
-use Rattle.pt_base.specs.Fault.{fault}
-use Rattle.pt_http.proofs.AnsweringLemmas.{answers_none, answers_otherwise}
-use Rattle.pt_serve.specs.Connection.{IsAnsweredFrom}
-use Rattle.pt_serve.proofs.connection.answer_in_time.Goals as goal
+use Rattle.pt_base_values.specs.declared.fault.Cause.TheVariants as cause
+use Rattle.pt_base_values.specs.Fault.{fault}
+use Rattle.pt_http_exchange.proofs.AnsweringLemmas.{answers_none, answers_otherwise}
+use Rattle.pt_app_serve.specs.Connection.{IsAnsweredFrom}
+use Rattle.pt_app_serve.proofs.connection.answer_in_time.Goals as goal
 
 along : {A B : Type 0} (one other : A) (f : A → B) → one ≡ other → f one ≡ f other
 along one other f is = ap f is

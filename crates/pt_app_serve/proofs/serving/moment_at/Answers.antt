@@ -1,5 +1,5 @@
 use Rattle.std.proofs.lemmas.Result.{IfOk-weaker}
-use Rattle.pt_serve.proofs.serving.moment_on.Goals as goal
+use Rattle.pt_app_serve.proofs.serving.moment_at.Goals as goal
 
 pub returns-in-Some-clause-moment : goal.returns-in-Some-clause-moment
 returns-in-Some-clause-moment g c = IfOk-weaker c.now_in.result _ _

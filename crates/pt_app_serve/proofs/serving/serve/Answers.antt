@@ -1,12 +1,12 @@
 use Rattle.std.proofs.Common.{◌≡◌, ◌∙◌, ◌+◌, ℕ, List, [], ◌∷◌, Err, IfErr, Option, ap, arith, inl, inr, is_some, length, refl, subst, suc, sym}
-use Rattle.pt_base.specs.Fault.{fault}
-use Rattle.pt_base.specs.declared.fault.Fault.{Fault}
-use Rattle.pt_base.specs.declared.fault.Cause.TheVariants as cause
-use Rattle.pt_clock.specs.LocalTime.{IsZoneRule}
-use Rattle.pt_http.proofs.AnsweringLemmas.{goes_further, goes_nowhere, handed}
-use Rattle.pt_serve.proofs.ServingLemmas.{broken_off, count_of, fits_still, goes_on_clean, has_served_all, same_progress, so_of_error}
-use Rattle.pt_serve.specs.Serving.{EndsServing, Progress, ServesATurn, ServesInTurn, Turn, failures_in, progress_of}
-use Rattle.pt_serve.proofs.serving.serve.Goals as goal
+use Rattle.pt_base_values.specs.Fault.{fault}
+use Rattle.pt_base_values.specs.declared.fault.Fault.{Fault}
+use Rattle.pt_base_values.specs.declared.fault.Cause.TheVariants as cause
+use Rattle.pt_base_clock.specs.LocalTime.{IsZoneRule}
+use Rattle.pt_http_exchange.proofs.AnsweringLemmas.{goes_further, goes_nowhere, handed}
+use Rattle.pt_app_serve.proofs.ServingLemmas.{broken_off, count_of, fits_still, goes_on_clean, has_served_all, same_progress, so_of_error}
+use Rattle.pt_app_serve.specs.Serving.{EndsServing, Progress, ServesATurn, ServesInTurn, Turn, failures_in, progress_of}
+use Rattle.pt_app_serve.proofs.serving.serve.Goals as goal
 
 pub loop-connection-init : goal.loop-connection-init
 loop-connection-init g c = record {
@@ -31,6 +31,7 @@ loop-connection-preserved-in-Some-2 g c =
     let store = g.K.Keeper.store in
     let comes = g.A.Accepts.comes in
     let replied = g.A.Accepts.replied in
+    let ending = g.A.Accepts.ending in
     let shows = g.A.Stream.Connection.shows in
     let fails = g.A.Stream.Connection.fails in
     let before = c.loop-connection.invariant in
@@ -48,13 +49,18 @@ loop-connection-preserved-in-Some-2 g c =
       few = omega (arith, before.few, more);
       served = goes_on_clean shows fails c.args.zone.now (comes c.args.port.now) (comes c.loop-connection.port)
           (comes c.serve_next.new.port) taken.0 c.loop-connection.failed (c.loop-connection.failed + 1) next
-          (store c.args.keeper.now) (store c.loop-connection.keeper) (store c.serve_next.new.keeper)
-          (replied c.args.port.now) (replied c.loop-connection.port) (replied c.serve_next.new.port) before.served
+          (store c.loop-connection.keeper) (store c.serve_next.new.keeper)
+          (progress_of (store c.args.keeper.now) (replied c.args.port.now) (ending c.args.port.now))
+          (progress_of (store c.loop-connection.keeper) (replied c.loop-connection.port) (ending c.loop-connection.port))
+          (progress_of (store c.serve_next.new.keeper) (replied c.serve_next.new.port) (ending c.serve_next.new.port))
+          before.served
           c.serve_next.ensures.goes.clean one (omega (arith, counts))
-          (λ clean. subst (λ (it : Option (List (List ℕ))). ServesATurn shows fails c.args.zone.now taken.0 next
-          (progress_of (store c.loop-connection.keeper) it)
-          (progress_of (store c.serve_next.new.keeper) (replied c.serve_next.new.port)))
-          (c.in-Some.ensures.kept refl) (c.in_ok-fault.ensures.turn clean taken.0 taken.2));
+          (λ clean. subst (λ (it : Progress). ServesATurn shows fails c.args.zone.now taken.0 next it
+          (progress_of (store c.serve_next.new.keeper) (replied c.serve_next.new.port) (ending c.serve_next.new.port)))
+          (sym (same_progress (store c.loop-connection.keeper) (store c.loop-connection.keeper)
+          (replied c.loop-connection.port) (replied c.accept.new.self) (ending c.loop-connection.port)
+          (ending c.accept.new.self) refl (c.in-Some.ensures.kept refl)))
+          (c.in_ok-fault.ensures.turn clean taken.0 taken.2));
     }
 
 pub loop-connection-preserved : goal.loop-connection-preserved
@@ -62,6 +68,7 @@ loop-connection-preserved g c =
     let store = g.K.Keeper.store in
     let comes = g.A.Accepts.comes in
     let replied = g.A.Accepts.replied in
+    let ending = g.A.Accepts.ending in
     let shows = g.A.Stream.Connection.shows in
     let fails = g.A.Stream.Connection.fails in
     let before = c.loop-connection.invariant in
@@ -79,13 +86,18 @@ loop-connection-preserved g c =
       few = omega (arith, before.few, more);
       served = goes_on_clean shows fails c.args.zone.now (comes c.args.port.now) (comes c.loop-connection.port)
           (comes c.serve_next.new.port) taken.0 c.loop-connection.failed c.loop-connection.failed next
-          (store c.args.keeper.now) (store c.loop-connection.keeper) (store c.serve_next.new.keeper)
-          (replied c.args.port.now) (replied c.loop-connection.port) (replied c.serve_next.new.port) before.served
+          (store c.loop-connection.keeper) (store c.serve_next.new.keeper)
+          (progress_of (store c.args.keeper.now) (replied c.args.port.now) (ending c.args.port.now))
+          (progress_of (store c.loop-connection.keeper) (replied c.loop-connection.port) (ending c.loop-connection.port))
+          (progress_of (store c.serve_next.new.keeper) (replied c.serve_next.new.port) (ending c.serve_next.new.port))
+          before.served
           c.serve_next.ensures.goes.clean one (omega (arith, counts))
-          (λ clean. subst (λ (it : Option (List (List ℕ))). ServesATurn shows fails c.args.zone.now taken.0 next
-          (progress_of (store c.loop-connection.keeper) it)
-          (progress_of (store c.serve_next.new.keeper) (replied c.serve_next.new.port)))
-          (c.in-Some.ensures.kept refl) (c.in_ok-fault.ensures.turn clean taken.0 taken.2));
+          (λ clean. subst (λ (it : Progress). ServesATurn shows fails c.args.zone.now taken.0 next it
+          (progress_of (store c.serve_next.new.keeper) (replied c.serve_next.new.port) (ending c.serve_next.new.port)))
+          (sym (same_progress (store c.loop-connection.keeper) (store c.loop-connection.keeper)
+          (replied c.loop-connection.port) (replied c.accept.new.self) (ending c.loop-connection.port)
+          (ending c.accept.new.self) refl (c.in-Some.ensures.kept refl)))
+          (c.in_ok-fault.ensures.turn clean taken.0 taken.2));
     }
 
 pub returns-in_err-fault-clause-goes : goal.returns-in_err-fault-clause-goes
@@ -109,6 +121,7 @@ returns-in_err-fault-clause-broken_off g c = λ clean.
     let store = g.K.Keeper.store in
     let comes = g.A.Accepts.comes in
     let replied = g.A.Accepts.replied in
+    let ending = g.A.Accepts.ending in
     let shows = g.A.Stream.Connection.shows in
     let fails = g.A.Stream.Connection.fails in
     let taken = c.in-Some.ensures.next in
@@ -117,13 +130,15 @@ returns-in_err-fault-clause-broken_off g c = λ clean.
     taken.1 ∙ ap (λ (it : List _). taken.0 ∷ it) (sym c.serve_next.ensures.others) in
     let was_clean : (store c.loop-connection.keeper).doubt ≡ 0 =
     ap (λ keeper. (store keeper).doubt) (sym same.0) ∙ clean in
+    let kept = c.in-Some.ensures.kept refl in
     let still = same_progress (store c.loop-connection.keeper) (store c.serve_next.new.keeper)
-    (replied c.loop-connection.port) (replied c.serve_next.new.port) (ap store same.0)
-    (ap replied same.1 ∙ c.in-Some.ensures.kept refl) in
-    let old = progress_of (store c.args.keeper.now) (replied c.args.port.now) in
+    (replied c.loop-connection.port) (replied c.serve_next.new.port) (ending c.loop-connection.port)
+    (ending c.serve_next.new.port) (ap store same.0)
+    (ap replied same.1 ∙ kept.0, ap ending same.1 ∙ kept.1) in
+    let old = progress_of (store c.args.keeper.now) (replied c.args.port.now) (ending c.args.port.now) in
     let has = broken_off shows fails c.args.zone.now (comes c.args.port.now) (comes c.loop-connection.port)
     (comes c.serve_next.new.port) taken.0 c.loop-connection.failed old
-    (progress_of (store c.loop-connection.keeper) (replied c.loop-connection.port))
+    (progress_of (store c.loop-connection.keeper) (replied c.loop-connection.port) (ending c.loop-connection.port))
     (c.loop-connection.invariant.served was_clean) one in
     so_of_error c.from_residual.result _ (
       has.0,
@@ -138,13 +153,15 @@ returns-clause-served g c = λ clean.
     let store = g.K.Keeper.store in
     let comes = g.A.Accepts.comes in
     let replied = g.A.Accepts.replied in
+    let ending = g.A.Accepts.ending in
     let shows = g.A.Stream.Connection.shows in
     let fails = g.A.Stream.Connection.fails in
-    let old = progress_of (store c.args.keeper.now) (replied c.args.port.now) in
-    subst (λ (it : Option (List (List ℕ))). (turns : List Turn) × (failures_in turns ≡ c.loop-connection.failed)
-    × ServesInTurn shows fails c.args.zone.now (comes c.args.port.now) turns old
-    (progress_of (store c.loop-connection.keeper) it)) (ap replied (sym (c.in_default.ensures.same refl)))
+    let same = sym (c.in_default.ensures.same refl) in
+    let old = progress_of (store c.args.keeper.now) (replied c.args.port.now) (ending c.args.port.now) in
+    subst (λ (it : Progress). (turns : List Turn) × (failures_in turns ≡ c.loop-connection.failed)
+    × ServesInTurn shows fails c.args.zone.now (comes c.args.port.now) turns old it)
+    (ap (λ port. progress_of (store c.loop-connection.keeper) (replied port) (ending port)) same)
     (has_served_all shows fails c.args.zone.now (comes c.args.port.now) (comes c.loop-connection.port)
     c.loop-connection.failed old
-    (progress_of (store c.loop-connection.keeper) (replied c.loop-connection.port))
+    (progress_of (store c.loop-connection.keeper) (replied c.loop-connection.port) (ending c.loop-connection.port))
     (c.loop-connection.invariant.served clean) (c.in_default.ensures.none.0 refl))

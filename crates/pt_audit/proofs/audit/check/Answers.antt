@@ -3,8 +3,8 @@ use Rattle.std.specs.Prelude.{Bool, not, is_some}
 use Rattle.std.proofs.lemmas.Bool.{eqb-true, eq-eqb}
 use Rattle.std.proofs.lemmas.List.{take_more, take_all}
 use Rattle.pt_feasible.specs.Route.{stops_of}
-use Rattle.pt_insertion.specs.declared.duty.Duty.{Duty}
-use Rattle.pt_insertion.specs.declared.asked.Asked.{Asked}
+use Rattle.pt_insertion_search.specs.declared.duty.Duty.{Duty}
+use Rattle.pt_insertion_search.specs.declared.asked.Asked.{Asked}
 use Rattle.pt_audit.specs.declared.line.Line.{Line}
 use Rattle.pt_audit.specs.declared.line.Line.TheVariants as line
 use Rattle.pt_audit.specs.Cases.{cases_of_vehicle, cases_of_day}

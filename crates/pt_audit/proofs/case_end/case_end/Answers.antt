@@ -1,7 +1,7 @@
 use Rattle.std.proofs.Common.{arith, ◌≡◌, ◌+◌, ◌≤◌, ℕ, List, [], drop, slice_index, subst, sym, refl, length-drop, length, false}
 use Rattle.std.proofs.lemmas.List.{nil_from_length}
 use Rattle.pt_feasible.specs.Route.{stops_of}
-use Rattle.pt_insertion.proofs.InsertionLemmas.{length-with_trip}
+use Rattle.pt_insertion_search.proofs.InsertionLemmas.{length-with_trip}
 use Rattle.pt_audit.specs.declared.line.Line.{Line}
 use Rattle.pt_audit.specs.Insertion.{case_of, inserted_stops}
 use Rattle.pt_audit.specs.RightLog.{case_line}

@@ -1,12 +1,12 @@
 use Rattle.std.proofs.Common.{◌≡◌, ◌+◌, ◌*◌, Err, sym, ap, ◌∙◌, refl, subst, arith}
 use Rattle.std.proofs.lemmas.Int.{ints}
 use Rattle.jiff.specs.Words.{epoch_day, plain_zone}
-use Rattle.pt_base.specs.Day.{IsOutside}
-use Rattle.pt_base.specs.declared.fault.Cause.TheVariants as cause
-use Rattle.pt_base.proofs.FaultLemmas.{fault-is, ok_is_no_fault}
-use Rattle.pt_clock.specs.LocalTime.{IsLocalTime}
-use Rattle.pt_clock.proofs.LocalTimeLemmas.{IsLocalTime-unique, IsLocalTime-inside}
-use Rattle.pt_clock.proofs.local_time.now_in.Goals as goal
+use Rattle.pt_base_values.specs.Day.{IsOutside}
+use Rattle.pt_base_values.specs.declared.fault.Cause.TheVariants as cause
+use Rattle.pt_base_values.proofs.FaultLemmas.{fault-is, ok_is_no_fault}
+use Rattle.pt_base_clock.specs.LocalTime.{IsLocalTime}
+use Rattle.pt_base_clock.proofs.LocalTimeLemmas.{IsLocalTime-unique, IsLocalTime-inside}
+use Rattle.pt_base_clock.proofs.local_time.now_in.Goals as goal
 
 -- what the zone's clocks show, where the day is out of range
 local_outside : (c : goal.After-of-in_default-day_of)
@@ -30,7 +30,7 @@ pub returns-in_default-day_of-clause-out_of_range : goal.returns-in_default-day_
 returns-in_default-day_of-clause-out_of_range c =
     let of = c.of-in_default-day_of in (
       λ _. (epoch_day c.date.result, _, local_outside c, c.in_default-day_of.ensures.outside.0 refl),
-      λ _. ap Err (fault-is of.result cause.DateOutOfRange of.ensures.cause of.ensures.row),
+      λ _. ap Err (fault-is of.result cause.DateOutOfRange of.ensures.code of.ensures.row),
     )
 
 pub returns-clause-local : goal.returns-clause-local

@@ -1,5 +1,5 @@
-use Rattle.pt_records.proofs.SplitLemmas.{placed_by}
-use Rattle.pt_records.proofs.edits.place_for.Goals as goal
+use Rattle.pt_base_records.proofs.SplitLemmas.{placed_by}
+use Rattle.pt_base_records.proofs.edits.place_for.Goals as goal
 
 pub returns : goal.returns
 returns g c =

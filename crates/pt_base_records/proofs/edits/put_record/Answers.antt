@@ -1,7 +1,7 @@
 use Rattle.std.proofs.Common.{rules, ◌≡◌, sym, subst, slice_set}
-use Rattle.pt_records.specs.Records.{IsInOrder, put}
-use Rattle.pt_records.proofs.OrderLemmas.{IsInOrder-put}
-use Rattle.pt_records.proofs.edits.put_record.Goals as goal
+use Rattle.pt_base_records.specs.Records.{IsInOrder, put}
+use Rattle.pt_base_records.proofs.OrderLemmas.{IsInOrder-put}
+use Rattle.pt_base_records.proofs.edits.put_record.Goals as goal
 
 pub returns-in-Ok-clause-order : goal.returns-in-Ok-clause-order
 returns-in-Ok-clause-order g c =

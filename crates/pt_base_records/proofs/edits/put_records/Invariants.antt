@@ -1,7 +1,7 @@
 use Rattle.std.proofs.Common.{◌≡◌, ◌+◌, ◌≤◌, length, vec_len, vec_capacity}
 use Rattle.std.specs.Vec.Iter.{into_iter_items, into_iter_len}
-use Rattle.pt_records.specs.Records.{IsInOrder, put_all}
-use Rattle.pt_records.proofs.edits.put_records.Given as goal
+use Rattle.pt_base_records.specs.Records.{IsInOrder, put_all}
+use Rattle.pt_base_records.proofs.edits.put_records.Given as goal
 
 abbrev pub invariant-loop-new : goal.invariant-loop-new
 invariant-loop-new g l = record {

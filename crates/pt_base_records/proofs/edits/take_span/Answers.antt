@@ -1,6 +1,6 @@
 use Rattle.std.proofs.Common.{rules}
 use Rattle.std.proofs.lemmas.Fn.{filter_same}
-use Rattle.pt_records.proofs.edits.take_span.Goals as goal
+use Rattle.pt_base_records.proofs.edits.take_span.Goals as goal
 
 pub returns-clause-items : goal.returns-clause-items
 returns-clause-items g c = filter_same _ _ _ (λ x b f' k. search rules) _ _ c.retain.ensures.filtered

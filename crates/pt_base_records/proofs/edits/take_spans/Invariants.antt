@@ -1,6 +1,6 @@
 use Rattle.std.proofs.Common.{◌≡◌, ◌≤◌, drop, vec_len, vec_capacity}
-use Rattle.pt_records.specs.Records.{take_all}
-use Rattle.pt_records.proofs.edits.take_spans.Given as goal
+use Rattle.pt_base_records.specs.Records.{take_all}
+use Rattle.pt_base_records.proofs.edits.take_spans.Given as goal
 
 abbrev pub invariant-loop-span : goal.invariant-loop-span
 invariant-loop-span g l = record {

@@ -1,8 +1,8 @@
 use Rattle.std.proofs.Common.{rules, ◌<◌, ◌≤◌}
 use Rattle.std.specs.Prelude.{nat_lt}
 use Rattle.std.proofs.lemmas.List.Sorted.{IsPartitionPoint-from_clause}
-use Rattle.pt_records.proofs.SplitLemmas.{Each-take, Each-drop, parted_before, is_below, is_from}
-use Rattle.pt_records.proofs.searching.count_before.Goals as goal
+use Rattle.pt_base_records.proofs.SplitLemmas.{Each-take, Each-drop, parted_before, is_below, is_from}
+use Rattle.pt_base_records.proofs.searching.count_before.Goals as goal
 
 pub returns-clause-before : goal.returns-clause-before
 returns-clause-before g c =

@@ -1,8 +1,8 @@
 use Rattle.std.proofs.Common.{rules, ◌<◌, ◌≤◌, not}
 use Rattle.std.specs.Prelude.{nat_lt}
 use Rattle.std.proofs.lemmas.List.Sorted.{IsPartitionPoint-from_clause}
-use Rattle.pt_records.proofs.SplitLemmas.{Each-take, Each-drop, parted_up_to, is_up_to, is_above}
-use Rattle.pt_records.proofs.searching.count_up_to.Goals as goal
+use Rattle.pt_base_records.proofs.SplitLemmas.{Each-take, Each-drop, parted_up_to, is_up_to, is_above}
+use Rattle.pt_base_records.proofs.searching.count_up_to.Goals as goal
 
 pub returns-clause-up_to : goal.returns-clause-up_to
 returns-clause-up_to g c =

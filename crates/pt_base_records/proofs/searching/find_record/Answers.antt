@@ -1,6 +1,6 @@
 use Rattle.std.proofs.Common.{sym}
-use Rattle.pt_records.proofs.SplitLemmas.{found_here, found_nowhere}
-use Rattle.pt_records.proofs.searching.find_record.Goals as goal
+use Rattle.pt_base_records.proofs.SplitLemmas.{found_here, found_nowhere}
+use Rattle.pt_base_records.proofs.searching.find_record.Goals as goal
 
 pub returns-in-Ok : goal.returns-in-Ok
 returns-in-Ok g c = record {

@@ -1,7 +1,7 @@
 use Rattle.std.proofs.Common.{take, drop, subst, sym, ◌∙◌, ap, ◌≤◌, ◌<◌}
-use Rattle.pt_records.specs.Records.{Each, IsInOrder}
-use Rattle.pt_records.proofs.SplitLemmas.{IsInOrder-drop, within-split}
-use Rattle.pt_records.proofs.searching.find_within.Goals as goal
+use Rattle.pt_base_records.specs.Records.{Each, IsInOrder}
+use Rattle.pt_base_records.proofs.SplitLemmas.{IsInOrder-drop, within-split}
+use Rattle.pt_base_records.proofs.searching.find_within.Goals as goal
 
 pub count_up_to-requires : goal.count_up_to-requires
 count_up_to-requires g c =

@@ -1,8 +1,8 @@
 use Rattle.std.proofs.Common.{◌<◌, arith, sym}
 use Rattle.std.proofs.lemmas.Bool.Decides.{nat_tests}
-use Rattle.pt_records.proofs.SplitLemmas.{none_left, above_here}
-use Rattle.pt_records.proofs.searching.position_of.Goals as goal
-use Rattle.pt_records.proofs.searching.position_of.Goals.{then-at-records-via-then-at-records, then-at-records-via-else-at-records+then-is_before}
+use Rattle.pt_base_records.proofs.SplitLemmas.{none_left, above_here}
+use Rattle.pt_base_records.proofs.searching.position_of.Goals as goal
+use Rattle.pt_base_records.proofs.searching.position_of.Goals.{then-at-records-via-then-at-records, then-at-records-via-else-at-records+then-is_before}
 
 pub returns-then-at-records-clause-here : goal.returns-then-at-records-clause-here
 returns-then-at-records-clause-here g c = elim c.then-at-records.branch [

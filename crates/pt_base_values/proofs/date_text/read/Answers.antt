@@ -1,7 +1,7 @@
 use Rattle.std.proofs.Common.{subst, IsNone, arith}
 use Rattle.std.proofs.lemmas.Int.{ints}
-use Rattle.pt_base.proofs.DateTextLemmas.{numbers_make_date, ok_is_some}
-use Rattle.pt_base.proofs.date_text.read.Goals as goal
+use Rattle.pt_base_values.proofs.DateTextLemmas.{numbers_make_date, ok_is_some}
+use Rattle.pt_base_values.proofs.date_text.read.Goals as goal
 
 pub returns-clause-none : goal.returns-clause-none
 returns-clause-none c none date four spelled =

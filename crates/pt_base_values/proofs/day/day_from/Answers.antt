@@ -1,9 +1,9 @@
 use Rattle.std.proofs.Common.{rules}
 use Rattle.std.specs.Prelude.{IfSome}
-use Rattle.pt_base.proofs.DayLemmas.{day_from-known, day_from-spelled}
-use Rattle.pt_base.proofs.ReadLemmas.{read-known}
-use Rattle.pt_base.specs.SpelledDay.{SpellsDay, day_from}
-use Rattle.pt_base.proofs.day.day_from.Goals as goal
+use Rattle.pt_base_values.proofs.DayLemmas.{day_from-known, day_from-spelled}
+use Rattle.pt_base_values.proofs.ReadLemmas.{read-known}
+use Rattle.pt_base_values.specs.SpelledDay.{SpellsDay, day_from}
+use Rattle.pt_base_values.proofs.day.day_from.Goals as goal
 
 pub returns-clause-none : goal.returns-clause-none
 returns-clause-none c = λ none day spelled.

@@ -1,7 +1,7 @@
-use Rattle.pt_base.proofs.ReadLemmas.{read-known}
-use Rattle.pt_base.proofs.NumberLemmas.{number_from-known, number_from-spelled}
-use Rattle.pt_base.specs.SpelledNumber.{SpellsNumber, number_from}
-use Rattle.pt_base.proofs.numbers.number_from.Goals as goal
+use Rattle.pt_base_values.proofs.ReadLemmas.{read-known}
+use Rattle.pt_base_values.proofs.NumberLemmas.{number_from-known, number_from-spelled}
+use Rattle.pt_base_values.specs.SpelledNumber.{SpellsNumber, number_from}
+use Rattle.pt_base_values.proofs.numbers.number_from.Goals as goal
 
 pub returns-clause-value : goal.returns-clause-value
 returns-clause-value c =

@@ -1,7 +1,7 @@
 use Rattle.std.proofs.Common.{sym, ◌∙◌}
-use Rattle.pt_base.proofs.ReadLemmas.{error-from_none}
-use Rattle.pt_base.proofs.NumberLemmas.{digits-utf8}
-use Rattle.pt_base.proofs.numbers.spelled_number.Goals as goal
+use Rattle.pt_base_values.proofs.ReadLemmas.{error-from_none}
+use Rattle.pt_base_values.proofs.NumberLemmas.{digits-utf8}
+use Rattle.pt_base_values.proofs.numbers.spelled_number.Goals as goal
 
 pub returns-in_err-text-clause-none : goal.returns-in_err-text-clause-none
 returns-in_err-text-clause-none c = λ none number spelled.

@@ -1,7 +1,7 @@
 use Rattle.std.proofs.Common.{◌≡◌, ◌+◌, ◌-◌, ap, subst, sym, ◌∙◌, inl, inr, arith, refl, get_or, pos}
 use Rattle.std.proofs.lemmas.Bool.{cases_lt}
 use Rattle.std.proofs.lemmas.Option.{slice_get_within, get_or_from_slice_get}
-use Rattle.pt_base.specs.declared.place.Point.{Point}
+use Rattle.pt_base_values.specs.declared.place.Point.{Point}
 use Rattle.pt_corridor.specs.Near.{IsNearSegment}
 use Rattle.pt_corridor.proofs.Box.{out-of-reach}
 use Rattle.pt_corridor.proofs.near.is_near_line.Goals as goal

@@ -1,5 +1,5 @@
 use Rattle.std.proofs.Common.{ℕ, ◌+◌, ◌<◌, ◌≡◌}
-use Rattle.pt_base.specs.declared.place.Point.{Point}
+use Rattle.pt_base_values.specs.declared.place.Point.{Point}
 use Rattle.pt_corridor.specs.Near.{IsNearSegment}
 use Rattle.std.specs.Prelude.{Some, slice_get}
 use Rattle.pt_corridor.proofs.near.is_near_line.Given as goal

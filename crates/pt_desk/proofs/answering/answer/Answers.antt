@@ -1,6 +1,6 @@
 use Rattle.std.proofs.Common.{◌≡◌, arith}
 use Rattle.pt_desk_rules.specs.Step.{IsOutcome}
-use Rattle.pt_requests.specs.declared.request.Answer.TheVariants.{Done}
+use Rattle.pt_desk_requests.specs.declared.request.Answer.TheVariants.{Done}
 use Rattle.pt_desk.proofs.AnswerLemmas.{changes_nothing, shut_out}
 use Rattle.pt_desk.proofs.CrashLemmas.{lasts_call, lasts_still}
 use Rattle.pt_desk.proofs.QuietLemmas.{denied, read}

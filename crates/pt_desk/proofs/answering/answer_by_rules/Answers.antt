@@ -1,11 +1,11 @@
 use Rattle.std.proofs.Common.{◌∙◌, refl, sym, ap, subst, Some, None, ℕ, List}
-use Rattle.pt_requests.specs.declared.request.Request.{Request}
-use Rattle.pt_base.specs.declared.rule.Rule.TheVariants.{Key}
+use Rattle.pt_desk_requests.specs.declared.request.Request.{Request}
+use Rattle.pt_base_values.specs.declared.rule.Rule.TheVariants.{Key}
 use Rattle.pt_desk_rules.specs.Sound.{IsSound}
 use Rattle.pt_desk_rules.specs.State.{caller_with}
 use Rattle.pt_desk_rules.specs.Step.{IsExplainOutcome, IsReadOutcome, IsWriteOutcome, IsOutcomeBy, IsOutcome}
-use Rattle.pt_requests.specs.declared.request.Answer.TheVariants.{Done, Denied}
-use Rattle.pt_store.specs.Store.{Answers}
+use Rattle.pt_desk_requests.specs.declared.request.Answer.TheVariants.{Done, Denied}
+use Rattle.pt_desk_store.specs.Store.{Answers}
 use Rattle.pt_desk.specs.Fitting.{IsSentBy}
 use Rattle.pt_desk.proofs.AnswerLemmas.{read_then, read_told, read_fault, handed}
 use Rattle.pt_desk.proofs.FitLemmas.{fits_quiet, fits_read, fits_then}

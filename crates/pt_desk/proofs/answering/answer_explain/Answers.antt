@@ -1,9 +1,9 @@
 use Rattle.std.proofs.Common.{refl, subst}
 use Rattle.pt_desk_rules.specs.Explaining.{IsExplained}
 use Rattle.pt_desk_rules.specs.Step.{IsExplainOutcome}
-use Rattle.pt_requests.specs.declared.request.Answer.TheVariants.{Done}
-use Rattle.pt_store.specs.Store.{Answers}
-use Rattle.pt_store.specs.declared.keeper.StoreFault.TheVariants.{Memory}
+use Rattle.pt_desk_requests.specs.declared.request.Answer.TheVariants.{Done}
+use Rattle.pt_desk_store.specs.Store.{Answers}
+use Rattle.pt_desk_store.specs.declared.keeper.StoreFault.TheVariants.{Memory}
 use Rattle.pt_desk.proofs.AnswerLemmas.{read_told, read_fault, read_memory, handed}
 use Rattle.pt_desk.proofs.answering.answer_explain.Goals as goal
 

@@ -3,11 +3,11 @@ use Rattle.pt_desk_rules.specs.Deciding.{IsDecision}
 use Rattle.pt_desk_rules.specs.Facts.{facts_of}
 use Rattle.pt_desk_rules.specs.State.{State}
 use Rattle.pt_desk_rules.specs.Step.{sent_with, told_of, left_of, IsDecidedOutcome}
-use Rattle.pt_requests.specs.declared.request.Answer.{Answer}
-use Rattle.pt_requests.specs.declared.request.Answer.TheVariants.{Done}
+use Rattle.pt_desk_requests.specs.declared.request.Answer.{Answer}
+use Rattle.pt_desk_requests.specs.declared.request.Answer.TheVariants.{Done}
 use Rattle.pt_desk_rules.specs.declared.kept.Sent.{Sent}
-use Rattle.pt_store.specs.Store.{Answers}
-use Rattle.pt_store.specs.declared.keeper.StoreFault.TheVariants.{Memory}
+use Rattle.pt_desk_store.specs.Store.{Answers}
+use Rattle.pt_desk_store.specs.declared.keeper.StoreFault.TheVariants.{Memory}
 use Rattle.pt_desk.specs.Fitting.{ChangesByRules, IsNewBy}
 use Rattle.pt_desk.proofs.AnswerLemmas.{known_then, read_fault, read_memory, goes_by, handed}
 use Rattle.pt_desk.proofs.FitLemmas.{decided_by_rules, fits_known, fits_read}

@@ -1,8 +1,8 @@
 use Rattle.std.proofs.Common.{refl}
 use Rattle.pt_desk_rules.specs.Step.{IsReadOutcome}
-use Rattle.pt_requests.specs.declared.request.Answer.TheVariants.{Done}
-use Rattle.pt_store.specs.Store.{Answers}
-use Rattle.pt_store.specs.declared.keeper.StoreFault.TheVariants.{Memory}
+use Rattle.pt_desk_requests.specs.declared.request.Answer.TheVariants.{Done}
+use Rattle.pt_desk_store.specs.Store.{Answers}
+use Rattle.pt_desk_store.specs.declared.keeper.StoreFault.TheVariants.{Memory}
 use Rattle.pt_desk.proofs.AnswerLemmas.{known_told, read_fault, read_memory, handed}
 use Rattle.pt_desk.proofs.answering.answer_read.Goals as goal
 

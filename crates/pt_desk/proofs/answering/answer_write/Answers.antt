@@ -1,13 +1,13 @@
 use Rattle.std.proofs.Common.{◌∙◌, sym, ap, subst, refl, None, List, ℕ}
-use Rattle.pt_base.specs.declared.rule.Rule.TheVariants.{Number}
+use Rattle.pt_base_values.specs.declared.rule.Rule.TheVariants.{Number}
 use Rattle.pt_desk_rules.specs.Arrival.{arrival_of}
 use Rattle.pt_desk_rules.specs.State.{kept_of}
 use Rattle.pt_desk_rules.specs.Step.{IsDecidedOutcome, IsOutcomeAs, IsWriteOutcome}
 use Rattle.pt_desk_rules.specs.declared.kept.Arrival.{Arrival}
 use Rattle.pt_desk_rules.specs.declared.kept.Arrival.TheVariants.{Repeated, Stale}
-use Rattle.pt_requests.specs.declared.request.Answer.TheVariants.{Done, Denied}
-use Rattle.pt_store.specs.Store.{Answers}
-use Rattle.pt_store.specs.declared.keeper.StoreFault.TheVariants.{Memory}
+use Rattle.pt_desk_requests.specs.declared.request.Answer.TheVariants.{Done, Denied}
+use Rattle.pt_desk_store.specs.Store.{Answers}
+use Rattle.pt_desk_store.specs.declared.keeper.StoreFault.TheVariants.{Memory}
 use Rattle.pt_desk.specs.Fitting.{IsNewBy, IsSentBy}
 use Rattle.pt_desk.proofs.AnswerLemmas.{no_memory, read_then, read_told, read_fault, handed}
 use Rattle.pt_desk.proofs.FitLemmas.{fits_read, fits_then}

@@ -3,7 +3,7 @@ use Rattle.pt_desk_rules.specs.State.{applied}
 use Rattle.pt_desk_rules.specs.Step.{left_of, told_of}
 use Rattle.pt_desk_rules.specs.declared.deciding.Decision.{Decision}
 use Rattle.pt_desk.specs.Fitting.{ChangesByRules}
-use Rattle.pt_store.specs.Store.{Fits, Goes}
+use Rattle.pt_desk_store.specs.Store.{Fits, Goes}
 use Rattle.pt_desk.proofs.AnswerLemmas.{fault_as, handed}
 use Rattle.pt_desk.proofs.answering.carry_out.Goals as goal
 

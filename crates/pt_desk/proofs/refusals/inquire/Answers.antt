@@ -1,44 +1,30 @@
-use Rattle.std.proofs.Common.{refl, subst, Some}
-use Rattle.pt_base.specs.declared.rule.Rule.TheVariants.{Key}
-use Rattle.pt_desk.proofs.AnswerLemmas.{handed, read_fault, read_memory, read_told}
+use Rattle.std.proofs.Common.{◌≡◌, arith}
+use Rattle.pt_base_values.specs.declared.rule.Rule.TheVariants.{Key}
+use Rattle.pt_desk.proofs.AnswerLemmas.{changes_nothing, shut_out}
+use Rattle.pt_desk.proofs.RefusalLemmas.{found_by, inquiry_commits_nothing}
 use Rattle.pt_desk.proofs.refusals.inquire.Goals as goal
-use Rattle.pt_desk.specs.Refusals.{IsInquiryBy}
-use Rattle.pt_store.specs.Store.{Answers}
-use Rattle.pt_store.specs.declared.keeper.StoreFault.TheVariants.{Memory}
-use Rattle.pt_desk_reads.specs.Inquiry.{IsInquiry}
+use Rattle.pt_desk.specs.Refusals.{IsFacts}
+use Rattle.pt_desk_rules.specs.Step.{sender}
 use Rattle.pt_desk_reads.specs.declared.explaining.Inquiry.TheVariants.{Denied}
 
-pub returns-in_err-facts : goal.returns-in_err-facts
-returns-in_err-facts g c =
-    let a = g.K.Keeper.store c.args.keeper.now in
-    let b = g.K.Keeper.store c.gather_wish.new.keeper in
-    let Is = IsInquiryBy (Some c.args.me.now) c.args.now c.args.rider c.args.wish.now in
-    record {
-      goes = handed (λ r. Answers a b Is r) c.in_err-facts.field-0.0 c.from_residual.result c.from_residual.ensures.1
-          (read_fault a b _ (Denied Key) c.in_err-facts.field-0.0 Is c.in_err-facts.ensures.reads);
-    }
+pub returns-then-failures-gt0-clause-goes : goal.returns-then-failures-gt0-clause-goes
+returns-then-failures-gt0-clause-goes g c =
+    shut_out (g.K.Keeper.store c.args.keeper.now) (Denied Key)
+    (IsFacts c.args.key.now c.args.now c.args.rider c.args.wish.now)
+    (let value : c.failures.result ≡ (g.K.Keeper.store c.args.keeper.now).failures = c.failures.ensures.value in
+    omega (arith, value, c.if-failures-gt0.true))
 
-pub returns-in_err-refusal_facts : goal.returns-in_err-refusal_facts
-returns-in_err-refusal_facts g c =
-    let a = g.K.Keeper.store c.args.keeper.now in
-    let b = g.K.Keeper.store c.gather_wish.new.keeper in
-    let Is = IsInquiryBy (Some c.args.me.now) c.args.now c.args.rider c.args.wish.now in
-    record {
-      goes = handed (λ r. Answers a b Is r) Memory c.from_residual-in_err-refusal_facts.result
-          c.from_residual-in_err-refusal_facts.ensures.1
-          (read_memory a b c.in_ok-facts.facts _ (Denied Key) Is c.in_ok-facts.ensures.reads);
-    }
+pub returns-clause-unchanged : goal.returns-clause-unchanged
+returns-clause-unchanged g c =
+    changes_nothing (g.K.Keeper.store c.args.keeper.now) (g.K.Keeper.store c.inquire_by_key.new.keeper)
+    (IsFacts c.args.key.now c.args.now c.args.rider c.args.wish.now) c.inquire_by_key.result
+    c.inquire_by_key.ensures.goes
+    (λ found left agrees is. inquiry_commits_nothing (sender c.args.key.now (g.K.Keeper.store c.args.keeper.now).content)
+    c.args.now c.args.rider c.args.wish.now (g.K.Keeper.store c.args.keeper.now).content found left is)
 
-pub returns : goal.returns
-returns g c =
+pub returns-clause-found : goal.returns-clause-found
+returns-clause-found g c = λ clean.
     let a = g.K.Keeper.store c.args.keeper.now in
-    let b = g.K.Keeper.store c.gather_wish.new.keeper in
-    let Is = IsInquiryBy (Some c.args.me.now) c.args.now c.args.rider c.args.wish.now in
-    record {
-      goes = read_told a b c.in_ok-facts.facts _ c.in_ok-refusal_facts.field-0 Is c.in_ok-facts.ensures.reads
-          (λ is. (
-            subst (λ facts. IsInquiry c.args.wish.now c.args.me.now c.args.now facts
-                c.in_ok-refusal_facts.field-0) is c.in_ok-refusal_facts.ensures.value,
-            refl,
-          ));
-    }
+    let b = g.K.Keeper.store c.inquire_by_key.new.keeper in
+    found_by a b c.args.key.now c.args.now c.args.rider c.args.wish.now c.inquire_by_key.result
+    c.inquire_by_key.ensures.goes clean

@@ -1,9 +1,9 @@
 use Rattle.std.proofs.Common.{ℕ, List, Some, None, ap, refl, subst, sym, ◌∙◌}
-use Rattle.pt_base.specs.declared.rule.Rule.TheVariants.{Key}
+use Rattle.pt_base_values.specs.declared.rule.Rule.TheVariants.{Key}
 use Rattle.pt_desk.proofs.AnswerLemmas.{handed, read_fault, read_then, read_told}
 use Rattle.pt_desk.proofs.refusals.inquire_by_key.Goals as goal
 use Rattle.pt_desk.specs.Refusals.{IsFacts, IsInquiryBy}
-use Rattle.pt_store.specs.Store.{Answers}
+use Rattle.pt_desk_store.specs.Store.{Answers}
 use Rattle.pt_desk_rules.specs.State.{caller_with}
 use Rattle.pt_desk_reads.specs.declared.explaining.Inquiry.TheVariants.{Denied}
 
@@ -35,12 +35,12 @@ pub returns : goal.returns
 returns g c =
     let a = g.K.Keeper.store c.args.keeper.now in
     let b = g.K.Keeper.store c.caller_with.new.self in
-    let d = g.K.Keeper.store c.inquire.new.keeper in
+    let d = g.K.Keeper.store c.inquire_as.new.keeper in
     let Is = IsFacts c.args.key.now c.args.now c.args.rider c.args.wish.now in
     let IsMine = IsInquiryBy (Some c.in-Some.me) c.args.now c.args.rider c.args.wish.now in
     record {
-      goes = read_then a b d c.in_ok-me.field-0 (caller_with c.of_key.result a.content) IsMine Is c.inquire.result
-          c.in_ok-me.ensures.reads c.inquire.ensures.goes
+      goes = read_then a b d c.in_ok-me.field-0 (caller_with c.of_key.result a.content) IsMine Is c.inquire_as.result
+          c.in_ok-me.ensures.reads c.inquire_as.ensures.goes
           (λ is found left outcome. subst (λ by. IsInquiryBy by c.args.now c.args.rider c.args.wish.now a.content found
           left) (sym c.in-Some.is ∙ is ∙ ap (λ (digest : List ℕ). caller_with digest a.content) c.of_key.ensures.value)
           outcome);

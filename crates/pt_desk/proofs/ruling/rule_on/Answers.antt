@@ -1,4 +1,4 @@
-use Rattle.pt_requests.specs.declared.request.Write.TheVariants as write
+use Rattle.pt_desk_requests.specs.declared.request.Write.TheVariants as write
 use Rattle.pt_desk.proofs.RulingLemmas.{ruled, ruled_enough, ruled_fault, ruled_memory, ruled_unread}
 use Rattle.pt_desk.proofs.ruling.rule_on.Goals as goal
 

@@ -3,9 +3,9 @@ use Rattle.pt_desk_rules.specs.State.{State}
 use Rattle.pt_desk_rules.specs.Sound.{IsSound}
 use Rattle.pt_desk.specs.Crash.{FindsAfter, Lasts}
 use Rattle.pt_desk.specs.Run.{AreOnlyTold, GoesOn, TellOfFailure}
-use Rattle.pt_store.specs.Store.{FindsContent, FitsSound, IsSettled}
-use Rattle.pt_store.specs.declared.keeper.StoreFault.{StoreFault}
-use Rattle.pt_requests.specs.declared.request.Answer.{Answer}
+use Rattle.pt_desk_store.specs.Store.{FindsContent, FitsSound, IsSettled}
+use Rattle.pt_desk_store.specs.declared.keeper.StoreFault.{StoreFault}
+use Rattle.pt_desk_requests.specs.declared.request.Answer.{Answer}
 use Rattle.pt_desk.proofs.RunLemmas.{IsSame}
 use Rattle.pt_desk.proofs.running.run.Given as goal
 

@@ -1,10 +1,10 @@
 -- The rules before hold where none of them fails; the last one is what `best` says.
 use Rattle.std.proofs.Common.{refl, ap, ◌∙◌}
-use Rattle.pt_insertion.specs.declared.asked.Asked.{Asked}
-use Rattle.pt_booking.specs.Planning.{booking_rules, on_duty}
-use Rattle.pt_booking.specs.Request.{request_of}
-use Rattle.pt_booking.proofs.PlacedLemmas.{chosen-for, best-place, all-hold, no-vehicle, denied-only, not-denied, refused-not-denied, allowed-if-refused, not-allowed}
-use Rattle.pt_booking.proofs.booking.book.Goals as goal
+use Rattle.pt_insertion_search.specs.declared.asked.Asked.{Asked}
+use Rattle.pt_desk_booking.specs.Planning.{booking_rules, on_duty}
+use Rattle.pt_desk_booking.specs.Request.{request_of}
+use Rattle.pt_desk_booking.proofs.PlacedLemmas.{chosen-for, best-place, all-hold, no-vehicle, denied-only, not-denied, refused-not-denied, allowed-if-refused, not-allowed}
+use Rattle.pt_desk_booking.proofs.booking.book.Goals as goal
 
 pub best-requires-clause-new_trip : goal.best-requires-clause-new_trip
 best-requires-clause-new_trip g c =

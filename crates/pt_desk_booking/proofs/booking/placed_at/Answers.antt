@@ -1,14 +1,14 @@
 -- The chosen vehicle is found by its number, and the schedule of the choice fits its new route.
 use Rattle.std.proofs.Common.{ap, subst, ◌∙◌, arith}
 use Rattle.pt_feasible.specs.Route.{stops_of}
-use Rattle.pt_insertion.specs.Insertion.{with_trip}
-use Rattle.pt_insertion.specs.declared.asked.Asked.{Asked}
-use Rattle.pt_booking.specs.Booking.{IsTripIn}
-use Rattle.pt_booking.specs.Planning.{asked_for}
-use Rattle.pt_booking.specs.Request.{request_of}
-use Rattle.pt_base.specs.declared.window.Window.{Window}
-use Rattle.pt_booking.proofs.PlacedLemmas.{chosen-found, chosen-in, planned, new-route}
-use Rattle.pt_booking.proofs.booking.placed_at.Goals as goal
+use Rattle.pt_insertion_search.specs.Insertion.{with_trip}
+use Rattle.pt_insertion_search.specs.declared.asked.Asked.{Asked}
+use Rattle.pt_desk_booking.specs.Booking.{IsTripIn}
+use Rattle.pt_desk_booking.specs.Planning.{asked_for}
+use Rattle.pt_desk_booking.specs.Request.{request_of}
+use Rattle.pt_base_values.specs.declared.window.Window.{Window}
+use Rattle.pt_desk_booking.proofs.PlacedLemmas.{chosen-found, chosen-in, planned, new-route}
+use Rattle.pt_desk_booking.proofs.booking.placed_at.Goals as goal
 
 pub unwrap-duty-requires : goal.unwrap-duty-requires
 unwrap-duty-requires g c =
@@ -54,5 +54,5 @@ returns-clause-route g c =
     let found = rw c.unwrap-duty.ensures at c.duty_of.ensures.found in
     let choice = chosen-in minutes c.args.duties.now (asked_for minutes request) chosen duty c.requires.rising c.requires.place found.0 found.1 in
     let kept = subst (λ (w : Window). IsTripIn minutes request chosen.vehicle w c.trip_at-trip.result) c.promised_at-promised.ensures c.trip_at-trip.ensures in
-    new-route minutes c.args.duties.now duty request chosen c.trip_at-trip.result (stops_of c.in_ok-route.route) found.0 found.1 choice kept
-    (c.in_ok-route.ensures.value ∙ ap (λ (a : Asked). with_trip a chosen.i chosen.j (stops_of duty.route.now)) c.asked_of.ensures)
+    new-route minutes c.args.duties.now duty request chosen c.trip_at-trip.result (stops_of c.in-Ok.route) found.0 found.1 choice kept
+    (c.in-Ok.ensures.value ∙ ap (λ (a : Asked). with_trip a chosen.i chosen.j (stops_of duty.route.now)) c.asked_of.ensures)

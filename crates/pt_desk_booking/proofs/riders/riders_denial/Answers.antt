@@ -1,14 +1,14 @@
 -- Each test of the list decides its rule.
 use Rattle.std.proofs.Common.{◌≡◌, ◌↔◌, Bool, true, false, IsTrue, not, List, [], ◌∷◌, refl, sym, subst, ◌∙◌}
 use Rattle.std.proofs.lemmas.Bool.{false≢true}
-use Rattle.pt_base.specs.declared.rule.Rule.{Rule}
-use Rattle.pt_base.specs.declared.rule.Rule.TheVariants as rule
+use Rattle.pt_base_values.specs.declared.rule.Rule.{Rule}
+use Rattle.pt_base_values.specs.declared.rule.Rule.TheVariants as rule
 use Rattle.pt_party.specs.declared.party.Party.{Party}
 use Rattle.pt_party.specs.Party.{MayTravel}
-use Rattle.pt_booking.specs.Request.{request_of}
-use Rattle.pt_booking.specs.Rules.{riders_rules}
-use Rattle.pt_booking.proofs.RuleLemmas.{first_failing-tests, AreTests}
-use Rattle.pt_booking.proofs.riders.riders_denial.Goals as goal
+use Rattle.pt_desk_booking.specs.Request.{request_of}
+use Rattle.pt_desk_booking.specs.Rules.{riders_rules}
+use Rattle.pt_desk_booking.proofs.RuleLemmas.{first_failing-tests, AreTests}
+use Rattle.pt_desk_booking.proofs.riders.riders_denial.Goals as goal
 
 -- what is not so is false
 not-decides : (answer fact : Bool) → answer ≡ fact → IsTrue (not answer) ↔ (fact ≡ false)

@@ -1,9 +1,9 @@
 use Rattle.std.proofs.Common.{List, ℕ, None, ap, sym, subst, map, ◌∙◌}
 use Rattle.std.specs.List.Sorted.{IsStrictlyIncreasing}
-use Rattle.pt_booking.specs.Request.{request_of}
-use Rattle.pt_booking.specs.Rules.{IsFirstFailing, riders_rules}
-use Rattle.pt_insertion.specs.declared.asked.Asked.{Asked}
-use Rattle.pt_scheduling.specs.Routes.{day_route}
+use Rattle.pt_desk_booking.specs.Request.{request_of}
+use Rattle.pt_desk_booking.specs.Rules.{IsFirstFailing, riders_rules}
+use Rattle.pt_insertion_search.specs.declared.asked.Asked.{Asked}
+use Rattle.pt_desk_scheduling.specs.Routes.{day_route}
 use Rattle.pt_travel.specs.Times.{time_in}
 use Rattle.pt_desk_reads.proofs.ExplainLemmas.{facts_of_refusal, no_routes_denied, none_found, of_next}
 use Rattle.pt_desk_reads.proofs.ExplainLemmas.{rider_denied, routes_found}

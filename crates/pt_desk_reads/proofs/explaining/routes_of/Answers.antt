@@ -1,8 +1,8 @@
 use Rattle.std.proofs.Common.{ap, ◌∙◌, map}
-use Rattle.pt_booking.specs.Planning.{on_duty as lent_by}
+use Rattle.pt_desk_booking.specs.Planning.{on_duty as lent_by}
 use Rattle.pt_desk_reads.proofs.ExplainLemmas.{lent_are_without, never_lent, no_routes, same_routes}
 use Rattle.pt_desk_rules.specs.Fleet.{on_duty}
-use Rattle.pt_scheduling.specs.Routes.{day_route}
+use Rattle.pt_desk_scheduling.specs.Routes.{day_route}
 use Rattle.pt_desk_reads.proofs.explaining.routes_of.Goals as goal
 
 pub returns-in_default : goal.returns-in_default

@@ -1,8 +1,8 @@
 use Rattle.std.proofs.Common.{◌≡◌, ◌+◌, ◌++◌, [], ◌∷◌, List, take, sym, ap, ◌∙◌, subst, arith}
 use Rattle.std.specs.List.{AllZip}
 use Rattle.std.proofs.lemmas.List.{take_more}
-use Rattle.pt_base.specs.declared.vehicle.Vehicle.{Vehicle}
-use Rattle.pt_requests.specs.declared.sheets.VehicleSheet.{VehicleSheet}
+use Rattle.pt_base_values.specs.declared.vehicle.Vehicle.{Vehicle}
+use Rattle.pt_desk_requests.specs.declared.sheets.VehicleSheet.{VehicleSheet}
 use Rattle.pt_desk_rules.specs.Tours.{IsSheetOf}
 use Rattle.pt_desk_rules.proofs.TourLemmas.{zip_pushed}
 use Rattle.pt_desk_reads.proofs.tours.sheets_of.Goals as goal

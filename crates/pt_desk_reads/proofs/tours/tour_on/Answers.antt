@@ -1,4 +1,4 @@
-use Rattle.pt_scheduling.specs.Plan.{planned_stops}
+use Rattle.pt_desk_scheduling.specs.Plan.{planned_stops}
 use Rattle.pt_desk_rules.proofs.TourLemmas.{trips_there}
 use Rattle.pt_desk_reads.proofs.tours.tour_on.Goals as goal
 

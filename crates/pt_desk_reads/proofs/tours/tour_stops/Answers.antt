@@ -1,6 +1,6 @@
 use Rattle.std.proofs.Common.{rules, ◌∙◌, ℕ, refl}
 use Rattle.pt_feasible.specs.Route.{stops_of}
-use Rattle.pt_requests.specs.declared.sheets.TourStop.{TourStop}
+use Rattle.pt_desk_requests.specs.declared.sheets.TourStop.{TourStop}
 use Rattle.pt_desk_rules.specs.Tours.{IsShownAt}
 use Rattle.pt_desk_rules.proofs.TourLemmas.{each_pushed, shown_at, within_stop}
 use Rattle.pt_desk_reads.proofs.tours.tour_stops.Goals as goal

@@ -2,7 +2,7 @@ use Rattle.std.proofs.Common.{◌≡◌, ℕ, length, take, Some}
 use Rattle.std.specs.Prelude.{slice_get}
 use Rattle.pt_feasible.specs.Loads.{load_aboard}
 use Rattle.pt_feasible.specs.Route.{stops_of}
-use Rattle.pt_requests.specs.declared.sheets.TourStop.{TourStop}
+use Rattle.pt_desk_requests.specs.declared.sheets.TourStop.{TourStop}
 use Rattle.pt_desk_rules.specs.Tours.{IsShownAt}
 use Rattle.pt_desk_reads.proofs.tours.tour_stops.Given as goal
 

@@ -1,6 +1,6 @@
 use Rattle.std.proofs.Common.{List, ℕ, ap, ◌∙◌, subst, sym}
 use Rattle.std.specs.List.Sorted.{IsStrictlyIncreasing}
-use Rattle.pt_booking.specs.Request.{request_of}
+use Rattle.pt_desk_booking.specs.Request.{request_of}
 use Rattle.pt_desk_rules.specs.Fleet.{on_duty}
 use Rattle.pt_desk_rules.proofs.BookingLemmas.{answered_of}
 use Rattle.pt_desk_rules.proofs.booking.answer_wish.Goals as goal

@@ -2,8 +2,8 @@ use Rattle.std.proofs.Common.{List, ap, subst}
 use Rattle.pt_desk_rules.specs.Travel.{TravelTable}
 use Rattle.pt_travel.specs.Chain.{Row}
 use Rattle.pt_travel.specs.Times.{time_in}
-use Rattle.pt_booking.specs.Request.{request_of}
-use Rattle.pt_scheduling.specs.Routes.{routes_without}
+use Rattle.pt_desk_booking.specs.Request.{request_of}
+use Rattle.pt_desk_scheduling.specs.Routes.{routes_without}
 use Rattle.pt_desk_rules.specs.Booking.{AreTimes, rows_of}
 use Rattle.pt_desk_rules.proofs.BookingLemmas.{scheduled_by}
 use Rattle.pt_desk_rules.proofs.booking.schedule_on.Goals as goal

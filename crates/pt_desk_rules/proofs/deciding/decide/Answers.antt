@@ -1,4 +1,4 @@
-use Rattle.pt_rights.specs.Rules.{first_failing}
+use Rattle.pt_rights_files.specs.Rules.{first_failing}
 use Rattle.pt_desk_rules.specs.Rules.{rules_of}
 use Rattle.pt_desk_rules.proofs.RulingLemmas.{with_its_kept}
 use Rattle.pt_desk_rules.proofs.deciding.decide.Goals as goal

@@ -1,5 +1,5 @@
 use Rattle.std.proofs.Common.{◌≡◌, ◌+◌, ◌≤◌, ◌<◌, suc, drop, length, List, ◌∷◌, arith, cond, sym, ap, ◌∙◌, add-one, drop-cons}
-use Rattle.pt_base.specs.declared.vehicle.Vehicle.{Vehicle}
+use Rattle.pt_base_values.specs.declared.vehicle.Vehicle.{Vehicle}
 use Rattle.pt_desk_rules.proofs.FleetLemmas.{counts, stays_counted, counted_on}
 use Rattle.pt_desk_rules.proofs.fleet.other_vehicle_count.Goals as goal
 use Rattle.pt_desk_rules.proofs.fleet.other_vehicle_count.Goals.{then-is_last_of_another, else-is_last_of_another}

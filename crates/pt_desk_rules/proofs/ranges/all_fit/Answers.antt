@@ -1,6 +1,6 @@
 use Rattle.std.proofs.Common.{◌≡◌, ◌+◌, ◌++◌, ◌∷◌, [], take, sym, ap, subst, ◌∙◌, arith}
 use Rattle.std.proofs.lemmas.List.{take_all, take_more}
-use Rattle.pt_records.specs.Records.{Each}
+use Rattle.pt_base_records.specs.Records.{Each}
 use Rattle.pt_desk_rules.proofs.RangeLemmas.{Each-more}
 use Rattle.pt_desk_rules.proofs.ranges.all_fit.Goals as goal
 

@@ -1,5 +1,5 @@
 use Rattle.std.proofs.Common.{take}
-use Rattle.pt_records.specs.Records.{Each}
+use Rattle.pt_base_records.specs.Records.{Each}
 use Rattle.pt_desk_rules.proofs.ranges.all_fit.Given as goal
 
 abbrev pub invariant-loop-record : goal.invariant-loop-record

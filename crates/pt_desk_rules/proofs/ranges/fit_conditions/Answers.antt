@@ -1,7 +1,7 @@
 use Rattle.std.proofs.Common.{◌≡◌, get_or, subst, arith, All}
 use Rattle.std.proofs.lemmas.List.{get_or_read, take_all}
 use Rattle.std.proofs.lemmas.List.Elements.{All-more}
-use Rattle.pt_rights.specs.Conditions.{IsCondition}
+use Rattle.pt_rights_files.specs.Conditions.{IsCondition}
 use Rattle.pt_desk_rules.proofs.ranges.fit_conditions.Goals as goal
 
 pub loop-condition-preserved : goal.loop-condition-preserved

@@ -1,9 +1,9 @@
 use Rattle.std.proofs.Common.{◌+◌, ◌∷◌, [], drop, map, ap, sym, ◌∙◌, append_assoc}
 use Rattle.std.specs.Prelude.{◌++◌}
 use Rattle.pt_feasible.specs.Route.{stops_of}
-use Rattle.pt_scheduling.specs.Plan.{planned_stop}
-use Rattle.pt_scheduling.proofs.ListLemmas.{drop-found}
-use Rattle.pt_scheduling.proofs.planned.planned_stops.Goals as goal
+use Rattle.pt_desk_scheduling.specs.Plan.{planned_stop}
+use Rattle.pt_desk_scheduling.proofs.ListLemmas.{drop-found}
+use Rattle.pt_desk_scheduling.proofs.planned.planned_stops.Goals as goal
 
 pub loop-k-preserved : goal.loop-k-preserved
 loop-k-preserved c =

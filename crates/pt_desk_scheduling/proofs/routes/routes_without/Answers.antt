@@ -1,9 +1,9 @@
 use Rattle.std.proofs.Common.{arith, subst, sym}
-use Rattle.pt_base.specs.declared.vehicle.Vehicle.{Vehicle}
-use Rattle.pt_booking.specs.Planning.{OnDuty}
-use Rattle.pt_scheduling.specs.Routes.{IsRoute, stops_without}
-use Rattle.pt_scheduling.proofs.ListLemmas.{All-unmap}
-use Rattle.pt_scheduling.proofs.routes.routes_without.Goals as goal
+use Rattle.pt_base_values.specs.declared.vehicle.Vehicle.{Vehicle}
+use Rattle.pt_desk_booking.specs.Planning.{OnDuty}
+use Rattle.pt_desk_scheduling.specs.Routes.{IsRoute, stops_without}
+use Rattle.pt_desk_scheduling.proofs.ListLemmas.{All-unmap}
+use Rattle.pt_desk_scheduling.proofs.routes.routes_without.Goals as goal
 
 pub returns-in-None-clause-none : goal.returns-in-None-clause-none
 returns-in-None-clause-none c =

@@ -1,8 +1,8 @@
 use Rattle.std.proofs.Common.{ap, ◌∙◌, Ok, inl, inr, refl}
-use Rattle.pt_booking.specs.Planning.{on_duty}
-use Rattle.pt_booking.specs.Request.{request_of}
-use Rattle.pt_scheduling.proofs.ScheduledLemmas.{are_without, booked}
-use Rattle.pt_scheduling.proofs.scheduling.book_in.Goals as goal
+use Rattle.pt_desk_booking.specs.Planning.{on_duty}
+use Rattle.pt_desk_booking.specs.Request.{request_of}
+use Rattle.pt_desk_scheduling.proofs.ScheduledLemmas.{are_without, booked}
+use Rattle.pt_desk_scheduling.proofs.scheduling.book_in.Goals as goal
 
 pub returns-then-not-are_without_trip : goal.returns-then-not-are_without_trip
 returns-then-not-are_without_trip g c =

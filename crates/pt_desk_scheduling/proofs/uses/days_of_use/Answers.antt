@@ -1,13 +1,13 @@
 use Rattle.std.proofs.Common.{◌≡◌, ℕ, ◌+◌, ◌∷◌, List, drop, sym, ap, subst, ◌∙◌, arith}
-use Rattle.pt_records.specs.Records.{IsInOrder}
+use Rattle.pt_base_records.specs.Records.{IsInOrder}
 use Rattle.std.specs.Prelude.{◌==◌, ◌||◌}
 use Rattle.std.specs.List.{list_any}
 use Rattle.std.proofs.lemmas.List.{drop_more, drop_all}
-use Rattle.pt_base.specs.declared.trip.Trip.{Trip}
-use Rattle.pt_scheduling.specs.Uses.{is_use_of}
-use Rattle.pt_scheduling.proofs.UseLemmas.{rises, used, unused, ended}
-use Rattle.pt_scheduling.proofs.uses.days_of_use.Goals as goal
-use Rattle.pt_scheduling.proofs.uses.days_of_use.Goals.{then-is_use+in_ok-put_day, else-is_use}
+use Rattle.pt_base_values.specs.declared.trip.Trip.{Trip}
+use Rattle.pt_desk_scheduling.specs.Uses.{is_use_of}
+use Rattle.pt_desk_scheduling.proofs.UseLemmas.{rises, used, unused, ended}
+use Rattle.pt_desk_scheduling.proofs.uses.days_of_use.Goals as goal
+use Rattle.pt_desk_scheduling.proofs.uses.days_of_use.Goals.{then-is_use+in_ok-put_day, else-is_use}
 
 pub loop-trip-preserved : goal.loop-trip-preserved
 loop-trip-preserved c =

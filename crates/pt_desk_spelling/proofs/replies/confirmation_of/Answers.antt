@@ -1,7 +1,7 @@
 use Rattle.std.proofs.Common.{Some, ap}
-use Rattle.pt_requests.specs.declared.request.Confirmation.{Confirmation}
-use Rattle.pt_spelling.proofs.ReplyLemmas.{told-same, told-is}
-use Rattle.pt_spelling.proofs.replies.confirmation_of.Goals as goal
+use Rattle.pt_desk_requests.specs.declared.request.Confirmation.{Confirmation}
+use Rattle.pt_desk_spelling.proofs.ReplyLemmas.{told-same, told-is}
+use Rattle.pt_desk_spelling.proofs.replies.confirmation_of.Goals as goal
 
 pub returns-clause-read : goal.returns-clause-read
 returns-clause-read c = λ told fits same.

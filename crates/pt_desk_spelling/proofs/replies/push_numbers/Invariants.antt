@@ -1,7 +1,7 @@
 use Rattle.std.proofs.Common.{◌≡◌, ◌+◌, ◌*◌, ◌++◌, take, length}
 use Rattle.std.specs.List.{flat_map}
-use Rattle.pt_spelling.specs.Fields.{number_bytes}
-use Rattle.pt_spelling.proofs.replies.push_numbers.Given as goal
+use Rattle.pt_desk_spelling.specs.Fields.{number_bytes}
+use Rattle.pt_desk_spelling.proofs.replies.push_numbers.Given as goal
 
 abbrev pub invariant-loop-number : goal.invariant-loop-number
 invariant-loop-number l = record {

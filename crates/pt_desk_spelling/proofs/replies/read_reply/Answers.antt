@@ -1,12 +1,12 @@
 use Rattle.std.proofs.Common.{ℕ, ◌∷◌, Some, ap, ◌∙◌, arith}
 use Rattle.std.proofs.lemmas.Bool.Decides.{nat_tests}
-use Rattle.pt_spelling.specs.declared.replies.KeptReply.{KeptReply}
-use Rattle.pt_spelling.proofs.ReplyLemmas.{entered-only, booked-only, none-only}
-use Rattle.pt_spelling.proofs.replies.read_reply.Goals as goal
-use Rattle.pt_spelling.proofs.replies.read_reply.Goals.{in_default-via-in-0+else-is_empty}
-use Rattle.pt_spelling.proofs.replies.read_reply.Goals.{in_default-via-in-1+else-fields-eq4}
-use Rattle.pt_spelling.proofs.replies.read_reply.Goals.{in_default-via-in-2+else-fields-eq-CONFIRMATION_BYTES}
-use Rattle.pt_spelling.proofs.replies.read_reply.Goals.{in_default-via-in_default-1}
+use Rattle.pt_desk_spelling.specs.declared.replies.KeptReply.{KeptReply}
+use Rattle.pt_desk_spelling.proofs.ReplyLemmas.{entered-only, booked-only, none-only}
+use Rattle.pt_desk_spelling.proofs.replies.read_reply.Goals as goal
+use Rattle.pt_desk_spelling.proofs.replies.read_reply.Goals.{in_default-via-in-0+else-is_empty}
+use Rattle.pt_desk_spelling.proofs.replies.read_reply.Goals.{in_default-via-in-1+else-fields-eq4}
+use Rattle.pt_desk_spelling.proofs.replies.read_reply.Goals.{in_default-via-in-2+else-fields-eq-CONFIRMATION_BYTES}
+use Rattle.pt_desk_spelling.proofs.replies.read_reply.Goals.{in_default-via-in_default-1}
 
 pub returns-in_err-confirmation_of-in-2-clause-read :
     goal.returns-in_err-confirmation_of-in-2-clause-read

@@ -1,7 +1,7 @@
 use Rattle.std.proofs.Common.{◌≡◌, ◌∙◌, sym, rules}
-use Rattle.pt_spelling.specs.Requests.{spelling}
-use Rattle.pt_spelling.proofs.RequestLemmas.{spelling-injective}
-use Rattle.pt_spelling.proofs.requests.spell.Goals as goal
+use Rattle.pt_desk_spelling.specs.Requests.{spelling}
+use Rattle.pt_desk_spelling.proofs.RequestLemmas.{spelling-injective}
+use Rattle.pt_desk_spelling.proofs.requests.spell.Goals as goal
 
 pub returns-clause-only : goal.returns-clause-only
 returns-clause-only c = λ other fits same.

@@ -1,9 +1,9 @@
 use Rattle.std.proofs.Common.{◌≡◌, ℕ, ◌<◌, ◌++◌, take, get_or}
 use Rattle.std.specs.List.{flat_map}
-use Rattle.pt_rights.specs.Conditions.{IsCondition}
-use Rattle.pt_rights.specs.declared.conditions.Condition.{Condition}
-use Rattle.pt_spelling.specs.Requests.{condition_bytes}
-use Rattle.pt_spelling.proofs.riders.push_conditions.Given as goal
+use Rattle.pt_rights_files.specs.Conditions.{IsCondition}
+use Rattle.pt_rights_files.specs.declared.conditions.Condition.{Condition}
+use Rattle.pt_desk_spelling.specs.Requests.{condition_bytes}
+use Rattle.pt_desk_spelling.proofs.riders.push_conditions.Given as goal
 
 abbrev pub invariant-loop-member : goal.invariant-loop-member
 invariant-loop-member l = record {

@@ -1,9 +1,9 @@
 use Rattle.std.proofs.Common.{◌≡◌, ℕ, ◌<◌, ◌++◌, take, get_or}
 use Rattle.std.specs.List.{flat_map}
 use Rattle.pt_travel.specs.Chain.{Row}
-use Rattle.pt_spelling.specs.Ranges.{IsRow}
-use Rattle.pt_spelling.specs.Requests.{row_bytes}
-use Rattle.pt_spelling.proofs.settings.push_rows.Given as goal
+use Rattle.pt_desk_spelling.specs.Ranges.{IsRow}
+use Rattle.pt_desk_spelling.specs.Requests.{row_bytes}
+use Rattle.pt_desk_spelling.proofs.settings.push_rows.Given as goal
 
 abbrev pub invariant-loop-row : goal.invariant-loop-row
 invariant-loop-row l = record {

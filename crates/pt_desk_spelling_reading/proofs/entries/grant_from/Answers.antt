@@ -1,12 +1,12 @@
 use Rattle.std.proofs.Common.{List, Some, ap}
 use Rattle.std.specs.List.{All}
-use Rattle.pt_rights.specs.Conditions.{IsCondition, IsConditions}
-use Rattle.pt_rights.specs.declared.conditions.Condition.{Condition}
-use Rattle.pt_rights.specs.declared.entry.Grant.{Grant}
-use Rattle.pt_spelling.specs.Fields.{list_bytes}
-use Rattle.pt_spelling.specs.Requests.{condition_bytes}
-use Rattle.pt_spelling_reading.proofs.ReadingLemmas.{found-same, none-found, taken-whole}
-use Rattle.pt_spelling_reading.proofs.entries.grant_from.Goals as goal
+use Rattle.pt_rights_files.specs.Conditions.{IsCondition, IsConditions}
+use Rattle.pt_rights_files.specs.declared.conditions.Condition.{Condition}
+use Rattle.pt_rights_files.specs.declared.entry.Grant.{Grant}
+use Rattle.pt_desk_spelling.specs.Fields.{list_bytes}
+use Rattle.pt_desk_spelling.specs.Requests.{condition_bytes}
+use Rattle.pt_desk_spelling_reading.proofs.ReadingLemmas.{found-same, none-found, taken-whole}
+use Rattle.pt_desk_spelling_reading.proofs.entries.grant_from.Goals as goal
 
 pub returns-in_err-take_conditions : goal.returns-in_err-take_conditions
 returns-in_err-take_conditions c = λ grant fits e.

@@ -1,10 +1,10 @@
 use Rattle.std.proofs.Common.{◌≡◌, ◌∙◌, ℕ, List, length, None, Some, ap, sym, subst, arith}
-use Rattle.pt_conditions.proofs.ResultLemmas.{some-from_only}
-use Rattle.pt_rights.specs.Reasons.{IsReasons}
-use Rattle.pt_spelling.specs.Fields.{text_bytes}
-use Rattle.pt_spelling.specs.Ranges.{IsWord}
-use Rattle.pt_spelling_reading.proofs.ReadingLemmas.{some-same, taken-whole}
-use Rattle.pt_spelling_reading.proofs.entries.reasons_from.Goals as goal
+use Rattle.pt_rights_conditions.proofs.ResultLemmas.{some-from_only}
+use Rattle.pt_rights_files.specs.Reasons.{IsReasons}
+use Rattle.pt_desk_spelling.specs.Fields.{text_bytes}
+use Rattle.pt_desk_spelling.specs.Ranges.{IsWord}
+use Rattle.pt_desk_spelling_reading.proofs.ReadingLemmas.{some-same, taken-whole}
+use Rattle.pt_desk_spelling_reading.proofs.entries.reasons_from.Goals as goal
 
 pub returns-in_ok-from_slice-in-Some : goal.returns-in_ok-from_slice-in-Some
 returns-in_ok-from_slice-in-Some c = λ reasons fits e.

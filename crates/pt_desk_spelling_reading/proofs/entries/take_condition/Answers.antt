@@ -1,10 +1,10 @@
 use Rattle.std.proofs.Common.{◌∙◌, None, refl, sym, subst, arith}
 use Rattle.std.specs.Prelude.{IsUtf8}
-use Rattle.pt_conditions.specs.Texts.{condition_text}
-use Rattle.pt_spelling.proofs.EntryLemmas.{condition-short}
-use Rattle.pt_spelling_reading.proofs.ConditionAscii.{condition-utf8}
-use Rattle.pt_spelling_reading.proofs.ReadingLemmas.{condition-found, some-same, none-found}
-use Rattle.pt_spelling_reading.proofs.entries.take_condition.Goals as goal
+use Rattle.pt_rights_conditions.specs.Texts.{condition_text}
+use Rattle.pt_desk_spelling.proofs.EntryLemmas.{condition-short}
+use Rattle.pt_desk_spelling_reading.proofs.ConditionAscii.{condition-utf8}
+use Rattle.pt_desk_spelling_reading.proofs.ReadingLemmas.{condition-found, some-same, none-found}
+use Rattle.pt_desk_spelling_reading.proofs.entries.take_condition.Goals as goal
 
 pub returns-in_err-bytes : goal.returns-in_err-bytes
 returns-in_err-bytes c = λ condition later fits e.

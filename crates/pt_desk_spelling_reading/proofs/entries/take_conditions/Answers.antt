@@ -1,10 +1,10 @@
 use Rattle.std.proofs.Common.{◌∷◌, [], length, length-append, ap, arith}
 use Rattle.std.specs.Int.{IsInRange}
-use Rattle.pt_rights.specs.Conditions.{IsCondition}
-use Rattle.pt_rights.specs.declared.conditions.Condition.TheVariants.{Always}
-use Rattle.pt_spelling.specs.Requests.{condition_bytes}
-use Rattle.pt_spelling_reading.proofs.ListReading.{taken-first, taken-more, taken-short}
-use Rattle.pt_spelling_reading.proofs.entries.take_conditions.Goals as goal
+use Rattle.pt_rights_files.specs.Conditions.{IsCondition}
+use Rattle.pt_rights_files.specs.declared.conditions.Condition.TheVariants.{Always}
+use Rattle.pt_desk_spelling.specs.Requests.{condition_bytes}
+use Rattle.pt_desk_spelling_reading.proofs.ListReading.{taken-first, taken-more, taken-short}
+use Rattle.pt_desk_spelling_reading.proofs.entries.take_conditions.Goals as goal
 
 pub loop-taken-init : goal.loop-taken-init
 loop-taken-init c = record {

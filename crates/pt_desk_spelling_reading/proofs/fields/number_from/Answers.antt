@@ -1,7 +1,7 @@
 use Rattle.std.specs.Int.{IsInRange}
-use Rattle.pt_spelling.specs.Fields.{number_bytes}
-use Rattle.pt_spelling_reading.proofs.ReadingLemmas.{taken-whole}
-use Rattle.pt_spelling_reading.proofs.fields.number_from.Goals as goal
+use Rattle.pt_desk_spelling.specs.Fields.{number_bytes}
+use Rattle.pt_desk_spelling_reading.proofs.ReadingLemmas.{taken-whole}
+use Rattle.pt_desk_spelling_reading.proofs.fields.number_from.Goals as goal
 
 pub returns-clause-found : goal.returns-clause-found
 returns-clause-found c =

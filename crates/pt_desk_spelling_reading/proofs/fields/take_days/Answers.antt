@@ -1,8 +1,8 @@
 use Rattle.std.proofs.Common.{◌≡◌, Some, ap, arith}
-use Rattle.pt_spelling.specs.Fields.{days_byte}
-use Rattle.pt_spelling.proofs.FieldLemmas.{days-same}
-use Rattle.pt_spelling_reading.proofs.ReadingLemmas.{found-same, week-few}
-use Rattle.pt_spelling_reading.proofs.fields.take_days.Goals as goal
+use Rattle.pt_desk_spelling.specs.Fields.{days_byte}
+use Rattle.pt_desk_spelling.proofs.FieldLemmas.{days-same}
+use Rattle.pt_desk_spelling_reading.proofs.ReadingLemmas.{found-same, week-few}
+use Rattle.pt_desk_spelling_reading.proofs.fields.take_days.Goals as goal
 
 pub returns : goal.returns
 returns c = λ days later week e.

@@ -1,8 +1,8 @@
 use Rattle.std.proofs.Common.{◌≤◌, ◌∙◌, arith}
-use Rattle.pt_base.specs.Ranges.{last_minute}
+use Rattle.pt_base_values.specs.Ranges.{last_minute}
 use Rattle.pt_corridor.specs.Route.{route_of}
-use Rattle.pt_spelling_reading.proofs.ReadingLemmas.{found-same, route-found}
-use Rattle.pt_spelling_reading.proofs.routes.route_along.Goals as goal
+use Rattle.pt_desk_spelling_reading.proofs.ReadingLemmas.{found-same, route-found}
+use Rattle.pt_desk_spelling_reading.proofs.routes.route_along.Goals as goal
 
 pub returns : goal.returns
 returns c = λ route fits same_id same_width same_points e.

@@ -1,6 +1,6 @@
 use Rattle.std.proofs.Common.{◌∙◌, arith}
-use Rattle.pt_spelling_reading.proofs.ReadingLemmas.{found-same, mapped-none, mapped-some, route-parts}
-use Rattle.pt_spelling_reading.proofs.routes.route_from.Goals as goal
+use Rattle.pt_desk_spelling_reading.proofs.ReadingLemmas.{found-same, mapped-none, mapped-some, route-parts}
+use Rattle.pt_desk_spelling_reading.proofs.routes.route_from.Goals as goal
 
 pub returns-in_default-2 : goal.returns-in_default-2
 returns-in_default-2 c = λ route fits e.

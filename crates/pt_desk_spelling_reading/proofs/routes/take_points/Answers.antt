@@ -1,10 +1,10 @@
 use Rattle.std.specs.Prelude.{pos}
-use Rattle.pt_base.specs.Place.{IsOnPlane}
-use Rattle.pt_base.specs.declared.place.Point.{Point}
-use Rattle.pt_spelling.specs.Ranges.{IsWord}
-use Rattle.pt_spelling.specs.Requests.{point_bytes}
-use Rattle.pt_spelling_reading.proofs.ListReading.{taken-more, taken-short}
-use Rattle.pt_spelling_reading.proofs.routes.take_points.Goals as goal
+use Rattle.pt_base_values.specs.Place.{IsOnPlane}
+use Rattle.pt_base_values.specs.declared.place.Point.{Point}
+use Rattle.pt_desk_spelling.specs.Ranges.{IsWord}
+use Rattle.pt_desk_spelling.specs.Requests.{point_bytes}
+use Rattle.pt_desk_spelling_reading.proofs.ListReading.{taken-more, taken-short}
+use Rattle.pt_desk_spelling_reading.proofs.routes.take_points.Goals as goal
 
 abbrev FitsPoint : Point → Type 0
 FitsPoint point = IsOnPlane point.x point.y

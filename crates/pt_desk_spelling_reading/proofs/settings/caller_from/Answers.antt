@@ -1,9 +1,9 @@
 use Rattle.std.proofs.Common.{◌∙◌, List, ℕ, Some, ap, sym, length, ◌≡◌}
-use Rattle.pt_requests.specs.declared.caller.Caller.{Caller}
-use Rattle.pt_spelling.proofs.SettingLemmas.{subject-word}
-use Rattle.pt_spelling.specs.Requests.{role_number, subject_of}
-use Rattle.pt_spelling_reading.proofs.ReadingLemmas.{found-same, none-found, taken-whole, caller-parts}
-use Rattle.pt_spelling_reading.proofs.settings.caller_from.Goals as goal
+use Rattle.pt_desk_requests.specs.declared.caller.Caller.{Caller}
+use Rattle.pt_desk_spelling.proofs.SettingLemmas.{subject-word}
+use Rattle.pt_desk_spelling.specs.Requests.{role_number, subject_of}
+use Rattle.pt_desk_spelling_reading.proofs.ReadingLemmas.{found-same, none-found, taken-whole, caller-parts}
+use Rattle.pt_desk_spelling_reading.proofs.settings.caller_from.Goals as goal
 
 pub returns-in_err-take_digest : goal.returns-in_err-take_digest
 returns-in_err-take_digest c = λ caller fits e.

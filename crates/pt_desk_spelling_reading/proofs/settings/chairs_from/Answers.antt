@@ -1,7 +1,7 @@
 use Rattle.std.proofs.Common.{ℕ, Some, sym, ap}
-use Rattle.pt_spelling_reading.proofs.ReadingLemmas.{no-bytes, some-bytes, no-chairs, some-chairs, none-found}
-use Rattle.pt_spelling_reading.proofs.ReadingLemmas.{found-same}
-use Rattle.pt_spelling_reading.proofs.settings.chairs_from.Goals as goal
+use Rattle.pt_desk_spelling_reading.proofs.ReadingLemmas.{no-bytes, some-bytes, no-chairs, some-chairs, none-found}
+use Rattle.pt_desk_spelling_reading.proofs.ReadingLemmas.{found-same}
+use Rattle.pt_desk_spelling_reading.proofs.settings.chairs_from.Goals as goal
 
 pub returns-then-is_empty-clause-found : goal.returns-then-is_empty-clause-found
 returns-then-is_empty-clause-found c = λ chairs fits e.

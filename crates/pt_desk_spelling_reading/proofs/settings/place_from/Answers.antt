@@ -1,9 +1,9 @@
 use Rattle.std.proofs.Common.{◌∙◌, Bool, Some, ap}
-use Rattle.pt_base.specs.declared.place.Place.{Place}
-use Rattle.pt_spelling.specs.Fields.{truth_bytes}
-use Rattle.pt_spelling.proofs.SettingLemmas.{place-from}
-use Rattle.pt_spelling_reading.proofs.ReadingLemmas.{found-same, place-parts, taken-whole}
-use Rattle.pt_spelling_reading.proofs.settings.place_from.Goals as goal
+use Rattle.pt_base_values.specs.declared.place.Place.{Place}
+use Rattle.pt_desk_spelling.specs.Fields.{truth_bytes}
+use Rattle.pt_desk_spelling.proofs.SettingLemmas.{place-from}
+use Rattle.pt_desk_spelling_reading.proofs.ReadingLemmas.{found-same, place-parts, taken-whole}
+use Rattle.pt_desk_spelling_reading.proofs.settings.place_from.Goals as goal
 
 pub returns : goal.returns
 returns c = λ place fits e.

@@ -1,9 +1,9 @@
 use Rattle.std.proofs.Common.{◌∷◌, [], Some, ap, arith}
-use Rattle.pt_base.specs.declared.policy.Policy.{Policy}
-use Rattle.pt_spelling.specs.Fields.{numbers_bytes}
-use Rattle.pt_spelling.proofs.SettingLemmas.{policy-same}
-use Rattle.pt_spelling_reading.proofs.ReadingLemmas.{found-same}
-use Rattle.pt_spelling_reading.proofs.settings.policy_from.Goals as goal
+use Rattle.pt_base_values.specs.declared.policy.Policy.{Policy}
+use Rattle.pt_desk_spelling.specs.Fields.{numbers_bytes}
+use Rattle.pt_desk_spelling.proofs.SettingLemmas.{policy-same}
+use Rattle.pt_desk_spelling_reading.proofs.ReadingLemmas.{found-same}
+use Rattle.pt_desk_spelling_reading.proofs.settings.policy_from.Goals as goal
 
 pub returns : goal.returns
 returns c = λ policy any e.

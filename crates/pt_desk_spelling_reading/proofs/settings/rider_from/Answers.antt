@@ -1,7 +1,7 @@
 use Rattle.std.proofs.Common.{◌∙◌, Some, ap}
-use Rattle.pt_base.specs.declared.rider.Rider.{Rider}
-use Rattle.pt_spelling_reading.proofs.ReadingLemmas.{found-same, some-same, rider-parts}
-use Rattle.pt_spelling_reading.proofs.settings.rider_from.Goals as goal
+use Rattle.pt_base_values.specs.declared.rider.Rider.{Rider}
+use Rattle.pt_desk_spelling_reading.proofs.ReadingLemmas.{found-same, some-same, rider-parts}
+use Rattle.pt_desk_spelling_reading.proofs.settings.rider_from.Goals as goal
 
 pub returns : goal.returns
 returns c = λ rider fits e.

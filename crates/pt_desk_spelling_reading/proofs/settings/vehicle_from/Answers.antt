@@ -1,9 +1,9 @@
 use Rattle.std.proofs.Common.{◌≤◌, ◌∷◌, [], ◌∙◌, Some, sym, ap, arith}
-use Rattle.pt_base.specs.Ranges.{last_minute}
-use Rattle.pt_base.specs.declared.vehicle.Vehicle.{Vehicle}
-use Rattle.pt_spelling.proofs.SettingLemmas.{vehicle-from}
-use Rattle.pt_spelling_reading.proofs.ReadingLemmas.{found-same, none-found, not-after, vehicle-parts}
-use Rattle.pt_spelling_reading.proofs.settings.vehicle_from.Goals as goal
+use Rattle.pt_base_values.specs.Ranges.{last_minute}
+use Rattle.pt_base_values.specs.declared.vehicle.Vehicle.{Vehicle}
+use Rattle.pt_desk_spelling.proofs.SettingLemmas.{vehicle-from}
+use Rattle.pt_desk_spelling_reading.proofs.ReadingLemmas.{found-same, none-found, not-after, vehicle-parts}
+use Rattle.pt_desk_spelling_reading.proofs.settings.vehicle_from.Goals as goal
 
 pub returns-in_err-days : goal.returns-in_err-days
 returns-in_err-days c = λ version fits e.

@@ -1,14 +1,14 @@
 use Rattle.std.proofs.Common.{◌≤◌, ◌∙◌, List, length, Some, sym, ap, subst, arith}
 use Rattle.std.specs.List.{All}
-use Rattle.pt_conditions.proofs.ResultLemmas.{some-from_only}
-use Rattle.pt_spelling.proofs.TableLemmas.{length-table}
-use Rattle.pt_spelling.specs.Fields.{list_bytes}
-use Rattle.pt_spelling.specs.Ranges.{IsRow, IsWord}
-use Rattle.pt_spelling.specs.Requests.{row_bytes}
+use Rattle.pt_rights_conditions.proofs.ResultLemmas.{some-from_only}
+use Rattle.pt_desk_spelling.proofs.TableLemmas.{length-table}
+use Rattle.pt_desk_spelling.specs.Fields.{list_bytes}
+use Rattle.pt_desk_spelling.specs.Ranges.{IsRow, IsWord}
+use Rattle.pt_desk_spelling.specs.Requests.{row_bytes}
 use Rattle.pt_travel.specs.Chain.{Row}
 use Rattle.pt_travel.specs.Table.{IsTable}
-use Rattle.pt_spelling_reading.proofs.ReadingLemmas.{mapped-none, mapped-some, taken-whole}
-use Rattle.pt_spelling_reading.proofs.travel.table_from.Goals as goal
+use Rattle.pt_desk_spelling_reading.proofs.ReadingLemmas.{mapped-none, mapped-some, taken-whole}
+use Rattle.pt_desk_spelling_reading.proofs.travel.table_from.Goals as goal
 
 abbrev FitRows : List Row → Type 0
 FitRows rows = IsWord (length rows) × All (λ row. IsRow row × (row.2 ≤ 1439)) rows

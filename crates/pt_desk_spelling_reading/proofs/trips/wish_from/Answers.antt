@@ -1,9 +1,9 @@
 use Rattle.std.proofs.Common.{◌∙◌, Some, ap, arith}
 use Rattle.std.specs.Int.{IsInRange}
-use Rattle.pt_base.specs.declared.trip.Wish.{Wish}
-use Rattle.pt_spelling.specs.Fields.{number_bytes}
-use Rattle.pt_spelling_reading.proofs.ReadingLemmas.{found-same, none-found, taken-whole, wish-parts}
-use Rattle.pt_spelling_reading.proofs.trips.wish_from.Goals as goal
+use Rattle.pt_base_values.specs.declared.trip.Wish.{Wish}
+use Rattle.pt_desk_spelling.specs.Fields.{number_bytes}
+use Rattle.pt_desk_spelling_reading.proofs.ReadingLemmas.{found-same, none-found, taken-whole, wish-parts}
+use Rattle.pt_desk_spelling_reading.proofs.trips.wish_from.Goals as goal
 
 pub returns-in_err-take_optional : goal.returns-in_err-take_optional
 returns-in_err-take_optional c = λ wish fits e.

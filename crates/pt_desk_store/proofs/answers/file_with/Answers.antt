@@ -1,6 +1,6 @@
 use Rattle.std.proofs.Common.{◌≡◌, ◌+◌, ◌<◌, ◌∷◌, suc, length, drop, drop-cons, add-one, sym, ap, ◌∙◌, arith}
-use Rattle.pt_store.proofs.FileLemmas.{filled, filled-more}
-use Rattle.pt_store.proofs.answers.file_with.Goals as goal
+use Rattle.pt_desk_store.proofs.FileLemmas.{filled, filled-more}
+use Rattle.pt_desk_store.proofs.answers.file_with.Goals as goal
 
 pub loop-filed-preserved : goal.loop-filed-preserved
 loop-filed-preserved c =

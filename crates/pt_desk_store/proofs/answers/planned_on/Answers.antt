@@ -1,11 +1,11 @@
 use Rattle.std.proofs.Common.{List, arith, sym, ap, subst, ◌∙◌, ◌++◌, append-nil}
 use Rattle.std.specs.Prelude.{◌==◌}
 use Rattle.std.proofs.lemmas.List.{drop_all}
-use Rattle.pt_records.proofs.TableLemmas.{IsInOrder-filter}
-use Rattle.pt_records.specs.Records.{IsInOrder}
-use Rattle.pt_scheduling.specs.Plan.{Plan, plan_key}
+use Rattle.pt_base_records.proofs.TableLemmas.{IsInOrder-filter}
+use Rattle.pt_base_records.specs.Records.{IsInOrder}
+use Rattle.pt_desk_scheduling.specs.Plan.{Plan, plan_key}
 use Rattle.pt_desk_rules.specs.Planned.{planned_on}
-use Rattle.pt_store.proofs.answers.planned_on.Goals as goal
+use Rattle.pt_desk_store.proofs.answers.planned_on.Goals as goal
 
 pub of-requires : goal.of-requires
 of-requires c =

@@ -1,6 +1,6 @@
 use Rattle.std.proofs.Common.{◌≡◌, ◌+◌, ◌≤◌, drop, length}
 use Rattle.pt_desk_rules.specs.State.{tables_before}
-use Rattle.pt_store.proofs.answers.table_count_before.Given as goal
+use Rattle.pt_desk_store.proofs.answers.table_count_before.Given as goal
 
 abbrev pub invariant-loop-table : goal.invariant-loop-table
 invariant-loop-table l = record {

@@ -1,12 +1,12 @@
 use Rattle.std.proofs.Common.{List, arith, sym, ap, subst, ◌∙◌, ◌++◌, append-nil}
 use Rattle.std.specs.Prelude.{◌==◌}
 use Rattle.std.proofs.lemmas.List.{drop_all}
-use Rattle.pt_records.proofs.TableLemmas.{IsInOrder-filter}
-use Rattle.pt_records.specs.Records.{IsInOrder}
-use Rattle.pt_base.specs.declared.trip.Trip.{Trip}
+use Rattle.pt_base_records.proofs.TableLemmas.{IsInOrder-filter}
+use Rattle.pt_base_records.specs.Records.{IsInOrder}
+use Rattle.pt_base_values.specs.declared.trip.Trip.{Trip}
 use Rattle.pt_desk_rules.specs.Planned.{trips_on}
 use Rattle.pt_desk_rules.specs.State.{trip_key}
-use Rattle.pt_store.proofs.answers.trips_on.Goals as goal
+use Rattle.pt_desk_store.proofs.answers.trips_on.Goals as goal
 
 pub of-requires : goal.of-requires
 of-requires c =

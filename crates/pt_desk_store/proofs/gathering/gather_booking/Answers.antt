@@ -1,12 +1,12 @@
-use Rattle.pt_desk_rules.specs.Facts.{plan_for, trips_counted_for}
+use Rattle.pt_desk_rules.specs.Facts.{no_day, plan_for, trips_counted_for}
 use Rattle.pt_desk_rules.specs.State.{State}
-use Rattle.pt_store.proofs.ReadLemmas.{after, reads_pair, reads_map, fault_handed}
-use Rattle.pt_store.proofs.gathering.gather_booking.Goals as goal
+use Rattle.pt_desk_store.proofs.ReadLemmas.{after, reads_pair, reads_map, fault_handed}
+use Rattle.pt_desk_store.proofs.gathering.gather_booking.Goals as goal
 
 pub returns : goal.returns
 returns g c = record {
   reads =
-      (reads_map _ _ _ _ (λ found. record { trip = c.args.old.now; plan = found.1.1.0; routes = found.1.1.1; last_trip = found.0; trips = found.1.0; day = c.args.day })
+      rw c.none.ensures.value (reads_map _ _ _ _ (λ found. record { trip = c.args.old.now; plan = found.1.1.0; routes = found.1.1.1; last_trip = found.0; trips = found.1.0; day = no_day })
       (reads_pair _ _ _ (λ (s : State). s.last_trip)
       (λ (s : State). (trips_counted_for c.args.found.now s.trips, (plan_for c.args.old.now s, s.routes))) _ _ c.in_ok-last_trip.ensures.reads
       (reads_pair _ _ _ (λ (s : State). trips_counted_for c.args.found.now s.trips) (λ (s : State). (plan_for c.args.old.now s, s.routes)) _ _ c.in_ok-trips.ensures.reads

@@ -1,8 +1,8 @@
 use Rattle.std.specs.Prelude.{length}
 use Rattle.pt_desk_rules.specs.Facts.{has_subject}
 use Rattle.pt_desk_rules.specs.State.{State, caller_of, caller_with}
-use Rattle.pt_store.proofs.ReadLemmas.{after, reads_pair, reads_map, fault_handed}
-use Rattle.pt_store.proofs.gathering.gather_caller.Goals as goal
+use Rattle.pt_desk_store.proofs.ReadLemmas.{after, reads_pair, reads_map, fault_handed}
+use Rattle.pt_desk_store.proofs.gathering.gather_caller.Goals as goal
 
 pub returns : goal.returns
 returns g c = record {

@@ -1,9 +1,9 @@
 use Rattle.std.specs.Prelude.{Option}
-use Rattle.pt_base.specs.declared.trip.Trip.{Trip}
+use Rattle.pt_base_values.specs.declared.trip.Trip.{Trip}
 use Rattle.pt_desk_rules.specs.Facts.{plan_for, rider_for}
 use Rattle.pt_desk_rules.specs.State.{State, trip_of}
-use Rattle.pt_store.proofs.ReadLemmas.{after, reads_by, reads_map, reads_pair, fault_handed}
-use Rattle.pt_store.proofs.gathering.gather_cancel.Goals as goal
+use Rattle.pt_desk_store.proofs.ReadLemmas.{after, reads_by, reads_map, reads_pair, fault_handed}
+use Rattle.pt_desk_store.proofs.gathering.gather_cancel.Goals as goal
 
 pub returns : goal.returns
 returns g c =

@@ -1,8 +1,8 @@
 use Rattle.pt_desk_rules.specs.Planned.{planned_on, trips_on}
 use Rattle.pt_desk_rules.specs.State.{State}
 use Rattle.pt_desk_rules.specs.Travel.{table_on}
-use Rattle.pt_store.proofs.ReadLemmas.{after, reads_pair, reads_map, fault_handed}
-use Rattle.pt_store.proofs.gathering.gather_day.Goals as goal
+use Rattle.pt_desk_store.proofs.ReadLemmas.{after, reads_pair, reads_map, fault_handed}
+use Rattle.pt_desk_store.proofs.gathering.gather_day.Goals as goal
 
 pub returns : goal.returns
 returns g c = record {

@@ -1,6 +1,6 @@
 use Rattle.pt_desk_rules.specs.Facts.{no_read_facts}
-use Rattle.pt_store.proofs.ReadLemmas.{reads_map}
-use Rattle.pt_store.proofs.gathering.gather_letter.Goals as goal
+use Rattle.pt_desk_store.proofs.ReadLemmas.{reads_map}
+use Rattle.pt_desk_store.proofs.gathering.gather_letter.Goals as goal
 
 pub returns : goal.returns
 returns g c = record {

@@ -1,8 +1,8 @@
 use Rattle.std.proofs.Common.{length}
 use Rattle.std.specs.Prelude.{is_some}
 use Rattle.pt_desk_rules.specs.State.{State, place_of}
-use Rattle.pt_store.proofs.ReadLemmas.{after, reads_pair, reads_map, fault_handed}
-use Rattle.pt_store.proofs.gathering.gather_place.Goals as goal
+use Rattle.pt_desk_store.proofs.ReadLemmas.{after, reads_pair, reads_map, fault_handed}
+use Rattle.pt_desk_store.proofs.gathering.gather_place.Goals as goal
 
 pub returns : goal.returns
 returns g c = record {

@@ -1,7 +1,7 @@
 use Rattle.std.specs.Prelude.{length}
 use Rattle.pt_desk_rules.specs.State.{State, rider_of}
-use Rattle.pt_store.proofs.ReadLemmas.{after, reads_pair, reads_map, fault_handed}
-use Rattle.pt_store.proofs.gathering.gather_rider.Goals as goal
+use Rattle.pt_desk_store.proofs.ReadLemmas.{after, reads_pair, reads_map, fault_handed}
+use Rattle.pt_desk_store.proofs.gathering.gather_rider.Goals as goal
 
 pub returns : goal.returns
 returns g c = record {

@@ -1,8 +1,8 @@
 use Rattle.pt_desk_rules.specs.Facts.{no_read_facts}
-use Rattle.pt_store.specs.Enough.{IsEnough}
-use Rattle.pt_requests.specs.declared.request.Read.TheVariants.{Manifest}
-use Rattle.pt_store.proofs.SomeLemmas.{run_whole, some_fault_as, some_there}
-use Rattle.pt_store.proofs.gathering.gather_run.Goals as goal
+use Rattle.pt_desk_store.specs.Enough.{IsEnough}
+use Rattle.pt_desk_requests.specs.declared.request.Read.TheVariants.{Manifest}
+use Rattle.pt_desk_store.proofs.SomeLemmas.{run_whole, some_fault_as, some_there}
+use Rattle.pt_desk_store.proofs.gathering.gather_run.Goals as goal
 
 pub returns-in_err-facts : goal.returns-in_err-facts
 returns-in_err-facts g c = record {

@@ -1,10 +1,10 @@
 use Rattle.std.proofs.Common.{List, Option}
-use Rattle.pt_base.specs.declared.rider.Rider.{Rider}
-use Rattle.pt_rights.specs.declared.entry.Entered.{Entered}
+use Rattle.pt_base_values.specs.declared.rider.Rider.{Rider}
+use Rattle.pt_rights_files.specs.declared.entry.Entered.{Entered}
 use Rattle.pt_desk_rules.specs.Facts.{no_read_facts, trips_counted_for}
 use Rattle.pt_desk_rules.specs.State.{State, file_of, rider_of}
-use Rattle.pt_store.proofs.ReadLemmas.{after, reads_by, reads_map, fault_handed}
-use Rattle.pt_store.proofs.gathering.gather_standing.Goals as goal
+use Rattle.pt_desk_store.proofs.ReadLemmas.{after, reads_by, reads_map, fault_handed}
+use Rattle.pt_desk_store.proofs.gathering.gather_standing.Goals as goal
 
 pub returns : goal.returns
 returns g c = record {

@@ -1,7 +1,7 @@
 use Rattle.pt_desk_rules.specs.Facts.{day_of, no_read_facts}
 use Rattle.pt_desk_rules.specs.State.{State}
-use Rattle.pt_store.proofs.ReadLemmas.{after, reads_pair, reads_map, fault_handed}
-use Rattle.pt_store.proofs.gathering.gather_tours.Goals as goal
+use Rattle.pt_desk_store.proofs.ReadLemmas.{after, reads_pair, reads_map, fault_handed}
+use Rattle.pt_desk_store.proofs.gathering.gather_tours.Goals as goal
 
 pub returns : goal.returns
 returns g c = record {

@@ -1,8 +1,8 @@
 use Rattle.std.specs.Prelude.{length, None}
 use Rattle.pt_desk_rules.specs.Planned.{is_booked_from}
 use Rattle.pt_desk_rules.specs.State.{State, tables_before}
-use Rattle.pt_store.proofs.ReadLemmas.{after, reads_pair, reads_map, fault_handed}
-use Rattle.pt_store.proofs.gathering.gather_travel.Goals as goal
+use Rattle.pt_desk_store.proofs.ReadLemmas.{after, reads_pair, reads_map, fault_handed}
+use Rattle.pt_desk_store.proofs.gathering.gather_travel.Goals as goal
 
 pub returns : goal.returns
 returns g c =

@@ -1,8 +1,8 @@
 use Rattle.std.specs.Prelude.{is_some, Some}
 use Rattle.pt_desk_rules.specs.Planned.{is_booked_from}
 use Rattle.pt_desk_rules.specs.State.{State, place_of}
-use Rattle.pt_store.proofs.ReadLemmas.{after, reads_pair, reads_map, fault_handed}
-use Rattle.pt_store.proofs.gathering.gather_vehicle.Goals as goal
+use Rattle.pt_desk_store.proofs.ReadLemmas.{after, reads_pair, reads_map, fault_handed}
+use Rattle.pt_desk_store.proofs.gathering.gather_vehicle.Goals as goal
 
 pub returns : goal.returns
 returns g c =

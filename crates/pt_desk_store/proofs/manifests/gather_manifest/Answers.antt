@@ -1,5 +1,5 @@
-use Rattle.pt_store.proofs.SomeLemmas.{run_planned, run_unplanned}
-use Rattle.pt_store.proofs.manifests.gather_manifest.Goals as goal
+use Rattle.pt_desk_store.proofs.SomeLemmas.{run_planned, run_unplanned}
+use Rattle.pt_desk_store.proofs.manifests.gather_manifest.Goals as goal
 
 pub returns-in-Some : goal.returns-in-Some
 returns-in-Some g c = record {

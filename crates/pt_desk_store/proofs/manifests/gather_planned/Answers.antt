@@ -1,8 +1,8 @@
 use Rattle.std.proofs.Common.{◌≡◌, true, arith}
 use Rattle.std.proofs.lemmas.Bool.Decides.{nat_tests}
-use Rattle.pt_store.specs.Enough.{are_met}
-use Rattle.pt_store.proofs.SomeLemmas.{planned_told}
-use Rattle.pt_store.proofs.manifests.gather_planned.Goals as goal
+use Rattle.pt_desk_store.specs.Enough.{are_met}
+use Rattle.pt_desk_store.proofs.SomeLemmas.{planned_told}
+use Rattle.pt_desk_store.proofs.manifests.gather_planned.Goals as goal
 
 pub returns : goal.returns
 returns g c =

@@ -1,11 +1,11 @@
 use Rattle.std.proofs.Common.{◌≡◌, ◌∷◌, ◌++◌, [], subst}
-use Rattle.pt_base.specs.declared.trip.Trip.{Trip}
+use Rattle.pt_base_values.specs.declared.trip.Trip.{Trip}
 use Rattle.pt_desk_rules.specs.State.{trip_key}
-use Rattle.pt_records.specs.Records.{edited, Edit}
-use Rattle.pt_store.specs.Enough.{AreTripsIn}
-use Rattle.pt_store.proofs.SomeLemmas.{goes_more, own_more, own_still, some_fault, some_memory}
-use Rattle.pt_store.proofs.manifests.gather_trips.Goals.{in-Some+in_ok-put, in_default}
-use Rattle.pt_store.proofs.manifests.gather_trips.Goals as goal
+use Rattle.pt_base_records.specs.Records.{edited, Edit}
+use Rattle.pt_desk_store.specs.Enough.{AreTripsIn}
+use Rattle.pt_desk_store.proofs.SomeLemmas.{goes_more, own_more, own_still, some_fault, some_memory}
+use Rattle.pt_desk_store.proofs.manifests.gather_trips.Goals.{in-Some+in_ok-put, in_default}
+use Rattle.pt_desk_store.proofs.manifests.gather_trips.Goals as goal
 
 pub returns-in_err-trip : goal.returns-in_err-trip
 returns-in_err-trip g c = record {

@@ -1,9 +1,9 @@
 use Rattle.std.proofs.Common.{◌≡◌, None, Ok, []}
 use Rattle.pt_desk_rules.specs.State.{trip_key}
-use Rattle.pt_records.specs.Records.{edited}
-use Rattle.pt_store.specs.Enough.{AreTripsIn}
-use Rattle.pt_store.specs.Store.{Goes}
-use Rattle.pt_store.proofs.manifests.gather_trips.Given as goal
+use Rattle.pt_base_records.specs.Records.{edited}
+use Rattle.pt_desk_store.specs.Enough.{AreTripsIn}
+use Rattle.pt_desk_store.specs.Store.{Goes}
+use Rattle.pt_desk_store.proofs.manifests.gather_trips.Given as goal
 
 abbrev pub invariant-loop-stop : goal.invariant-loop-stop
 invariant-loop-stop g l =

@@ -1,7 +1,7 @@
 use Rattle.std.proofs.Common.{◌≡◌, ◌++◌, None, Ok, [], drop}
-use Rattle.pt_store.specs.Store.{Goes}
-use Rattle.pt_store.specs.Wished.{plans_found}
-use Rattle.pt_store.proofs.wished.gather_found.Given as goal
+use Rattle.pt_desk_store.specs.Store.{Goes}
+use Rattle.pt_desk_store.specs.Wished.{plans_found}
+use Rattle.pt_desk_store.proofs.wished.gather_found.Given as goal
 
 abbrev pub invariant-loop-vehicle : goal.invariant-loop-vehicle
 invariant-loop-vehicle g l =

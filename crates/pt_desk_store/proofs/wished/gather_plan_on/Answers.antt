@@ -1,8 +1,8 @@
 use Rattle.std.proofs.Common.{◌≡◌, true, false, arith}
 use Rattle.std.specs.Prelude.{◌==◌}
 use Rattle.std.proofs.lemmas.Bool.Decides.{nat_tests}
-use Rattle.pt_store.proofs.WishedLemmas.{none_read, other_read, plan_read}
-use Rattle.pt_store.proofs.wished.gather_plan_on.Goals as goal
+use Rattle.pt_desk_store.proofs.WishedLemmas.{none_read, other_read, plan_read}
+use Rattle.pt_desk_store.proofs.wished.gather_plan_on.Goals as goal
 
 pub returns-in_default : goal.returns-in_default
 returns-in_default g c = record { reads = none_read _ _ c.args.vehicle c.args.day c.in_ok-plan.field-0 c.in_ok-plan.ensures.reads c.in_default.is }

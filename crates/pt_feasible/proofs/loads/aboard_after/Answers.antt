@@ -2,8 +2,8 @@
 use Rattle.std.proofs.Common.{Option, Some, None, IfNone, IsSome, IsTrue, ap, sym, subst}
 use Rattle.std.proofs.lemmas.Bool.{false≢true}
 use Rattle.std.proofs.lemmas.Option.{IfSome_then}
-use Rattle.pt_base.specs.declared.load.Load.{Load}
-use Rattle.pt_base.specs.Load.{load_sum, IsLoad}
+use Rattle.pt_base_values.specs.declared.load.Load.{Load}
+use Rattle.pt_base_values.specs.Load.{load_sum, IsLoad}
 use Rattle.pt_feasible.specs.Stop.{is_pickup, is_drop, takes_aboard, lets_leave}
 use Rattle.pt_feasible.proofs.LoadLemmas.{load_aboard-pickup, load_aboard-drop}
 use Rattle.pt_feasible.proofs.loads.aboard_after.Goals as goal

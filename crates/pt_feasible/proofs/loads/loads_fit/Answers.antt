@@ -1,8 +1,8 @@
 use Rattle.std.proofs.Common.{arith, ◌≡◌, ℕ, ◌+◌, take, subst, sym, inl, inr, refl}
 use Rattle.std.proofs.lemmas.Bool.{cases_lt, false≢true}
-use Rattle.pt_base.specs.Load.{FitsWithin}
-use Rattle.pt_base.specs.declared.load.Load.{Load}
-use Rattle.pt_base.proofs.LoadLemmas.{fits-is_load}
+use Rattle.pt_base_values.specs.Load.{FitsWithin}
+use Rattle.pt_base_values.specs.declared.load.Load.{Load}
+use Rattle.pt_base_values.proofs.LoadLemmas.{fits-is_load}
 use Rattle.pt_feasible.specs.Loads.{load_aboard}
 use Rattle.pt_feasible.proofs.loads.loads_fit.Goals as goal
 

@@ -1,5 +1,5 @@
 use Rattle.std.proofs.Common.{◌≡◌, ℕ, ◌≤◌, take}
-use Rattle.pt_base.specs.Load.{FitsWithin}
+use Rattle.pt_base_values.specs.Load.{FitsWithin}
 use Rattle.pt_feasible.specs.Loads.{load_aboard}
 use Rattle.pt_feasible.proofs.loads.loads_fit.Given as goal
 

@@ -1,4 +1,4 @@
 use Rattle.pt_feasible.proofs.service_times.settle_from.Given as goal
 
-abbrev pub ghosts-settle_uncounted : goal.ghosts-settle_uncounted
-ghosts-settle_uncounted g a = record { name = a.blank.name; parts = a.blank.parts }
+abbrev pub ghosts-settle_from_uncounted : goal.ghosts-settle_from_uncounted
+ghosts-settle_from_uncounted g a = record { name = a.blank.name; parts = a.blank.parts }

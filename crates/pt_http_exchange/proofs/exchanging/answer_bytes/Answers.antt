@@ -1,11 +1,11 @@
 use Rattle.std.proofs.Common.{◌≡◌, inl, refl, rules}
-use Rattle.pt_base.specs.declared.fault.Cause.TheVariants as cause
-use Rattle.pt_base.specs.Fault.{fault}
-use Rattle.pt_http.specs.Answering.{AnswersOne, CanBeAskedAgain}
-use Rattle.pt_http.specs.Exchange.{IsExchangedOver}
-use Rattle.pt_http.specs.Input.{HasInput}
-use Rattle.pt_http.proofs.AnsweringLemmas.{again_failed, answers_failed, answers_none, answers_told, handed}
-use Rattle.pt_http.proofs.exchanging.answer_bytes.Goals as goal
+use Rattle.pt_base_values.specs.declared.fault.Cause.TheVariants as cause
+use Rattle.pt_base_values.specs.Fault.{fault}
+use Rattle.pt_http_exchange.specs.Answering.{AnswersOne, CanBeAskedAgain}
+use Rattle.pt_http_exchange.specs.Exchange.{IsExchangedOver}
+use Rattle.pt_http_exchange.specs.Input.{HasInput}
+use Rattle.pt_http_exchange.proofs.AnsweringLemmas.{again_failed, answers_failed, answers_none, answers_told, handed}
+use Rattle.pt_http_exchange.proofs.exchanging.answer_bytes.Goals as goal
 
 pub returns-in_default-clause-answers : goal.returns-in_default-clause-answers
 returns-in_default-clause-answers g c =

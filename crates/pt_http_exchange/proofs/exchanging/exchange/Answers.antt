@@ -1,8 +1,8 @@
 use Rattle.std.proofs.Common.{◌≡◌, refl}
-use Rattle.pt_http.specs.Answering.{CanBeAskedAgain, ExchangesOne}
+use Rattle.pt_http_exchange.specs.Answering.{CanBeAskedAgain, ExchangesOne}
 use Rattle.pt_http_reply.specs.Reply.{bytes_of}
-use Rattle.pt_http.proofs.AnsweringLemmas.{again_unwritten, crash_over, exchanged_over, exchanges, exchanges_none, exchanges_unwritten, handed, served_over}
-use Rattle.pt_http.proofs.exchanging.exchange.Goals as goal
+use Rattle.pt_http_exchange.proofs.AnsweringLemmas.{again_unwritten, crash_over, exchanged_over, exchanges, exchanges_none, exchanges_unwritten, handed, served_over}
+use Rattle.pt_http_exchange.proofs.exchanging.exchange.Goals as goal
 
 pub returns-in_err-received-clause-exchange : goal.returns-in_err-received-clause-exchange
 returns-in_err-received-clause-exchange g c =

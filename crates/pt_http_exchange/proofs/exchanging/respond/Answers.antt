@@ -1,9 +1,9 @@
 use Rattle.std.proofs.Common.{◌≡◌, ◌⊎◌, ◌∙◌, Some, ap, option_map, subst, sym}
-use Rattle.pt_http.specs.Received.{CommitsReceived}
-use Rattle.pt_http.specs.declared.received.Received.{Received}
-use Rattle.pt_http.proofs.AnsweringLemmas.{commits_message, goes_nowhere}
-use Rattle.pt_http.proofs.KeepsLemmas.{keeps_sent, keeps_still}
-use Rattle.pt_http.proofs.exchanging.respond.Goals as goal
+use Rattle.pt_http_exchange.specs.Received.{CommitsReceived}
+use Rattle.pt_http_exchange.specs.declared.received.Received.{Received}
+use Rattle.pt_http_exchange.proofs.AnsweringLemmas.{commits_message, goes_nowhere}
+use Rattle.pt_http_exchange.proofs.KeepsLemmas.{keeps_sent, keeps_still}
+use Rattle.pt_http_exchange.proofs.exchanging.respond.Goals as goal
 
 pub returns-in-Refused-clause-goes : goal.returns-in-Refused-clause-goes
 returns-in-Refused-clause-goes g c = goes_nowhere (g.K.Keeper.store c.args.keeper.now)

@@ -1,6 +1,6 @@
-use Rattle.pt_http.proofs.MessageDecisions.{message_or_first_fault}
-use Rattle.pt_http.proofs.UniqueLemmas.{one_message, message_has_no_fault, same_fault}
-use Rattle.pt_http.proofs.reading.bytes_spell_one_message.Goals as goal
+use Rattle.pt_http_exchange.proofs.MessageDecisions.{message_or_first_fault}
+use Rattle.pt_http_exchange.proofs.UniqueLemmas.{one_message, message_has_no_fault, same_fault}
+use Rattle.pt_http_exchange.proofs.reading.bytes_spell_one_message.Goals as goal
 
 pub returns-clause-one : goal.returns-clause-one
 returns-clause-one c = λ bytes rest more message other first second. one_message bytes rest more message other first

@@ -4,11 +4,11 @@ use Rattle.httparse.specs.Spans.{header_bytes}
 use Rattle.pt_http_inbox.specs.Head.{HasNoHead}
 use Rattle.pt_http_inbox.specs.Inbox.{buffer}
 use Rattle.pt_http_inbox.proofs.ReadsLemmas.{reads_then}
-use Rattle.pt_http.proofs.ReceivedLemmas.{reads_input, none_left, head_found, head_is, parts_in, parts_later, head_more}
+use Rattle.pt_http_exchange.proofs.ReceivedLemmas.{reads_input, none_left, head_found, head_is, parts_in, parts_later, head_more}
 use Rattle.pt_http_request.specs.Headers.{IsBodyLength}
-use Rattle.pt_http.specs.Parts.{lines_of, AreParts}
-use Rattle.pt_http.proofs.ReceivedLemmas.{no_length, on_err, short_body, whole_parts, body_between, received_whole}
-use Rattle.pt_http.proofs.received.receive.Goals as goal
+use Rattle.pt_http_exchange.specs.Parts.{lines_of, AreParts}
+use Rattle.pt_http_exchange.proofs.ReceivedLemmas.{no_length, on_err, short_body, whole_parts, body_between, received_whole}
+use Rattle.pt_http_exchange.proofs.received.receive.Goals as goal
 
 pub returns-in_default-clause-received : goal.returns-in_default-clause-received
 returns-in_default-clause-received g c = λ input has.

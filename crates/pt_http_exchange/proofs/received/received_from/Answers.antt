@@ -1,7 +1,7 @@
 use Rattle.std.proofs.Common.{map, ap, ◌∙◌}
 use Rattle.httparse.specs.Spans.{header_bytes}
-use Rattle.pt_http.proofs.ReceivedLemmas.{refused_same, spelled_same}
-use Rattle.pt_http.proofs.received.received_from.Goals as goal
+use Rattle.pt_http_exchange.proofs.ReceivedLemmas.{refused_same, spelled_same}
+use Rattle.pt_http_exchange.proofs.received.received_from.Goals as goal
 
 pub returns-in-Ok-clause-spelled : goal.returns-in-Ok-clause-spelled
 returns-in-Ok-clause-spelled c = λ whole is.

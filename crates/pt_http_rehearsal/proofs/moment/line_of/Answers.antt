@@ -1,6 +1,6 @@
 use Rattle.std.proofs.Common.{sym}
-use Rattle.pt_rehearsal.proofs.LineLemmas.{newline_found, line_before}
-use Rattle.pt_rehearsal.proofs.moment.line_of.Goals as goal
+use Rattle.pt_http_rehearsal.proofs.LineLemmas.{newline_found, line_before}
+use Rattle.pt_http_rehearsal.proofs.moment.line_of.Goals as goal
 
 pub returns-in_err-end-clause-none : goal.returns-in_err-end-clause-none
 returns-in_err-end-clause-none c = λ none line rest is.

@@ -1,8 +1,8 @@
 use Rattle.std.proofs.Common.{refl, sym, ap, ◌∙◌, subst}
 use Rattle.std.specs.Str.Lines.{strip_carriage_return}
-use Rattle.pt_rehearsal.specs.Moment.{IsMoment}
-use Rattle.pt_rehearsal.proofs.LineLemmas.{line_unique}
-use Rattle.pt_rehearsal.proofs.moment.moment_at.Goals as goal
+use Rattle.pt_http_rehearsal.specs.Moment.{IsMoment}
+use Rattle.pt_http_rehearsal.proofs.LineLemmas.{line_unique}
+use Rattle.pt_http_rehearsal.proofs.moment.moment_at.Goals as goal
 
 pub returns-in_err-moment-clause-none : goal.returns-in_err-moment-clause-none
 returns-in_err-moment-clause-none c = λ none day minute rest is.

@@ -1,9 +1,9 @@
 use Rattle.std.proofs.Common.{refl, sym, ◌∙◌, subst}
-use Rattle.pt_base.proofs.ReadLemmas.{error-from_none}
-use Rattle.pt_base.specs.SpelledDay.{SpellsDay}
-use Rattle.pt_rehearsal.specs.Moment.{AreParts}
-use Rattle.pt_rehearsal.proofs.MomentLemmas.{moment_utf8, text_of_ok, parts_of_moment, parts_unique}
-use Rattle.pt_rehearsal.proofs.moment.moment_from.Goals as goal
+use Rattle.pt_base_values.proofs.ReadLemmas.{error-from_none}
+use Rattle.pt_base_values.specs.SpelledDay.{SpellsDay}
+use Rattle.pt_http_rehearsal.specs.Moment.{AreParts}
+use Rattle.pt_http_rehearsal.proofs.MomentLemmas.{moment_utf8, text_of_ok, parts_of_moment, parts_unique}
+use Rattle.pt_http_rehearsal.proofs.moment.moment_from.Goals as goal
 
 pub returns-in_err-text-clause-none : goal.returns-in_err-text-clause-none
 returns-in_err-text-clause-none c = λ none day minute is.

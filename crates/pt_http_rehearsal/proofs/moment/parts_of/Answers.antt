@@ -2,8 +2,8 @@ use Rattle.std.proofs.Common.{arith}
 use Rattle.std.proofs.lemmas.Str.Pattern.{split_parts, split_after}
 use Rattle.std.proofs.lemmas.List.Elements.{All-get_or}
 use Rattle.std.proofs.Common.{◌≢◌}
-use Rattle.pt_rehearsal.proofs.MomentLemmas.{stripped, none_is_none, rest_of_parts, parts_given}
-use Rattle.pt_rehearsal.proofs.moment.parts_of.Goals as goal
+use Rattle.pt_http_rehearsal.proofs.MomentLemmas.{stripped, none_is_none, rest_of_parts, parts_given}
+use Rattle.pt_http_rehearsal.proofs.moment.parts_of.Goals as goal
 
 pub returns-clause-parts : goal.returns-clause-parts
 returns-clause-parts c =

@@ -1,19 +1,22 @@
 use Rattle.std.proofs.Common.{◌≡◌, ◌∷◌, [], ◌++◌, Ok, Err, false, refl, sym, ap, ◌∙◌, arith, inl, inr}
 use Rattle.std.proofs.KnownBytes.{Appends-trans}
 use Rattle.std.proofs.lemmas.Result.{err_from_is_err_and}
-use Rattle.pt_http.proofs.AnsweringLemmas.{goes_further, goes_nowhere}
-use Rattle.pt_http.specs.Exchange.{desk_of}
-use Rattle.pt_rehearsal.proofs.NextLemmas.{next_some, next_none, nothing_left}
-use Rattle.pt_http.proofs.ReceivedLemmas.{reads_input, none_left}
-use Rattle.pt_rehearsal.proofs.RehearsalLemmas.{begun, stops, ends, step_of, one_longer, one_more, went_on}
-use Rattle.pt_rehearsal.proofs.RehearsalLemmas.{stopped_here, stopped_unanswered, stopped_unheard, either, read_no_line}
-use Rattle.pt_rehearsal.proofs.RehearsalLemmas.{read_cause_no_line}
-use Rattle.pt_rehearsal.proofs.rehearsal.go_through.Goals as goal
+use Rattle.pt_http_exchange.proofs.AnsweringLemmas.{goes_further, goes_nowhere}
+use Rattle.pt_http_exchange.specs.Exchange.{desk_of}
+use Rattle.pt_http_rehearsal.proofs.NextLemmas.{next_some, next_none, nothing_left}
+use Rattle.pt_http_exchange.proofs.ReceivedLemmas.{reads_input, none_left}
+use Rattle.pt_http_rehearsal.proofs.RehearsalLemmas.{begun, stops, ends, step_of, one_longer, one_more, went_on}
+use Rattle.pt_http_rehearsal.proofs.RehearsalLemmas.{stopped_here, stopped_unanswered, stopped_unheard, either, read_no_line}
+use Rattle.pt_http_rehearsal.proofs.RehearsalLemmas.{read_cause_no_line}
+use Rattle.pt_http_rehearsal.proofs.ServedLemmas.{served_here, served_last, served_on, served_unanswered}
+use Rattle.pt_http_rehearsal.proofs.ServedLemmas.{served_unheard, serving_begun}
+use Rattle.pt_http_rehearsal.proofs.rehearsal.go_through.Goals as goal
 
 pub loop-init : goal.loop-init
 loop-init g c = record {
   goes = goes_nowhere (g.K.Keeper.store c.args.keeper.now);
   stands = λ clean input has. begun g.R.Read.remaining input _ _ c.args.inbox.now has;
+  served = λ clean. serving_begun _ _;
 }
 
 pub returns-in_err-now-clause-stopped : goal.returns-in_err-now-clause-stopped
@@ -100,6 +103,12 @@ loop-preserved g c =
           next.2 answered.2 written.1 in
           went_on _ input answered.0 _ _ _ _ _ _ _ _ one st step (sym c.is_last.ensures ∙ c.if-is_last.false)
           answered.1 written.2 (omega arith);
+      served = λ clean.
+          let was : (store c.loop.keeper).doubt ≡ 0 = omega (arith, clean, c.exchange.ensures.exchange.goes.clean) in
+          let serves = c.in_ok-response.ensures.exchange.served clean in
+          let written = c.in_ok-response.ensures.exchange.written in
+          served_on _ _ _ _ _ _ c.in-Some.now c.in_ok-response.response written.0 (c.loop.invariant.served was)
+          serves.0 written.1 written.2 (sym c.is_last.ensures ∙ c.if-is_last.false) (omega arith);
     }
 
 pub returns-in_err-read_up_to-clause-stopped : goal.returns-in_err-read_up_to-clause-stopped
@@ -113,7 +122,7 @@ pub returns-then-branch-clause-stopped : goal.returns-then-branch-clause-stopped
 returns-then-branch-clause-stopped g c = λ clean input has.
     let st = c.loop.invariant.stands clean input has in
     stopped_here _ input _ _ _ _ _ c.of.result st c.loop.auto.counter-end
-    (λ line. absurd (read_cause_no_line c.of.result c.of.ensures.cause line))
+    (λ line. absurd (read_cause_no_line c.of.result c.of.ensures.code line))
 
 pub returns-clause-finished : goal.returns-clause-finished
 returns-clause-finished g c = λ clean input has.
@@ -141,3 +150,51 @@ pub returns-then-is_last-clause-goes : goal.returns-then-is_last-clause-goes
 returns-then-is_last-clause-goes g c =
     let store = g.K.Keeper.store in
     goes_further (store c.args.keeper.now) (store c.loop.keeper) (store c.exchange.new.keeper) c.loop.invariant.goes c.exchange.ensures.exchange.goes
+
+pub returns-in_err-now-clause-served : goal.returns-in_err-now-clause-served
+returns-in_err-now-clause-served g c = λ clean.
+    served_here _ _ _ _ c.from_residual.result (c.loop.invariant.served clean) (omega (arith, c.loop-test.true))
+
+pub returns-in_default-clause-served : goal.returns-in_default-clause-served
+returns-in_default-clause-served g c = λ clean.
+    served_here _ _ _ _ _ (c.loop.invariant.served clean) (omega (arith, c.loop-test.true))
+
+pub returns-in_err-response-clause-served : goal.returns-in_err-response-clause-served
+returns-in_err-response-clause-served g c = λ clean.
+    let store = g.K.Keeper.store in
+    let contents = g.W.Write.contents in
+    let was : (store c.loop.keeper).doubt ≡ 0 = omega (arith, clean, c.exchange.ensures.exchange.goes.clean) in
+    let has = c.loop.invariant.served was in
+    let failure = c.in_err-response.ensures.exchange.failure in
+    let p = err_from_is_err_and c.from_residual-in_err-response.result c.from_residual-in_err-response.ensures.1 in
+    either failure.fault
+    (λ unanswered.
+    let kept = failure.unanswered unanswered in
+    served_unanswered _ _ _ _ _ _ c.from_residual-in_err-response.result has (omega (arith, c.loop-test.true))
+    (ap (λ keeper. desk_of (store keeper)) kept.0) (ap contents kept.1))
+    (λ write.
+    let unseen = c.exchange.ensures.exchange.failure.unseen clean (c.in_err-response.was ∙ ap Err write) in
+    served_unheard _ _ _ _ _ _ c.in-Some.now unseen.0 c.from_residual-in_err-response.result has c.loop-test.true
+    unseen.1.0 (p.1 ∙ ap Err (p.2 ∙ write)))
+
+pub returns-then-is_last-clause-served : goal.returns-then-is_last-clause-served
+returns-then-is_last-clause-served g c = λ clean.
+    let store = g.K.Keeper.store in
+    let was : (store c.loop.keeper).doubt ≡ 0 = omega (arith, clean, c.exchange.ensures.exchange.goes.clean) in
+    let serves = c.in_ok-response.ensures.exchange.served clean in
+    let written = c.in_ok-response.ensures.exchange.written in
+    served_last _ _ _ _ _ _ c.in-Some.now c.in_ok-response.response written.0 _ (c.loop.invariant.served was)
+    c.loop-test.true serves.0 written.1 written.2
+
+pub returns-in_err-read_up_to-clause-served : goal.returns-in_err-read_up_to-clause-served
+returns-in_err-read_up_to-clause-served g c = λ clean.
+    served_here _ _ _ _ c.from_residual-in_err-read_up_to.result (c.loop.invariant.served clean)
+    c.loop.auto.counter-end
+
+pub returns-then-branch-clause-served : goal.returns-then-branch-clause-served
+returns-then-branch-clause-served g c = λ clean.
+    served_here _ _ _ _ _ (c.loop.invariant.served clean) c.loop.auto.counter-end
+
+pub returns-clause-served : goal.returns-clause-served
+returns-clause-served g c = λ clean.
+    served_here _ _ _ _ _ (c.loop.invariant.served clean) c.loop.auto.counter-end

@@ -1,11 +1,11 @@
 use Rattle.std.proofs.Common.{◌≡◌, ◌≤◌, ◌++◌, Ok, true, length, refl, subst, sym, ap, ◌∙◌, drop, List, ℕ, arith}
 use Rattle.pt_http_inbox.specs.Inbox.{buffer}
-use Rattle.pt_rehearsal.specs.Moment.{BeginsWithMoment}
-use Rattle.pt_rehearsal.proofs.MomentLemmas.{moment_before, no_moment_after}
-use Rattle.pt_rehearsal.specs.Rehearsal.{HasNoMoment}
-use Rattle.pt_rehearsal.proofs.NextLemmas.{one_of_two, not_empty}
-use Rattle.pt_http.proofs.ReceivedLemmas.{reads_input, none_left}
-use Rattle.pt_rehearsal.proofs.rehearsal.next_moment.Goals as goal
+use Rattle.pt_http_rehearsal.specs.Moment.{BeginsWithMoment}
+use Rattle.pt_http_rehearsal.proofs.MomentLemmas.{moment_before, no_moment_after}
+use Rattle.pt_http_rehearsal.specs.Rehearsal.{HasNoMoment}
+use Rattle.pt_http_rehearsal.proofs.NextLemmas.{one_of_two, not_empty}
+use Rattle.pt_http_exchange.proofs.ReceivedLemmas.{reads_input, none_left}
+use Rattle.pt_http_rehearsal.proofs.rehearsal.next_moment.Goals as goal
 
 pub returns-in_default-clause-line : goal.returns-in_default-clause-line
 returns-in_default-clause-line g c = λ input has is.
@@ -28,8 +28,8 @@ returns-in_default-clause-line g c = λ input has is.
 pub returns-clause-next : goal.returns-clause-next
 returns-clause-next g c = λ input has.
     let bytes = buffer c.read_up_to-2.new.self in
-    let day = c.in-Some.line.moment.day in
-    let minute = c.in-Some.line.moment.minute in
+    let day = c.in-Some.line.moment.0 in
+    let minute = c.in-Some.line.moment.1 in
     let end = c.in-Some.line.end in
     let first = reads_input g.R.Read.remaining c.args.inbox.now c.read_up_to.new.self input c.read_up_to.ensures.reads
     has in

@@ -1,5 +1,5 @@
 use Rattle.std.proofs.Common.{◌≡◌, ◌+◌, ◌∷◌, [], codes, length, ap, ◌∙◌, arith, length-append}
-use Rattle.pt_conditions.proofs.JoinLemmas.{join-take, join-first}
+use Rattle.pt_rights_conditions.proofs.JoinLemmas.{join-take, join-first}
 use Rattle.pt_http_reply.specs.Json.{member_text}
 use Rattle.pt_http_reply.proofs.JsonLemmas.{AreShort-at}
 use Rattle.pt_http_reply.proofs.json.object.Goals as goal

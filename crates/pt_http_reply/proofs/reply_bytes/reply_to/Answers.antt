@@ -1,5 +1,5 @@
 use Rattle.std.proofs.Common.{Err}
-use Rattle.pt_store.specs.declared.keeper.StoreFault.TheVariants.{Memory}
+use Rattle.pt_desk_store.specs.declared.keeper.StoreFault.TheVariants.{Memory}
 use Rattle.pt_http_reply.specs.declared.response.Response.TheVariants.{Answered}
 use Rattle.pt_http_reply.proofs.ReplyLemmas.{IsReplyText-unique, reply_formed}
 use Rattle.pt_http_reply.proofs.reply_bytes.reply_to.Goals as goal

@@ -1,5 +1,5 @@
 use Rattle.std.proofs.Common.{◌++◌, ap, ◌∙◌}
-use Rattle.pt_conditions.proofs.JoinLemmas.{join-take, join-first}
+use Rattle.pt_rights_conditions.proofs.JoinLemmas.{join-take, join-first}
 use Rattle.pt_http_reply.specs.Body.{condition_json}
 use Rattle.pt_http_reply.proofs.standing.write_conditions.Goals as goal
 use Rattle.pt_http_reply.proofs.standing.write_conditions.Goals.{then-index-gt0+in_ok-push, else-index-gt0}

@@ -1,6 +1,6 @@
 use Rattle.std.proofs.Common.{rules}
-use Rattle.pt_conditions.specs.Texts.{SpellsCondition}
-use Rattle.pt_base.proofs.ReadLemmas.{read-known}
+use Rattle.pt_rights_conditions.specs.Texts.{SpellsCondition}
+use Rattle.pt_base_values.proofs.ReadLemmas.{read-known}
 use Rattle.pt_http_request.proofs.ConditionLemmas.{condition_from-known, condition_from-spelled}
 use Rattle.pt_http_request.specs.Conditions.{condition_from}
 use Rattle.pt_http_request.proofs.conditions.condition_in.Goals as goal

@@ -1,6 +1,6 @@
 use Rattle.std.proofs.Common.{◌≡◌, rules}
 use Rattle.std.specs.Prelude.{IfOk}
-use Rattle.pt_base.specs.Place.{IsCoordinate}
+use Rattle.pt_base_values.specs.Place.{IsCoordinate}
 use Rattle.serde_json.specs.Find.{get}
 use Rattle.serde_json.specs.View.{view}
 use Rattle.pt_http_request.specs.Names.{field_name}

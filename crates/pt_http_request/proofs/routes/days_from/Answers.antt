@@ -1,6 +1,6 @@
 use Rattle.std.proofs.Common.{◌≡◌, None, [], ◌∷◌, ◌++◌, Some, map, ap, sym, rules, ◌∙◌}
 use Rattle.std.specs.Prelude.{option_map}
-use Rattle.pt_base.specs.Weekday.{number_of}
+use Rattle.pt_base_values.specs.Weekday.{number_of}
 use Rattle.serde_json.specs.View.{view}
 use Rattle.pt_http_request.specs.Routes.{each, weekday_from, set_of}
 use Rattle.pt_http_request.proofs.SettingsLemmas.{each-none, read-more, read-all, set_of-more}

@@ -1,7 +1,7 @@
 use Rattle.std.proofs.Common.{◌≡◌, Some, map, take}
 use Rattle.std.specs.Prelude.{All}
 use Rattle.serde_json.specs.View.{view}
-use Rattle.pt_base.specs.Place.{IsOnPlane}
+use Rattle.pt_base_values.specs.Place.{IsOnPlane}
 use Rattle.pt_http_request.specs.Routes.{point_from}
 use Rattle.pt_http_request.proofs.routes.points_from.Given as goal
 

@@ -1,5 +1,5 @@
 use Rattle.std.proofs.Common.{◌≡◌, ℕ, ◌<◌, ◌≤◌, take}
-use Rattle.pt_base.specs.Load.{FitsWithin}
+use Rattle.pt_base_values.specs.Load.{FitsWithin}
 use Rattle.pt_feasible.specs.Loads.{load_aboard}
 use Rattle.pt_audit.specs.declared.line.End.TheVariants as end
 use Rattle.pt_audit.specs.Insertion.{inserted_stops}

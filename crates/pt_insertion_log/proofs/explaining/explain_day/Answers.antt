@@ -5,8 +5,8 @@ use Rattle.pt_audit.specs.declared.line.Line.TheVariants as line
 use Rattle.pt_audit.specs.Text.{line_text}
 use Rattle.std.proofs.lemmas.List.{take_more, take_all}
 use Rattle.pt_feasible.specs.Route.{stops_of}
-use Rattle.pt_insertion.specs.declared.duty.Duty.{Duty}
-use Rattle.pt_insertion.specs.Possible.{IsPossible}
+use Rattle.pt_insertion_search.specs.declared.duty.Duty.{Duty}
+use Rattle.pt_insertion_search.specs.Possible.{IsPossible}
 use Rattle.pt_audit.specs.Cases.{cases_of_vehicle, cases_of_day}
 use Rattle.pt_insertion_log.specs.Written.{WritesCases, WritesLines}
 use Rattle.pt_insertion_log.proofs.WrittenLemmas.{more_written, day_written, no_way_written, on_ok}

@@ -1,6 +1,6 @@
 use Rattle.std.proofs.Common.{arith, ℕ, List, Option, below_more, refl, sym, subst, slice_index, inl, inr}
 use Rattle.std.proofs.lemmas.Bool.{cases_eq}
-use Rattle.pt_base.specs.declared.vehicle.Vehicle.{Vehicle}
+use Rattle.pt_base_values.specs.declared.vehicle.Vehicle.{Vehicle}
 use Rattle.pt_feasible.specs.declared.stop.Stop.{Stop}
 use Rattle.pt_audit.specs.Insertion.{inserted_stops}
 use Rattle.pt_insertion_log.specs.declared.steps.Step.{Step}

@@ -1,8 +1,8 @@
 -- The drives are those from and to the neighboring visits.
 use Rattle.std.proofs.Common.{arith}
 use Rattle.pt_feasible.specs.Route.{stops_of}
-use Rattle.pt_insertion.proofs.DetourLemmas.{detour_of}
-use Rattle.pt_insertion.proofs.added.detour_at.Goals as goal
+use Rattle.pt_insertion_search.proofs.DetourLemmas.{detour_of}
+use Rattle.pt_insertion_search.proofs.added.detour_at.Goals as goal
 
 pub returns : goal.returns
 returns g c here next e f =

@@ -1,9 +1,9 @@
 -- Before a stop whose window has closed, and after one whose window opens too late, there is no pickup.
 use Rattle.std.proofs.Common.{arith}
 use Rattle.pt_feasible.specs.Route.{stops_of}
-use Rattle.pt_insertion.proofs.BetweenLemmas.{no_pickup_before, no_pickups_past}
-use Rattle.pt_insertion.proofs.added.has_pickup.Goals as goal
-use Rattle.pt_insertion.proofs.added.has_pickup.Goals.{then-number-via-then-number, then-number-via-else-number+then-number-2}
+use Rattle.pt_insertion_search.proofs.BetweenLemmas.{no_pickup_before, no_pickups_past}
+use Rattle.pt_insertion_search.proofs.added.has_pickup.Goals as goal
+use Rattle.pt_insertion_search.proofs.added.has_pickup.Goals.{then-number-via-then-number, then-number-via-else-number+then-number-2}
 
 pub returns-then-number : goal.returns-then-number
 returns-then-number c said minutes j possible =

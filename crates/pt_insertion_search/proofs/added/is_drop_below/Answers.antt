@@ -1,9 +1,9 @@
 -- There is one detour to the goal here.
 use Rattle.std.proofs.Common.{arith}
 use Rattle.pt_feasible.specs.Route.{stops_of}
-use Rattle.pt_insertion.proofs.DetourLemmas.{detour_same}
-use Rattle.pt_insertion.proofs.added.is_drop_below.Goals as goal
-use Rattle.pt_insertion.proofs.added.is_drop_below.Goals.{then-least-most-via-then-least-most, then-least-most-via-else-least-most+then-detour_at-most}
+use Rattle.pt_insertion_search.proofs.DetourLemmas.{detour_same}
+use Rattle.pt_insertion_search.proofs.added.is_drop_below.Goals as goal
+use Rattle.pt_insertion_search.proofs.added.is_drop_below.Goals.{then-least-most-via-then-least-most, then-least-most-via-else-least-most+then-detour_at-most}
 
 pub returns-then-least-most : goal.returns-then-least-most
 returns-then-least-most g c said more is =

@@ -1,8 +1,8 @@
 -- The drop takes nothing off what the pickup adds.
 use Rattle.std.proofs.Common.{arith}
 use Rattle.pt_feasible.specs.Route.{stops_of}
-use Rattle.pt_insertion.proofs.DetourLemmas.{pickup_detour}
-use Rattle.pt_insertion.proofs.added.least_added_at.Goals as goal
+use Rattle.pt_insertion_search.proofs.DetourLemmas.{pickup_detour}
+use Rattle.pt_insertion_search.proofs.added.least_added_at.Goals as goal
 
 pub returns : goal.returns
 returns g c j possible =

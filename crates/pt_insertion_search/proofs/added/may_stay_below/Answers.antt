@@ -2,11 +2,11 @@
 use Rattle.std.proofs.Common.{arith, subst, sym, inl, inr, length, Option, ℕ, IsSomeAnd, ◌≤◌}
 use Rattle.std.proofs.lemmas.Bool.{cases_lt}
 use Rattle.pt_feasible.specs.Route.{stops_of}
-use Rattle.pt_insertion.specs.Choice.{added_driving}
-use Rattle.pt_insertion.proofs.BetweenLemmas.{no_drops_past}
-use Rattle.pt_insertion.proofs.DetourLemmas.{no_less_yet, least_yet, detour_same}
-use Rattle.pt_insertion.proofs.added.may_stay_below.Goals as goal
-use Rattle.pt_insertion.proofs.added.may_stay_below.Goals.{then-has_pickup+else-added_at-most, else-has_pickup}
+use Rattle.pt_insertion_search.specs.Choice.{added_driving}
+use Rattle.pt_insertion_search.proofs.BetweenLemmas.{no_drops_past}
+use Rattle.pt_insertion_search.proofs.DetourLemmas.{no_less_yet, least_yet, detour_same}
+use Rattle.pt_insertion_search.proofs.added.may_stay_below.Goals as goal
+use Rattle.pt_insertion_search.proofs.added.may_stay_below.Goals.{then-has_pickup+else-added_at-most, else-has_pickup}
 
 pub returns-then-number-until : goal.returns-then-number-until
 returns-then-number-until g c _ i j possible =

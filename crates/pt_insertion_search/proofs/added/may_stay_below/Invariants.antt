@@ -1,6 +1,6 @@
 use Rattle.pt_feasible.specs.Route.{stops_of}
-use Rattle.pt_insertion.proofs.DetourLemmas.{AddNoLess, IsLeastDetour}
-use Rattle.pt_insertion.proofs.added.may_stay_below.Given as goal
+use Rattle.pt_insertion_search.proofs.DetourLemmas.{AddNoLess, IsLeastDetour}
+use Rattle.pt_insertion_search.proofs.added.may_stay_below.Given as goal
 
 abbrev pub invariant-loop-k : goal.invariant-loop-k
 invariant-loop-k g l = record {

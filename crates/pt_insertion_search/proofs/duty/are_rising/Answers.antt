@@ -2,8 +2,8 @@
 use Rattle.std.proofs.Common.{◌≡◌, ℕ, ◌+◌, ◌-◌, ◌<◌, ◌≤◌, List, length, get_or, inl, inr, refl, sym, ap, ◌∙◌, arith}
 use Rattle.std.proofs.lemmas.List.{get_or_read}
 use Rattle.std.proofs.lemmas.Bool.{cases_lt}
-use Rattle.pt_insertion.specs.declared.duty.Duty.{Duty}
-use Rattle.pt_insertion.proofs.duty.are_rising.Goals as goal
+use Rattle.pt_insertion_search.specs.declared.duty.Duty.{Duty}
+use Rattle.pt_insertion_search.proofs.duty.are_rising.Goals as goal
 
 rising_more : (duties : List Duty) (k : ℕ) (last next : Duty) → 1 ≤ k → k < length duties →
     last ≡ get_or duties (k - 1) last → next ≡ get_or duties k next → last.vehicle.now.id < next.vehicle.now.id →

@@ -1,8 +1,8 @@
 -- Each case reads the stop of the route with the trip put in at its place.
 use Rattle.std.proofs.Common.{◌≡◌, ◌-◌, Some, ap, sym, ◌∙◌, slice_get, arith}
-use Rattle.pt_insertion.specs.Insertion.{with_trip}
-use Rattle.pt_insertion.proofs.InsertionLemmas.{with_trip_before, with_trip_pickup, with_trip_between, with_trip_drop, with_trip_after}
-use Rattle.pt_insertion.proofs.insertion.stop_at.Goals as goal
+use Rattle.pt_insertion_search.specs.Insertion.{with_trip}
+use Rattle.pt_insertion_search.proofs.InsertionLemmas.{with_trip_before, with_trip_pickup, with_trip_between, with_trip_drop, with_trip_after}
+use Rattle.pt_insertion_search.proofs.insertion.stop_at.Goals as goal
 
 pub returns-then-k-i : goal.returns-then-k-i
 returns-then-k-i g c =

@@ -1,12 +1,12 @@
 -- A ride begins at the origin, where the vehicle has room.
 use Rattle.std.proofs.Common.{◌≡◌, ◌+◌, arith, sym, subst, ◌∙◌}
 use Rattle.std.proofs.lemmas.Bool.{false≢true}
-use Rattle.pt_base.specs.Load.{load_sum, FitsWithin}
-use Rattle.pt_base.specs.declared.load.Load.{Load}
+use Rattle.pt_base_values.specs.Load.{load_sum, FitsWithin}
+use Rattle.pt_base_values.specs.declared.load.Load.{Load}
 use Rattle.pt_feasible.specs.Route.{stops_of}
-use Rattle.pt_insertion.proofs.RidingLemmas.{no_room, begins_ride, begins_served}
-use Rattle.pt_insertion.specs.Riding.{IsServedUntil}
-use Rattle.pt_insertion.proofs.riding.board.Goals as goal
+use Rattle.pt_insertion_search.proofs.RidingLemmas.{no_room, begins_ride, begins_served}
+use Rattle.pt_insertion_search.specs.Riding.{IsServedUntil}
+use Rattle.pt_insertion_search.proofs.riding.board.Goals as goal
 
 pub returns-then-not-has_room-clause-none : goal.returns-then-not-has_room-clause-none
 returns-then-not-has_room-clause-none c minutes j possible =

@@ -1,13 +1,13 @@
 -- A ride that goes on takes a drive and a service more; where it cannot, no drop comes later.
 use Rattle.std.proofs.Common.{◌≡◌, ◌+◌, ℕ, List, slice_index, ap, arith, sym, subst, ◌∙◌}
 use Rattle.std.proofs.lemmas.Bool.{false≢true}
-use Rattle.pt_base.specs.Load.{load_sum, FitsWithin}
-use Rattle.pt_base.specs.declared.load.Load.{Load}
+use Rattle.pt_base_values.specs.Load.{load_sum, FitsWithin}
+use Rattle.pt_base_values.specs.declared.load.Load.{Load}
 use Rattle.pt_feasible.specs.Route.{stops_of}
 use Rattle.pt_feasible.proofs.LimitsLemmas.{IfNone-from}
-use Rattle.pt_insertion.specs.Riding.{IsRiddenFor, IsServedUntil}
-use Rattle.pt_insertion.proofs.RidingLemmas.{no_room, none_fit, rides_on, no_way_on, way_left, serves_on, too_late_on, held, nothing_held}
-use Rattle.pt_insertion.proofs.riding.ride_on.Goals as goal
+use Rattle.pt_insertion_search.specs.Riding.{IsRiddenFor, IsServedUntil}
+use Rattle.pt_insertion_search.proofs.RidingLemmas.{no_room, none_fit, rides_on, no_way_on, way_left, serves_on, too_late_on, held, nothing_held}
+use Rattle.pt_insertion_search.proofs.riding.ride_on.Goals as goal
 
 pub returns-in_err-others-clause-none : goal.returns-in_err-others-clause-none
 returns-in_err-others-clause-none g c =

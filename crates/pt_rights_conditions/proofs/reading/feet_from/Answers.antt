@@ -1,7 +1,7 @@
 use Rattle.std.proofs.Common.{arith}
 use Rattle.std.proofs.lemmas.Fmt.{parse-decimal}
-use Rattle.pt_conditions.proofs.ResultLemmas.{some-from_only, ok_value, ok-not_err}
-use Rattle.pt_conditions.proofs.reading.feet_from.Goals as goal
+use Rattle.pt_rights_conditions.proofs.ResultLemmas.{some-from_only, ok_value, ok-not_err}
+use Rattle.pt_rights_conditions.proofs.reading.feet_from.Goals as goal
 
 pub returns-in-Ok : goal.returns-in-Ok
 returns-in-Ok c = λ feet in_range spelled.

@@ -3,10 +3,10 @@ use Rattle.std.proofs.lemmas.Iterator.Consumers.{YieldsList-turn, YieldsList-end
 use Rattle.std.proofs.lemmas.Iterator.Splits.{YieldsList-from_str_split}
 use Rattle.std.proofs.lemmas.List.{take_more, length_push}
 use borrow.Author.Tests.{eqb-true}
-use Rattle.pt_rights.specs.Months.{numbers_of}
-use Rattle.pt_conditions.proofs.NumbersLemmas.{month_read, length-months, length-parts, set_found}
-use Rattle.pt_conditions.proofs.ResultLemmas.{ok_value, ok-not_err}
-use Rattle.pt_conditions.proofs.reading.months_from.Goals as goal
+use Rattle.pt_rights_files.specs.Months.{numbers_of}
+use Rattle.pt_rights_conditions.proofs.NumbersLemmas.{month_read, length-months, length-parts, set_found}
+use Rattle.pt_rights_conditions.proofs.ResultLemmas.{ok_value, ok-not_err}
+use Rattle.pt_rights_conditions.proofs.reading.months_from.Goals as goal
 
 pub loop-part-preserved : goal.loop-part-preserved
 loop-part-preserved c = λ marks set spelled.

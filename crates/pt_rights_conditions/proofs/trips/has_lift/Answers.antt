@@ -3,7 +3,7 @@ use Rattle.std.proofs.lemmas.Iterator.{cases_from_any, YieldsList-from_slice}
 use Rattle.pt_corridor.specs.Route.{FixedRoute}
 use Rattle.pt_corridor.specs.Corridor.{Joins}
 use Rattle.pt_corridor.proofs.AnyDecided.{any_decided}
-use Rattle.pt_conditions.proofs.trips.has_lift.Goals as goal
+use Rattle.pt_rights_conditions.proofs.trips.has_lift.Goals as goal
 
 pub returns : goal.returns
 returns c =

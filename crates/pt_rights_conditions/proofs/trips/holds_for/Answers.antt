@@ -1,5 +1,5 @@
 use Rattle.std.proofs.Common.{inl, inr}
-use Rattle.pt_conditions.proofs.trips.holds_for.Goals as goal
+use Rattle.pt_rights_conditions.proofs.trips.holds_for.Goals as goal
 
 pub returns-else-is_farther : goal.returns-else-is_farther
 returns-else-is_farther c =

@@ -1,8 +1,8 @@
 use Rattle.std.proofs.Common.{pos, subst}
 use Rattle.std.specs.List.{Contains}
-use Rattle.pt_base.proofs.CalendarLemmas.{IsInMonth-month}
-use Rattle.pt_rights.specs.Months.{numbers_of}
-use Rattle.pt_conditions.proofs.trips.is_in_months.Goals as goal
+use Rattle.pt_base_values.proofs.CalendarLemmas.{IsInMonth-month}
+use Rattle.pt_rights_files.specs.Months.{numbers_of}
+use Rattle.pt_rights_conditions.proofs.trips.is_in_months.Goals as goal
 
 pub returns : goal.returns
 returns c = (

@@ -1,8 +1,8 @@
 use Rattle.std.proofs.Common.{◌≡◌, ◌≤◌, ◌+◌, ◌∷◌, ◌++◌, [], length, arith, length-append, ap, ◌∙◌, decimal}
-use Rattle.pt_conditions.proofs.JoinLemmas.{join-take, join-first}
-use Rattle.pt_conditions.proofs.NumbersLemmas.{length-month}
-use Rattle.pt_conditions.proofs.writing.push_months.Goals as goal
-use Rattle.pt_conditions.proofs.writing.push_months.Goals.{then-index-gt0, else-index-gt0}
+use Rattle.pt_rights_conditions.proofs.JoinLemmas.{join-take, join-first}
+use Rattle.pt_rights_conditions.proofs.NumbersLemmas.{length-month}
+use Rattle.pt_rights_conditions.proofs.writing.push_months.Goals as goal
+use Rattle.pt_rights_conditions.proofs.writing.push_months.Goals.{then-index-gt0, else-index-gt0}
 
 pub push-requires-in-loop-index : goal.push-requires-in-loop-index
 push-requires-in-loop-index c =

@@ -1,6 +1,6 @@
 use Rattle.std.proofs.Common.{◌≡◌, ◌≤◌, ◌+◌, ◌*◌, ◌++◌, length, take}
-use Rattle.pt_conditions.specs.Texts.{numbers_text}
-use Rattle.pt_conditions.proofs.writing.push_months.Given as goal
+use Rattle.pt_rights_conditions.specs.Texts.{numbers_text}
+use Rattle.pt_rights_conditions.proofs.writing.push_months.Given as goal
 
 abbrev pub invariant-loop-index : goal.invariant-loop-index
 invariant-loop-index l = record {

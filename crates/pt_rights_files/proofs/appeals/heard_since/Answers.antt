@@ -1,9 +1,9 @@
 use Rattle.std.proofs.Common.{arith, rules}
-use Rattle.pt_rights.specs.Appeals.{disputes, is_heard_by}
-use Rattle.pt_rights.specs.Kinds.{is_refusal, decides_appeal}
-use Rattle.pt_rights.specs.declared.entry.Entered.{Entered}
-use Rattle.pt_rights.proofs.Stepped.{open-more, followed-more}
-use Rattle.pt_rights.proofs.appeals.heard_since.Goals as goal
+use Rattle.pt_rights_files.specs.Appeals.{disputes, is_heard_by}
+use Rattle.pt_rights_files.specs.Kinds.{is_refusal, decides_appeal}
+use Rattle.pt_rights_files.specs.declared.entry.Entered.{Entered}
+use Rattle.pt_rights_files.proofs.Stepped.{open-more, followed-more}
+use Rattle.pt_rights_files.proofs.appeals.heard_since.Goals as goal
 
 pub loop-entry-preserved : goal.loop-entry-preserved
 loop-entry-preserved c = record {

@@ -1,8 +1,8 @@
 use Rattle.std.proofs.Common.{◌≡◌, ℕ, take}
-use Rattle.pt_rights.specs.Appeals.{disputes, some_pending, some_pending_with, is_heard_by}
-use Rattle.pt_rights.specs.Kinds.{is_refusal}
-use Rattle.pt_rights.specs.Marks.{has_come}
-use Rattle.pt_rights.proofs.appeals.heard_since.Given as goal
+use Rattle.pt_rights_files.specs.Appeals.{disputes, some_pending, some_pending_with, is_heard_by}
+use Rattle.pt_rights_files.specs.Kinds.{is_refusal}
+use Rattle.pt_rights_files.specs.Marks.{has_come}
+use Rattle.pt_rights_files.proofs.appeals.heard_since.Given as goal
 
 abbrev pub invariant-loop-entry : goal.invariant-loop-entry
 invariant-loop-entry l = record {

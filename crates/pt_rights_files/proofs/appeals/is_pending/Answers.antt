@@ -1,8 +1,8 @@
 use Rattle.std.proofs.Common.{arith, rules}
-use Rattle.pt_rights.specs.Kinds.{is_appeal, decides_appeal}
-use Rattle.pt_rights.specs.declared.entry.Entered.{Entered}
-use Rattle.pt_rights.proofs.Stepped.{open-more}
-use Rattle.pt_rights.proofs.appeals.is_pending.Goals as goal
+use Rattle.pt_rights_files.specs.Kinds.{is_appeal, decides_appeal}
+use Rattle.pt_rights_files.specs.declared.entry.Entered.{Entered}
+use Rattle.pt_rights_files.proofs.Stepped.{open-more}
+use Rattle.pt_rights_files.proofs.appeals.is_pending.Goals as goal
 
 pub loop-entry-preserved : goal.loop-entry-preserved
 loop-entry-preserved c =

@@ -1,9 +1,9 @@
 use Rattle.std.proofs.Common.{arith, rules, Bool, ◌==◌, ◌&&◌, not}
-use Rattle.pt_rights.specs.Kinds.{is_hearing, decides_appeal}
-use Rattle.pt_rights.specs.Appeals.{disputes, may_answer}
-use Rattle.pt_rights.specs.declared.entry.Entered.{Entered}
-use Rattle.pt_rights.proofs.Stepped.{open-more, followed-more}
-use Rattle.pt_rights.proofs.appeals.may_decide.Goals as goal
+use Rattle.pt_rights_files.specs.Kinds.{is_hearing, decides_appeal}
+use Rattle.pt_rights_files.specs.Appeals.{disputes, may_answer}
+use Rattle.pt_rights_files.specs.declared.entry.Entered.{Entered}
+use Rattle.pt_rights_files.proofs.Stepped.{open-more, followed-more}
+use Rattle.pt_rights_files.proofs.appeals.may_decide.Goals as goal
 
 pub loop-entry-preserved : goal.loop-entry-preserved
 loop-entry-preserved c =

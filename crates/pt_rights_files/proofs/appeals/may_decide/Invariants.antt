@@ -1,7 +1,7 @@
 use Rattle.std.proofs.Common.{◌≡◌, ◌==◌, ◌&&◌, not, take}
-use Rattle.pt_rights.specs.Appeals.{disputes, may_answer, some_pending, some_pending_with}
-use Rattle.pt_rights.specs.Kinds.{is_hearing}
-use Rattle.pt_rights.proofs.appeals.may_decide.Given as goal
+use Rattle.pt_rights_files.specs.Appeals.{disputes, may_answer, some_pending, some_pending_with}
+use Rattle.pt_rights_files.specs.Kinds.{is_hearing}
+use Rattle.pt_rights_files.proofs.appeals.may_decide.Given as goal
 
 abbrev pub invariant-loop-entry : goal.invariant-loop-entry
 invariant-loop-entry l = record {

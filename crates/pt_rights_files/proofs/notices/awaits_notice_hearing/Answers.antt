@@ -1,8 +1,8 @@
 use Rattle.std.proofs.Common.{arith, rules, ◌||◌}
-use Rattle.pt_rights.specs.Kinds.{is_notice, is_notice_hearing, is_suspension}
-use Rattle.pt_rights.specs.declared.entry.Entered.{Entered}
-use Rattle.pt_rights.proofs.Stepped.{open-more}
-use Rattle.pt_rights.proofs.notices.awaits_notice_hearing.Goals as goal
+use Rattle.pt_rights_files.specs.Kinds.{is_notice, is_notice_hearing, is_suspension}
+use Rattle.pt_rights_files.specs.declared.entry.Entered.{Entered}
+use Rattle.pt_rights_files.proofs.Stepped.{open-more}
+use Rattle.pt_rights_files.proofs.notices.awaits_notice_hearing.Goals as goal
 
 pub loop-entry-preserved : goal.loop-entry-preserved
 loop-entry-preserved c =

@@ -1,8 +1,8 @@
 use Rattle.std.proofs.Common.{◌≡◌, ◌||◌, take}
-use Rattle.pt_rights.specs.Kinds.{is_notice, is_suspension}
-use Rattle.pt_rights.specs.Notices.{may_suspend}
-use Rattle.pt_rights.specs.Positions.{some_position, is_open}
-use Rattle.pt_rights.proofs.notices.may_suspend.Given as goal
+use Rattle.pt_rights_files.specs.Kinds.{is_notice, is_suspension}
+use Rattle.pt_rights_files.specs.Notices.{may_suspend}
+use Rattle.pt_rights_files.specs.Positions.{some_position, is_open}
+use Rattle.pt_rights_files.proofs.notices.may_suspend.Given as goal
 
 abbrev pub invariant-loop-entry : goal.invariant-loop-entry
 invariant-loop-entry l = record {

@@ -1,8 +1,8 @@
 use Rattle.std.proofs.Common.{◌≡◌, ◌&&◌, not, drop}
-use Rattle.pt_rights.specs.Kinds.{suspends}
-use Rattle.pt_rights.specs.Positions.{some_numbered}
-use Rattle.pt_rights.specs.Suspension.{is_lifted, is_suspended}
-use Rattle.pt_rights.proofs.suspensions.is_suspended.Given as goal
+use Rattle.pt_rights_files.specs.Kinds.{suspends}
+use Rattle.pt_rights_files.specs.Positions.{some_numbered}
+use Rattle.pt_rights_files.specs.Suspension.{is_lifted, is_suspended}
+use Rattle.pt_rights_files.proofs.suspensions.is_suspended.Given as goal
 
 abbrev pub invariant-loop-position : goal.invariant-loop-position
 invariant-loop-position l =

@@ -2,11 +2,11 @@
 use Rattle.std.proofs.Common.{◌≡◌, ◌-◌, ◌∷◌, arith, get_or, drop, false, ◌∙◌, refl}
 use Rattle.std.proofs.Math.Seq.{drop-length}
 use Rattle.std.proofs.lemmas.List.{get_or-replicate}
-use Rattle.pt_rights.specs.Appeals.{appeals_against}
-use Rattle.pt_rights.specs.Kinds.{is_overturn, decides_appeal}
-use Rattle.pt_rights.specs.declared.entry.Entered.{Entered}
-use Rattle.pt_rights.proofs.Lifted.{first-more, lifted-more, lifted-split, drop-before}
-use Rattle.pt_rights.proofs.suspensions.lifted_positions.Goals as goal
+use Rattle.pt_rights_files.specs.Appeals.{appeals_against}
+use Rattle.pt_rights_files.specs.Kinds.{is_overturn, decides_appeal}
+use Rattle.pt_rights_files.specs.declared.entry.Entered.{Entered}
+use Rattle.pt_rights_files.proofs.Lifted.{first-more, lifted-more, lifted-split, drop-before}
+use Rattle.pt_rights_files.proofs.suspensions.lifted_positions.Goals as goal
 
 pub loop-position-init : goal.loop-position-init
 loop-position-init c =

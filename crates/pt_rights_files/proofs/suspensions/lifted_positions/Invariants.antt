@@ -1,9 +1,9 @@
 use Rattle.std.proofs.Common.{◌≡◌, ℕ, ◌<◌, ◌&&◌, false, get_or, drop}
-use Rattle.pt_rights.specs.Appeals.{appeals_against}
-use Rattle.pt_rights.specs.Kinds.{is_overturn, decides_appeal}
-use Rattle.pt_rights.specs.Positions.{some_position}
-use Rattle.pt_rights.proofs.Lifted.{first_if_any}
-use Rattle.pt_rights.proofs.suspensions.lifted_positions.Given as goal
+use Rattle.pt_rights_files.specs.Appeals.{appeals_against}
+use Rattle.pt_rights_files.specs.Kinds.{is_overturn, decides_appeal}
+use Rattle.pt_rights_files.specs.Positions.{some_position}
+use Rattle.pt_rights_files.proofs.Lifted.{first_if_any}
+use Rattle.pt_rights_files.proofs.suspensions.lifted_positions.Given as goal
 
 abbrev pub invariant-loop-position : goal.invariant-loop-position
 invariant-loop-position l = record {

@@ -2,12 +2,12 @@ use Rattle.std.proofs.Common.{◌≡◌, ◌<◌, ◌≤◌, length, Bool, true,
 use Rattle.std.specs.Prelude.{slice_index, min, nat_eq}
 use Rattle.std.proofs.lemmas.Bool.{lt-ltb, ltb-true}
 use Rattle.std.proofs.lemmas.Grind.{common_steps}
-use Rattle.pt_visitors.specs.Periods.{is_in_period}
-use Rattle.pt_visitors.proofs.Walk.{IsWalked, Opens, Counts, walk_begins, walk_empty, walk_step, walk_decides, walk_allows, ord_min-min}
-use Rattle.pt_visitors.proofs.visits.visitor_may.Goals as goal
-use Rattle.pt_visitors.proofs.visits.visitor_may.Goals.{in-Some, in-None, then-not-is_in_period}
-use Rattle.pt_visitors.proofs.visits.visitor_may.Goals.{else-not-is_in_period, then-ne+then-is_in_period, else-ne}
-use Rattle.pt_visitors.proofs.visits.visitor_may.Goals.{else-ne-via-then-ne+else-is_in_period, else-ne-via-else-ne}
+use Rattle.pt_rights_visitors.specs.Periods.{is_in_period}
+use Rattle.pt_rights_visitors.proofs.Walk.{IsWalked, Opens, Counts, walk_begins, walk_empty, walk_step, walk_decides, walk_allows, ord_min-min}
+use Rattle.pt_rights_visitors.proofs.visits.visitor_may.Goals as goal
+use Rattle.pt_rights_visitors.proofs.visits.visitor_may.Goals.{in-Some, in-None, then-not-is_in_period}
+use Rattle.pt_rights_visitors.proofs.visits.visitor_may.Goals.{else-not-is_in_period, then-ne+then-is_in_period, else-ne}
+use Rattle.pt_rights_visitors.proofs.visits.visitor_may.Goals.{else-ne-via-then-ne+else-is_in_period, else-ne-via-else-ne}
 
 and_true : {a b : Bool} → a ≡ true → b ≡ true → (a && b) ≡ true
 and_true p q = rw (p, q) refl

@@ -1,7 +1,11 @@
-use Rattle.std.proofs.Common.{◌≡◌, false, IsTrue, sym, ap, subst, ◌∙◌, arith}
+use Rattle.std.proofs.Common.{◌≡◌, false, IsTrue, refl, sym, ap, subst, ◌∙◌, arith}
+use Rattle.sqlite.specs.Schema.{Schema}
+use Rattle.sqlite.specs.Tree.{Trees}
+use Rattle.sqlite_catalog.specs.Listing.{IsSound}
 use Rattle.sqlite.specs.Effect.{Database}
 use Rattle.sqlite.specs.Held.{state}
 use Rattle.sqlite.specs.View.{IsClean}
+use Rattle.pt_tables.proofs.AdoptLemmas.{broken_failed, open_failed}
 use Rattle.pt_tables.proofs.RowidLemmas.{open_store, reopens}
 use Rattle.pt_tables.proofs.adopting.reopen.Goals as goal
 
@@ -62,3 +66,27 @@ returns-in-Err-clause-was_open g c clean here =
     let early : IsClean v = omega (arith, clean, c.in-Err.ensures.unharmed.clean) in
     let sound : v.is_broken ≡ false = sym (c.is_broken.ensures early) ∙ c.if-is_broken.false in
     (c.into_store-store.ensures.undone.kept early).was_open (open_store v (g.met.S.Store.broken_if_shut store) sound)
+
+pub returns-in-Err-clause-counts : goal.returns-in-Err-clause-counts
+returns-in-Err-clause-counts g c = omega (arith, c.into_store-store.ensures.quiet.counts, c.in-Err.ensures.unharmed.counts)
+
+pub returns-then-is_broken-clause-caused : goal.returns-then-is_broken-clause-caused
+returns-then-is_broken-clause-caused g c is clean =
+    let old = state g.S.Store c.args.conn in
+    let store = c.into_store-store.result in
+    let done = c.into_store-store.ensures in
+    broken_failed old (g.S.Store.view store) (g.S.Store.faults store) (λ here. (done.undone.undone here).1) (done.quiet.closes clean) (sym (c.is_broken.ensures clean) ∙ c.if-is_broken.true) old.is_open refl
+
+pub returns-in-Err-clause-caused : goal.returns-in-Err-clause-caused
+returns-in-Err-clause-caused g c is clean =
+    let old = state g.S.Store c.args.conn in
+    let store = c.into_store-store.result in
+    let v = g.S.Store.view store in
+    let done = c.into_store-store.ensures in
+    let early : IsClean v = omega (arith, clean, c.in-Err.ensures.unharmed.clean) in
+    let sound : v.is_broken ≡ false = sym (c.is_broken.ensures early) ∙ c.if-is_broken.false in
+    let here : IsTrue v.is_open = open_store v (g.met.S.Store.broken_if_shut store) sound in
+    let fresh : v.trees ≡ v.committed = (done.undone.undone here).0 ∙ sym ((done.undone.kept early).committed here) in
+    let database = subst (λ (trees : Trees). (schema : Schema) × IsSound schema trees) (sym fresh) (done.sound early v.committed (g.met.S.Store.stays store here)) in
+    open_failed old (g.S.Store.faults store) (g.S.Store.faults c.in-Err.store) v.trees c.in-Err.error c.fault_of.result done.quiet.counts database c.fault_of.ensures.memory
+    (c.in-Err.ensures.err clean) is

@@ -2,7 +2,7 @@ use Rattle.std.proofs.Common.{◌≡◌, IsTrue, false, subst, subst₂, sym, ru
 use Rattle.sqlite.specs.Held.{Held, state}
 use Rattle.sqlite.specs.State.{HasCleanDisk, Survives}
 use Rattle.sqlite.specs.Tree.{Trees}
-use Rattle.pt_store.specs.LeastState.{IsLeastState}
+use Rattle.pt_desk_store.specs.LeastState.{IsLeastState}
 use Rattle.pt_tables_keeper.specs.Sound.{IsSound}
 use Rattle.pt_tables_keeper.specs.State.{State}
 use Rattle.pt_tables_writing.specs.Least.{IsLeastDesk, IsNew, IsNewDesk}

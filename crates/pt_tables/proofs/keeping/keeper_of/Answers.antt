@@ -1,6 +1,6 @@
 use Rattle.std.proofs.Common.{◌≡◌, ℕ, length, refl, subst, subst₂, sym, ◌∙◌, arith}
 use Rattle.sqlite.specs.Held.{Held, state}
-use Rattle.pt_store.specs.Store.{IsSettled}
+use Rattle.pt_desk_store.specs.Store.{IsSettled}
 use Rattle.pt_tables_keeper.specs.State.{State}
 use Rattle.pt_tables_keeper.proofs.StepLemmas.{settles}
 use Rattle.pt_tables_keeper.specs.Keeper.{AreInStep, kept_store}

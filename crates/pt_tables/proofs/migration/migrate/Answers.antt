@@ -1,7 +1,9 @@
-use Rattle.std.proofs.Common.{is_some, ap, arith}
+use Rattle.std.proofs.Common.{is_some, inl, inr, refl, ap, arith}
 use Rattle.sqlite.specs.Held.{state}
 use Rattle.sqlite.specs.State.{HasCleanDisk}
+use Rattle.pt_tables.proofs.AdoptLemmas.{is_in_transaction}
 use Rattle.pt_tables.proofs.MigrationLemmas.{is_migrated, survive_read}
+use Rattle.pt_tables_opening.proofs.BlameLemmas.{not_for_tables}
 use Rattle.pt_tables.proofs.migration.migrate.Goals as goal
 
 pub returns-in_default-clause-other_tables : goal.returns-in_default-clause-other_tables
@@ -33,3 +35,16 @@ returns-in-Err-clause-crash g c =
     (λ early. (c.in_ok-version.ensures.same early (ap is_some c.in-Some.is)).0.now_is)
     (λ early. (c.in_ok-version.ensures.value early c.in-Some.version).0 c.in-Some.is)
     c.earlier_version_of.ensures.survives c.raise.ensures.survives
+
+-- the tables are of an earlier version, and writes began
+pub returns-in-Err-clause-caused : goal.returns-in-Err-clause-caused
+returns-in-Err-clause-caused g c clean store =
+    let early : HasCleanDisk (state g.S.Store c.earlier_version_of.new.conn) = omega (arith, clean, c.raise.ensures.survives.clean) in
+    inr (inr (c.in-Some.version, (c.in_ok-version.ensures.value early c.in-Some.version).0 c.in-Some.is))
+
+pub returns-in_default-clause-caused : goal.returns-in_default-clause-caused
+returns-in_default-clause-caused g c clean store = absurd (not_for_tables _ refl store)
+
+pub returns-then-not-is_autocommit-clause-caused : goal.returns-then-not-is_autocommit-clause-caused
+returns-then-not-is_autocommit-clause-caused g c clean store =
+    inl (is_in_transaction (state g.S.Store c.args.conn.now).in_transaction c.is_autocommit.result c.is_autocommit.ensures.value c.if-not-is_autocommit.true)

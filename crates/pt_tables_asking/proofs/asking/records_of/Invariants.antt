@@ -1,5 +1,5 @@
 use Rattle.std.proofs.Common.{◌≡◌, map, take}
-use Rattle.pt_records.specs.Records.{Each}
+use Rattle.pt_base_records.specs.Records.{Each}
 use Rattle.pt_tables_asking.proofs.asking.records_of.Given as goal
 
 abbrev pub invariant-loop-row : goal.invariant-loop-row

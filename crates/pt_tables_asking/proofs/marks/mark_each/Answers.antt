@@ -5,17 +5,20 @@ use Rattle.sqlite.specs.State.{HasCleanDisk}
 use Rattle.pt_tables_asking.specs.Marks.{marked_in}
 use Rattle.pt_tables_asking.proofs.InsideLemmas.{rests_then}
 use Rattle.pt_tables_asking.proofs.MarkLemmas.{all_changed, first_changed, marks_still, one_more}
+use Rattle.pt_tables_asking.proofs.CauseLemmas.{excused_after, excuses_as}
 use Rattle.pt_tables_asking.proofs.marks.mark_each.Goals as goal
 
-pub returns-in_err-found-clause-readable : goal.returns-in_err-found-clause-readable
-returns-in_err-found-clause-readable g c clean all order fits has =
+pub returns-in_err-found-clause-excused : goal.returns-in_err-found-clause-excused
+returns-in_err-found-clause-excused g c clean all order fits has =
     let key = g.M.Record.Keyed.key in
     let rows = g.M.TableOf.rows_of in
     let old = state g.S.Store c.args.conn.now in
     let cur = state g.S.Store c.loop-owner.conn in
     let early : HasCleanDisk cur = omega (arith, clean, c.in_err-found.ensures.rests.survives.clean) in
-    let never = c.in_err-found.ensures.readable clean all order fits (marks_still key rows c.args.text.now all old cur c.requires.committed c.loop-owner.invariant.rests early has) in
-    search rules
+    let why = c.in_err-found.ensures.excused clean all order fits (marks_still key rows c.args.text.now all old cur c.requires.committed c.loop-owner.invariant.rests early has) in
+    let new = state g.S.Store c.is_marked.new.conn in
+    excuses_as old new c.from_residual.result c.in_err-found.field-0.0 (search rules)
+    (excused_after old cur new (λ _. ⊥) (λ _. ⊥) c.in_err-found.field-0.0 c.loop-owner.invariant.rests.survives early c.in_err-found.ensures.rests.survives why)
 
 pub loop-owner-preserved : goal.loop-owner-preserved
 loop-owner-preserved g c =

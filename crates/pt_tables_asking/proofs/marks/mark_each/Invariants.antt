@@ -1,7 +1,7 @@
 use Rattle.std.proofs.Common.{◌≡◌, IsTrue, List}
 use Rattle.sqlite.specs.Held.{state}
 use Rattle.sqlite.specs.State.{HasCleanDisk}
-use Rattle.pt_records.specs.Records.{IsInOrder}
+use Rattle.pt_base_records.specs.Records.{IsInOrder}
 use Rattle.pt_tables_asking.specs.Asking.{Rests}
 use Rattle.pt_tables_asking.specs.Marks.{HasMarks, marked_in}
 use Rattle.pt_tables_asking.proofs.MarkLemmas.{first_changed}

@@ -6,24 +6,28 @@ use Rattle.sqlite.specs.Held.{state}
 use Rattle.sqlite.specs.State.{HasCleanDisk}
 use Rattle.pt_desk_rules.specs.Parts as part
 use Rattle.pt_desk_rules.specs.Planned.{planned_on}
-use Rattle.pt_records.specs.Keys.{pair_key}
-use Rattle.pt_records.specs.Records.{Each, IsInOrder, record_at}
-use Rattle.pt_records.proofs.TableLemmas.{IsInOrder-filter}
-use Rattle.pt_scheduling.specs.Plan.{Plan, plan_key}
+use Rattle.pt_base_records.specs.Keys.{pair_key}
+use Rattle.pt_base_records.specs.Records.{Each, IsInOrder, record_at}
+use Rattle.pt_base_records.proofs.TableLemmas.{IsInOrder-filter}
+use Rattle.pt_desk_scheduling.specs.Plan.{Plan, plan_key}
 use Rattle.pt_tables_asking.specs.Plans.{HasVersionAmong, vehicle_ids}
 use Rattle.pt_tables_asking.proofs.ContentLemmas.{kept_still}
 use Rattle.pt_tables_asking.proofs.DayLemmas.{plans_of, plans_of_day}
 use Rattle.pt_tables_asking.proofs.InsideLemmas.{rests_then}
 use Rattle.pt_tables_asking.proofs.ReadLemmas.{ok_same}
+use Rattle.pt_tables_asking.proofs.CauseLemmas.{excused_after, excuses_as, excuses_none}
 use Rattle.pt_tables_asking.proofs.plans.plans_by_day.Goals as goal
 
-pub returns-in_err-found-clause-readable : goal.returns-in_err-found-clause-readable
-returns-in_err-found-clause-readable g c clean content readable same carried few held =
+pub returns-in_err-found-clause-excused : goal.returns-in_err-found-clause-excused
+returns-in_err-found-clause-excused g c clean content readable same carried few held =
     let cur = state g.S.Store c.loop-id.conn in
     let early : HasCleanDisk cur = omega (arith, clean, c.in_err-found.ensures.rests.survives.clean) in
     let now = kept_still content (state g.S.Store c.args.conn.now) cur c.loop-id.invariant.rests early held in
-    let never = c.in_err-found.ensures.readable clean content readable few now in
-    search rules
+    let why = c.in_err-found.ensures.excused clean content readable few now in
+    let old = state g.S.Store c.args.conn.now in
+    let new = state g.S.Store c.plan_by_key.new.conn in
+    excuses_as old new c.from_residual-in_err-found.result c.in_err-found.field-0.0 (search rules)
+    (excused_after old cur new (λ _. ⊥) (λ _. ⊥) c.in_err-found.field-0.0 c.loop-id.invariant.rests.survives early c.in_err-found.ensures.rests.survives why)
 
 pub loop-id-preserved : goal.loop-id-preserved
 loop-id-preserved g c =
@@ -66,8 +70,8 @@ returns-clause-told g c clean content readable same carried held =
     (whole ∙ ap (plans_of day content.planned) (c.deref-id-items.ensures.value ∙ c.in_ok-ids.ensures.value ∙ ap vehicle_ids (sym same))
     ∙ plans_of_day content readable (subst (λ vs. Each (HasVersionAmong vs) content.planned) (sym same) carried) day low)
 
-pub returns-clause-readable : goal.returns-clause-readable
-returns-clause-readable g c clean content readable same carried few held =
+pub returns-clause-excused : goal.returns-clause-excused
+returns-clause-excused g c clean content readable same carried few held =
     let day = c.args.day in
     let ids = c.deref-id-items.result.now in
     let plans = c.loop-id.plans.items in
@@ -76,7 +80,7 @@ returns-clause-readable g c clean content readable same carried few held =
     let whole : plans ≡ plans_of day content.planned ids =
     sym (append-nil plans) ∙ sym (ap (λ l. plans ++ plans_of day content.planned l) (drop_all c.loop-id.id-index ids (omega (arith, c.loop-id-test.false))))
     ∙ c.loop-id.invariant.plans clean content readable held in
-    c.in_order.ensures.readable
+    excuses_none (state g.S.Store c.args.conn.now) (state g.S.Store c.loop-id.conn) c.in_order.result (IsInOrder plan_key plans) c.in_order.ensures.ordered
     (subst (λ (xs : List Plan). IsInOrder plan_key xs)
     (sym (whole ∙ ap (plans_of day content.planned) (c.deref-id-items.ensures.value ∙ c.in_ok-ids.ensures.value ∙ ap vehicle_ids (sym same))
     ∙ plans_of_day content readable (subst (λ vs. Each (HasVersionAmong vs) content.planned) (sym same) carried) day low))

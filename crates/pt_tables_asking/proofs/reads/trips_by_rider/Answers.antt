@@ -1,15 +1,16 @@
 use Rattle.std.proofs.Common.{◌==◌, Bool, sym, subst, filter, ◌∙◌, arith, rules}
 use Rattle.sqlite.specs.Held.{state}
 use Rattle.sqlite.specs.State.{HasCleanDisk}
-use Rattle.pt_base.specs.declared.trip.Trip.{Trip}
+use Rattle.pt_base_values.specs.declared.trip.Trip.{Trip}
 use Rattle.pt_desk_rules.specs.Parts as part
 use Rattle.pt_desk_rules.specs.Planned.{trips_of}
 use Rattle.pt_desk_rules.specs.State.{trip_key}
-use Rattle.pt_records.specs.Records.{IsInOrder}
-use Rattle.pt_records.proofs.TableLemmas.{IsInOrder-filter}
+use Rattle.pt_base_records.specs.Records.{IsInOrder}
+use Rattle.pt_base_records.proofs.TableLemmas.{IsInOrder-filter}
 use Rattle.pt_tables_asking.proofs.ContentLemmas.{rider_trips_there, trip_marks_there, trip_numbers, trips_fit, trips_marked}
 use Rattle.pt_tables_asking.proofs.ReadLemmas.{ok_same}
 use Rattle.pt_tables_asking.proofs.TextLemmas.{trip_marks_text, trips_by_rider_text}
+use Rattle.pt_tables_asking.proofs.CauseLemmas.{excused_after, excuses_as, excuses_none}
 use Rattle.pt_tables_asking.proofs.reads.trips_by_rider.Goals as goal
 
 pub ask-requires : goal.ask-requires
@@ -25,20 +26,22 @@ mark_each-requires g c =
       unlisted = it.unlisted;
     }
 
-pub returns-in_err-trips-clause-readable : goal.returns-in_err-trips-clause-readable
-returns-in_err-trips-clause-readable g c clean content readable held =
-    let never = c.in_err-trips.ensures.readable clean (trips_of c.args.rider content.trips) (trips_fit content readable (λ t. t.rider == c.args.rider))
+pub returns-in_err-trips-clause-excused : goal.returns-in_err-trips-clause-excused
+returns-in_err-trips-clause-excused g c clean content readable held =
+    let why = c.in_err-trips.ensures.excused clean (trips_of c.args.rider content.trips) (trips_fit content readable (λ t. t.rider == c.args.rider))
     (rider_trips_there content readable (state g.S.Store c.args.conn.now) held c.args.rider _ (search rules)) in
-    search rules
+    excuses_as (state g.S.Store c.args.conn.now) (state g.S.Store c.ask.new.conn) c.from_residual.result c.in_err-trips.field-0.0 (search rules) why
 
-pub returns-in_err-found-clause-readable : goal.returns-in_err-found-clause-readable
-returns-in_err-found-clause-readable g c clean content readable held =
+pub returns-in_err-found-clause-excused : goal.returns-in_err-found-clause-excused
+returns-in_err-found-clause-excused g c clean content readable held =
     let old = state g.S.Store c.args.conn.now in
     let mid = state g.S.Store c.ask.new.conn in
     let early : HasCleanDisk mid = omega (arith, clean, c.in_err-found.ensures.rests.survives.clean) in
-    let never = c.in_err-found.ensures.readable clean content.trips (readable.order part.trips) (trip_numbers content readable)
+    let why = c.in_err-found.ensures.excused clean content.trips (readable.order part.trips) (trip_numbers content readable)
     (trip_marks_there content readable old held mid c.in_ok-trips.ensures.rests early) in
-    search rules
+    let new = state g.S.Store c.mark_each.new.conn in
+    excuses_as old new c.from_residual-in_err-found.result c.in_err-found.field-0.0 (search rules)
+    (excused_after old mid new (λ _. ⊥) (λ _. ⊥) c.in_err-found.field-0.0 c.in_ok-trips.ensures.rests.survives early c.in_err-found.ensures.rests.survives why)
 
 pub returns-clause-told : goal.returns-clause-told
 returns-clause-told g c clean content readable held =
@@ -52,8 +55,8 @@ returns-clause-told g c clean content readable held =
     (trip_marks_there content readable old held mid c.in_ok-trips.ensures.rests early) in
     ok_same c.in_order.result c.in_ok-found.found.items (filter passes content.trips) c.in_order.ensures.told (found ∙ trips_marked content readable passes trips rows.0)
 
-pub returns-clause-readable : goal.returns-clause-readable
-returns-clause-readable g c clean content readable held =
+pub returns-clause-excused : goal.returns-clause-excused
+returns-clause-excused g c clean content readable held =
     let old = state g.S.Store c.args.conn.now in
     let mid = state g.S.Store c.ask.new.conn in
     let passes : Trip → Bool = λ t. t.rider == c.args.rider in
@@ -62,5 +65,5 @@ returns-clause-readable g c clean content readable held =
     let rows = c.in_ok-trips.ensures.told early (filter passes content.trips) (rider_trips_there content readable old held c.args.rider _ (search rules)) in
     let found = c.in_ok-found.ensures.told clean content.trips (readable.order part.trips)
     (trip_marks_there content readable old held mid c.in_ok-trips.ensures.rests early) in
-    c.in_order.ensures.readable
+    excuses_none old (state g.S.Store c.mark_each.new.conn) c.in_order.result (IsInOrder trip_key c.in_ok-found.found.items) c.in_order.ensures.ordered
     (subst (IsInOrder trip_key) (sym (found ∙ trips_marked content readable passes trips rows.0)) (IsInOrder-filter trip_key passes content.trips (readable.order part.trips)))

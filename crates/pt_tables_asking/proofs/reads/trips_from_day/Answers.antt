@@ -13,7 +13,7 @@ returns-clause-told g c clean content readable held =
     c.trips_asked.ensures.told clean content readable held (λ trip. nat_le c.args.day trip.wish.day)
     (later_trips_there content readable (state g.S.Store c.args.conn.now) held c.args.day _ (search rules))
 
-pub returns-clause-readable : goal.returns-clause-readable
-returns-clause-readable g c clean content readable held =
-    c.trips_asked.ensures.readable clean content readable held (λ trip. nat_le c.args.day trip.wish.day)
+pub returns-clause-excused : goal.returns-clause-excused
+returns-clause-excused g c clean content readable held =
+    c.trips_asked.ensures.excused clean content readable held (λ trip. nat_le c.args.day trip.wish.day)
     (later_trips_there content readable (state g.S.Store c.args.conn.now) held c.args.day _ (search rules))

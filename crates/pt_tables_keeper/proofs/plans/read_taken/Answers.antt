@@ -1,9 +1,9 @@
 use Rattle.std.proofs.Common.{◌≡◌, ◌+◌, ◌∷◌, ◌<◌, suc, length, map, drop, drop-cons, add-one, sym, ap, ◌∙◌, arith, rules}
 use Rattle.sqlite.specs.Held.{state}
 use Rattle.sqlite.specs.State.{HasCleanDisk}
-use Rattle.pt_records.specs.Records.{record_at}
-use Rattle.pt_records.specs.declared.span.Span.{Span}
-use Rattle.pt_scheduling.specs.Plan.{plan_key}
+use Rattle.pt_base_records.specs.Records.{record_at}
+use Rattle.pt_base_records.specs.declared.span.Span.{Span}
+use Rattle.pt_desk_scheduling.specs.Plan.{plan_key}
 use Rattle.pt_tables_asking.proofs.ContentLemmas.{kept_still}
 use Rattle.pt_tables_asking.proofs.InsideLemmas.{rests_then}
 use Rattle.pt_tables_keeper.specs.Plans.{plans_at, plans_with}

@@ -2,7 +2,7 @@ use Rattle.std.proofs.Common.{◌≡◌, drop, map}
 use Rattle.sqlite.specs.Held.{state}
 use Rattle.sqlite.specs.State.{HasCleanDisk}
 use Rattle.pt_desk_rules.specs.State.{State}
-use Rattle.pt_records.specs.declared.span.Span.{Span}
+use Rattle.pt_base_records.specs.declared.span.Span.{Span}
 use Rattle.pt_tables_asking.specs.Asking.{Rests}
 use Rattle.pt_tables_keeper.specs.Plans.{plans_at}
 use Rattle.pt_tables_rows.specs.Tables.{IsKept, IsWellFormed}

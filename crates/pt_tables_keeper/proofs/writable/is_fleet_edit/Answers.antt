@@ -1,7 +1,7 @@
 use Rattle.std.proofs.Common.{◌≡◌, ◌∷◌, [], get_or, inl, inr, sym, ap, ◌∙◌}
-use Rattle.pt_base.specs.declared.vehicle.Vehicle.{Vehicle}
+use Rattle.pt_base_values.specs.declared.vehicle.Vehicle.{Vehicle}
 use Rattle.pt_desk_rules.specs.State.{versions_from}
-use Rattle.pt_records.specs.Records.{Edit}
+use Rattle.pt_base_records.specs.Records.{Edit}
 use Rattle.pt_tables_keeper.proofs.writable.is_fleet_edit.Goals as goal
 
 -- the one element of equal lists

@@ -1,12 +1,13 @@
 use Rattle.std.proofs.Common.{◌≡◌, sym, subst}
 use Rattle.sqlite.specs.Held.{state}
 use Rattle.sqlite.specs.State.{HasCleanDisk}
-use Rattle.pt_base.specs.declared.fault.Cause.TheVariants as cause
+use Rattle.pt_base_values.specs.declared.fault.Cause.TheVariants as cause
 use Rattle.pt_tables_opening.specs.Faults.{fault, unsound}
 use Rattle.pt_tables_opening.specs.Opening.{Rests}
 use Rattle.pt_tables_rows.specs.Schema.{desk_schema, desk_table}
 use Rattle.pt_tables_rows.specs.Tables.{AreRows}
 use Rattle.pt_tables_opening.proofs.AgencyLemmas.{agency_told, agency_refused, agency_spares}
+use Rattle.pt_tables_opening.proofs.BlameLemmas.{agency_caused, error_caused}
 use Rattle.pt_tables_opening.proofs.RestLemmas.{rests_so}
 use Rattle.pt_tables_opening.proofs.agency.agency_in.Goals as goal
 
@@ -35,3 +36,10 @@ returns-clause-version g c clean has =
     let trees = (state g.S.Store c.args.conn.now).now.trees in
     agency_spares trees c.deref.result.now (subst (AreRows desk_table trees) (sym c.deref.ensures.value) (c.in-Ok.ensures.rows clean has))
     c.agency_from.result c.agency_from.ensures.faults
+
+pub returns-in-Err-clause-caused : goal.returns-in-Err-clause-caused
+returns-in-Err-clause-caused g c clean has store =
+    error_caused (state g.S.Store c.args.conn.now) (state g.S.Store c.desk_rows.new.conn) c.in-Err.error c.fault_of.result c.fault_of.ensures.memory (c.in-Err.ensures.caused clean has) store
+
+pub returns-clause-caused : goal.returns-clause-caused
+returns-clause-caused g c = agency_caused _ _ (state g.S.Store c.args.conn.now) (state g.S.Store c.desk_rows.new.conn) c.agency_from.result c.agency_from.ensures.faults

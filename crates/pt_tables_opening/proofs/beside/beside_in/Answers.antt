@@ -1,15 +1,16 @@
 use Rattle.std.proofs.Common.{◌≡◌, refl, sym, subst}
 use Rattle.sqlite.specs.Held.{state}
 use Rattle.sqlite.specs.State.{HasCleanDisk}
-use Rattle.pt_base.specs.declared.fault.Cause.TheVariants as cause
+use Rattle.pt_base_values.specs.declared.fault.Cause.TheVariants as cause
 use Rattle.pt_tables_opening.specs.Faults.{fault, unsound}
 use Rattle.pt_tables_opening.specs.Gathered.{KeepsRows}
 use Rattle.pt_tables_rows.specs.Schema.{desk_schema}
 use Rattle.pt_tables_rows.specs.Tables.{AreRows}
 use Rattle.pt_desk_rules.specs.TableNames.{number_of}
 use Rattle.pt_tables_opening.proofs.BesideLemmas.{beside_told, refuses_beside, same_told}
+use Rattle.pt_tables_opening.proofs.BlameLemmas.{error_caused, rows_caused}
 use Rattle.pt_tables_opening.proofs.RestLemmas.{last, refused}
-use Rattle.pt_tables_opening.proofs.ShownRows.{shows_asked}
+use Rattle.pt_tables_opening.proofs.ShownRows.{serves_asked, shows_asked}
 use Rattle.pt_tables_opening.proofs.beside.beside_in.Goals as goal
 
 pub returns-in-Err-clause-rests : goal.returns-in-Err-clause-rests
@@ -50,3 +51,12 @@ returns-clause-told g c clean has =
     let shown = shows_asked c.requires.asked old (state g.S.Store c.rows_of_table.new.conn) has c.in-Ok.rows.items (c.in-Ok.ensures.shown clean) in
     beside_told g.T.Record.Keyed.key home g.T.First.OneRow.row_of g.T.TableOf.rows_of g.T.TableOf.Fits old.now.trees c.args.records.now c.deref.result.now
     c.merged_table.result c.merged_table.ensures.told (subst (AreRows home old.now.trees) (sym c.deref.ensures.value) shown.0)
+
+pub returns-in-Err-clause-caused : goal.returns-in-Err-clause-caused
+returns-in-Err-clause-caused g c clean has store =
+    error_caused (state g.S.Store c.args.conn.now) (state g.S.Store c.rows_of_table.new.conn) c.in-Err.error c.fault_of.result c.fault_of.ensures.memory
+    (c.in-Err.ensures.caused desk_schema (serves_asked c.requires.asked) clean has) store
+
+pub returns-clause-caused : goal.returns-clause-caused
+returns-clause-caused g c =
+    rows_caused _ (state g.S.Store c.args.conn.now) (state g.S.Store c.rows_of_table.new.conn) (number_of c.args.table) c.merged_table.result c.merged_table.ensures.faults

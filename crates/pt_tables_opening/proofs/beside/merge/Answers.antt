@@ -1,7 +1,7 @@
 use Rattle.std.proofs.Common.{◌≡◌, ◌+◌, ◌<◌, ◌++◌, [], map, flat_map, length, drop, append-nil, sym, ap, subst, ◌∙◌, arith}
 use Rattle.std.proofs.lemmas.Bool.Decides.{nat_tests}
 use Rattle.std.proofs.lemmas.List.{drop_all}
-use Rattle.pt_records.specs.Records.{Each, Edit}
+use Rattle.pt_base_records.specs.Records.{Each, Edit}
 use Rattle.pt_tables_opening.proofs.BesideLemmas.{Goes, goes_on, goes_out, next_from, no_rows, order_same, rows_next, whole_take}
 use Rattle.pt_tables_opening.proofs.GatheredLemmas.{done_next, each_push}
 use Rattle.pt_tables_opening.proofs.beside.merge.Goals as goal

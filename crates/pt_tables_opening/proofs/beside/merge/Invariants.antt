@@ -1,5 +1,5 @@
 use Rattle.std.proofs.Common.{◌≡◌, ◌++◌, List, [], map, flat_map, take, drop}
-use Rattle.pt_records.specs.Records.{Each, IsInOrder}
+use Rattle.pt_base_records.specs.Records.{Each, IsInOrder}
 use Rattle.pt_tables_opening.proofs.BesideLemmas.{Goes}
 use Rattle.pt_tables_opening.proofs.beside.merge.Given as goal
 

@@ -10,4 +10,4 @@ returns g c s adds =
 pub returns-in_err-records : goal.returns-in_err-records
 returns-in_err-records g c s adds =
     reads_none c.args.table (state g.S.Store c.args.conn.now) (state g.S.Store c.beside_in.new.conn) s c.beside_in.result c.beside_in.ensures.rests adds
-    _ c.from_residual.result c.from_residual.ensures.0 c.from_residual.ensures.1 c.in_err-records.ensures.faults
+    _ c.from_residual.result c.from_residual.ensures.0 c.from_residual.ensures.1 c.in_err-records.ensures.faults c.in_err-records.ensures.caused

@@ -1,14 +1,15 @@
 use Rattle.std.proofs.Common.{◌≡◌, refl, sym, subst}
 use Rattle.sqlite.specs.Held.{state}
 use Rattle.sqlite.specs.State.{HasCleanDisk}
-use Rattle.pt_base.specs.declared.fault.Cause.TheVariants as cause
+use Rattle.pt_base_values.specs.declared.fault.Cause.TheVariants as cause
 use Rattle.pt_tables_opening.specs.Faults.{fault, unsound}
 use Rattle.pt_tables_opening.specs.Gathered.{FitsRows, KeepsOrder}
 use Rattle.pt_tables_rows.specs.Schema.{desk_schema}
 use Rattle.pt_tables_rows.specs.Tables.{AreRows}
 use Rattle.pt_desk_rules.specs.TableNames.{number_of}
+use Rattle.pt_tables_opening.proofs.BlameLemmas.{error_caused, rows_caused}
 use Rattle.pt_tables_opening.proofs.RestLemmas.{last, refused}
-use Rattle.pt_tables_opening.proofs.ShownRows.{shows_asked}
+use Rattle.pt_tables_opening.proofs.ShownRows.{serves_asked, shows_asked}
 use Rattle.pt_tables_opening.proofs.GatheredLemmas.{are_of_table, refuses_table}
 use Rattle.pt_tables_opening.proofs.gathered.gathered_in.Goals as goal
 
@@ -45,3 +46,12 @@ returns-clause-faults g c =
     (λ clean has. subst (AreRows home old.now.trees) (sym c.deref.ensures.value) (shows_asked c.requires.asked old new has rows (c.in-Ok.ensures.shown clean)).0)
     (λ clean has. subst (KeepsOrder key rows_of Fits) (sym c.deref.ensures.value) (shows_asked c.requires.asked old new has rows (c.in-Ok.ensures.shown clean)).1)
     (fault cause.Memory) (fault cause.StoreFailed) (unsound (number_of c.args.table)) c.gathered_table.result c.gathered_table.ensures.faults
+
+pub returns-in-Err-clause-caused : goal.returns-in-Err-clause-caused
+returns-in-Err-clause-caused g c clean has store =
+    error_caused (state g.S.Store c.args.conn.now) (state g.S.Store c.rows_of_table.new.conn) c.in-Err.error c.fault_of.result c.fault_of.ensures.memory
+    (c.in-Err.ensures.caused desk_schema (serves_asked c.requires.asked) clean has) store
+
+pub returns-clause-caused : goal.returns-clause-caused
+returns-clause-caused g c =
+    rows_caused _ (state g.S.Store c.args.conn.now) (state g.S.Store c.rows_of_table.new.conn) (number_of c.args.table) c.gathered_table.result c.gathered_table.ensures.faults

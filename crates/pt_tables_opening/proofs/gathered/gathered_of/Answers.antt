@@ -1,6 +1,6 @@
 use Rattle.std.proofs.Common.{◌<◌, length, sym, ap, subst, ◌∙◌, arith}
 use Rattle.std.proofs.lemmas.Bool.Decides.{nat_tests}
-use Rattle.pt_records.specs.Records.{Each, Edit}
+use Rattle.pt_base_records.specs.Records.{Each, Edit}
 use Rattle.pt_tables_reading.specs.Reading.{Reads}
 use Rattle.pt_tables_opening.specs.Gathered.{FitsRows}
 use Rattle.pt_tables_opening.proofs.GatheredLemmas.{Ends, done_next, each_push, none_first, remain_next}

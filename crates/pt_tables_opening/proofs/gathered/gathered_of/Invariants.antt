@@ -1,5 +1,5 @@
 use Rattle.std.proofs.Common.{◌≡◌, ◌++◌, List, [], length, flat_map}
-use Rattle.pt_records.specs.Records.{Each}
+use Rattle.pt_base_records.specs.Records.{Each}
 use Rattle.pt_tables_opening.specs.Gathered.{FitsRows}
 use Rattle.pt_tables_opening.proofs.GatheredLemmas.{Remain}
 use Rattle.pt_tables_opening.proofs.gathered.gathered_of.Given as goal

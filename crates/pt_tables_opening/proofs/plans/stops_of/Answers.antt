@@ -1,5 +1,5 @@
 use Rattle.std.proofs.Common.{◌≡◌, ◌+◌, ◌<◌, ◌^◌, ◌∷◌, [], length, length-append, sym, ap, subst, ◌∙◌, arith}
-use Rattle.pt_records.specs.Records.{Each}
+use Rattle.pt_base_records.specs.Records.{Each}
 use Rattle.pt_desk_rules.specs.Ranges.{FitsStop}
 use Rattle.pt_tables_opening.proofs.GatheredLemmas.{each_push}
 use Rattle.pt_tables_opening.proofs.PlanReading.{no-stops, rows-of-stops, stops-next}

@@ -1,5 +1,5 @@
 use Rattle.std.proofs.Common.{ℕ, None, sym, subst}
-use Rattle.pt_base.specs.Day.{IsDay}
+use Rattle.pt_base_values.specs.Day.{IsDay}
 use Rattle.pt_tables_reading.specs.Reading.{Reads}
 use Rattle.pt_tables_rows.specs.Rows.{travel_row}
 use Rattle.pt_tables_opening.proofs.travel.first_day.Goals as goal

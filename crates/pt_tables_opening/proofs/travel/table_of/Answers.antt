@@ -1,6 +1,6 @@
 use Rattle.std.proofs.Common.{◌≡◌, ◌-◌, length, map, take, drop, sym, subst, ◌∙◌}
 use Rattle.std.proofs.lemmas.List.{take_rest}
-use Rattle.pt_records.specs.Records.{Each}
+use Rattle.pt_base_records.specs.Records.{Each}
 use Rattle.pt_travel.specs.Table.{IsTable}
 use Rattle.pt_desk_rules.specs.Ranges.{FitsDrive}
 use Rattle.pt_tables_rows.specs.Rows.{travel_row}

@@ -1,7 +1,7 @@
 use Rattle.std.proofs.Common.{◌≡◌, ◌+◌, ◌-◌, ◌<◌, ◌≤◌, ◌↔◌, ℕ, IsSome, None, Result, Ok, sym, subst, arith}
 use Rattle.sqlite.specs.Held.{state}
 use Rattle.sqlite.specs.State.{State as Connected}
-use Rattle.pt_store.specs.Listed.{Listed}
+use Rattle.pt_desk_store.specs.Listed.{Listed}
 use Rattle.pt_desk_rules.specs.TableNames.{number_of, table_count}
 use Rattle.pt_desk_rules.specs.declared.table_name.TableName.{TableName}
 use Rattle.pt_tables_opening.specs.Steps.{IsReadTo, OpensTable, OpensTo}

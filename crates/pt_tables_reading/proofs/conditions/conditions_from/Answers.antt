@@ -1,8 +1,8 @@
 use Rattle.std.proofs.Common.{◌≡◌, ◌<◌, ◌+◌, ◌++◌, ◌∷◌, [], List, map, length, length-append, rules, arith}
 use Rattle.std.proofs.Common.{ℕ, refl, sym, ap, ap₂, ◌∙◌, subst}
-use Rattle.pt_conditions.specs.Texts.{condition_text}
-use Rattle.pt_rights.specs.Conditions.{IsConditions}
-use Rattle.pt_rights.specs.declared.conditions.Condition.{Condition}
+use Rattle.pt_rights_conditions.specs.Texts.{condition_text}
+use Rattle.pt_rights_files.specs.Conditions.{IsConditions}
+use Rattle.pt_rights_files.specs.declared.conditions.Condition.{Condition}
 use Rattle.pt_tables_reading.specs.Fitting.{joined, parts_of, FitsConditions}
 use Rattle.pt_tables_reading.proofs.ConditionReading.{AreConditions, no-conditions, no-last, parted-more, fit-more}
 use Rattle.pt_tables_reading.proofs.ConditionReading.{not-whole, text-joined, conditions-read}

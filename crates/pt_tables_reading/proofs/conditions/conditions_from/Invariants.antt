@@ -1,7 +1,7 @@
 use Rattle.std.proofs.Common.{◌≡◌, ◌<◌, ◌≤◌, ◌++◌, ◌∷◌, [], map, length}
 use denote.Shadow.{shadow}
 use denote.Text.{Utf8}
-use Rattle.pt_conditions.specs.Texts.{condition_text}
+use Rattle.pt_rights_conditions.specs.Texts.{condition_text}
 use Rattle.pt_tables_reading.specs.Fitting.{parts_of}
 use Rattle.pt_tables_reading.proofs.ConditionReading.{AreConditions}
 use Rattle.pt_tables_reading.proofs.conditions.conditions_from.Given as goal

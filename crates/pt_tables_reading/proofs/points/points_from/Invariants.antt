@@ -1,6 +1,6 @@
 use Rattle.std.proofs.Common.{◌≡◌, ℕ, List, take}
 use Rattle.std.specs.List.{flat_map}
-use Rattle.pt_spelling.specs.Requests.{point_bytes}
+use Rattle.pt_desk_spelling.specs.Requests.{point_bytes}
 use Rattle.pt_tables_reading.proofs.points.points_from.Given as goal
 
 abbrev pub invariant-loop-chunk : goal.invariant-loop-chunk

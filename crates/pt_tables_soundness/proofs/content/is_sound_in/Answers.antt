@@ -1,10 +1,10 @@
 use Rattle.std.proofs.Common.{subst, sym}
-use Rattle.pt_records.specs.Records.{Each}
+use Rattle.pt_base_records.specs.Records.{Each}
 use Rattle.pt_desk_rules.specs.Sound.{HasFirstDay}
-use Rattle.pt_scheduling.specs.Plan.{IsRoutePlan}
-use Rattle.pt_soundness.specs.Tables.{IsSoundBefore}
-use Rattle.pt_soundness.proofs.TableLemmas.{days_to, first_ten, routes_to}
-use Rattle.pt_soundness.proofs.content.is_sound_in.Goals as goal
+use Rattle.pt_desk_scheduling.specs.Plan.{IsRoutePlan}
+use Rattle.pt_tables_soundness.specs.Tables.{IsSoundBefore}
+use Rattle.pt_tables_soundness.proofs.TableLemmas.{days_to, first_ten, routes_to}
+use Rattle.pt_tables_soundness.proofs.content.is_sound_in.Goals as goal
 
 pub are_sound_tables-requires-clause-days : goal.are_sound_tables-requires-clause-days
 are_sound_tables-requires-clause-days c =

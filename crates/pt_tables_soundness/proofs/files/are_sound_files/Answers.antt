@@ -1,6 +1,6 @@
 use Rattle.std.proofs.Common.{arith}
-use Rattle.pt_soundness.proofs.FileLemmas.{all_filed, not_filed}
-use Rattle.pt_soundness.proofs.files.are_sound_files.Goals as goal
+use Rattle.pt_tables_soundness.proofs.FileLemmas.{all_filed, not_filed}
+use Rattle.pt_tables_soundness.proofs.files.are_sound_files.Goals as goal
 
 pub returns-then-not-is_at : goal.returns-then-not-is_at
 returns-then-not-is_at c =

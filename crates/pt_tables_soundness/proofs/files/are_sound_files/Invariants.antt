@@ -1,6 +1,6 @@
 use Rattle.std.proofs.Common.{drop}
-use Rattle.pt_soundness.proofs.FileLemmas.{AreFiledFrom}
-use Rattle.pt_soundness.proofs.files.are_sound_files.Given as goal
+use Rattle.pt_tables_soundness.proofs.FileLemmas.{AreFiledFrom}
+use Rattle.pt_tables_soundness.proofs.files.are_sound_files.Given as goal
 
 abbrev pub invariant-loop-filed : goal.invariant-loop-filed
 invariant-loop-filed l = record {

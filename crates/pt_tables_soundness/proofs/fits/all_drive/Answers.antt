@@ -1,8 +1,8 @@
 use Rattle.std.proofs.Common.{arith}
 use Rattle.pt_desk_rules.specs.Sound.{DrivesIn}
-use Rattle.pt_scheduling.specs.Plan.{IsRoutePlan}
-use Rattle.pt_soundness.proofs.EachLemmas.{each_at, each_past, fails_at, holds_all}
-use Rattle.pt_soundness.proofs.fits.all_drive.Goals as goal
+use Rattle.pt_desk_scheduling.specs.Plan.{IsRoutePlan}
+use Rattle.pt_tables_soundness.proofs.EachLemmas.{each_at, each_past, fails_at, holds_all}
+use Rattle.pt_tables_soundness.proofs.fits.all_drive.Goals as goal
 
 pub drives-requires-clause-route : goal.drives-requires-clause-route
 drives-requires-clause-route c =

@@ -2,8 +2,8 @@ use Rattle.std.proofs.Common.{ℕ, Option, subst}
 use Rattle.pt_feasible.specs.Route.{stops_of}
 use Rattle.pt_feasible.specs.ServiceTimes.{TimesFit}
 use Rattle.pt_travel.specs.Times.{time_in}
-use Rattle.pt_soundness.proofs.FitLemmas.{minutes_one}
-use Rattle.pt_soundness.proofs.fits.can_drive.Goals as goal
+use Rattle.pt_tables_soundness.proofs.FitLemmas.{minutes_one}
+use Rattle.pt_tables_soundness.proofs.fits.can_drive.Goals as goal
 
 pub returns-in-None : goal.returns-in-None
 returns-in-None c = (

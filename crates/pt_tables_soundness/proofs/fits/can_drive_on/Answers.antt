@@ -4,9 +4,9 @@ use Rattle.pt_desk_rules.specs.Fleet.{in_force}
 use Rattle.pt_desk_rules.specs.Sound.{HasTimes}
 use Rattle.pt_desk_rules.specs.Travel.{table_on}
 use Rattle.pt_feasible.specs.Route.{stops_of}
-use Rattle.pt_scheduling.specs.Plan.{stops_among}
-use Rattle.pt_soundness.proofs.FitLemmas.{all_alike}
-use Rattle.pt_soundness.proofs.fits.can_drive_on.Goals as goal
+use Rattle.pt_desk_scheduling.specs.Plan.{stops_among}
+use Rattle.pt_tables_soundness.proofs.FitLemmas.{all_alike}
+use Rattle.pt_tables_soundness.proofs.fits.can_drive_on.Goals as goal
 
 pub returns : goal.returns
 returns c =

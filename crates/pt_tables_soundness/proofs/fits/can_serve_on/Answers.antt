@@ -3,8 +3,8 @@ use Rattle.pt_desk_rules.specs.Booking.{rows_of}
 use Rattle.pt_desk_rules.specs.Sound.{HasTimes}
 use Rattle.pt_desk_rules.specs.Travel.{table_on}
 use Rattle.pt_feasible.specs.Route.{stops_of}
-use Rattle.pt_soundness.proofs.FitLemmas.{alike}
-use Rattle.pt_soundness.proofs.fits.can_serve_on.Goals as goal
+use Rattle.pt_tables_soundness.proofs.FitLemmas.{alike}
+use Rattle.pt_tables_soundness.proofs.fits.can_serve_on.Goals as goal
 
 pub returns-in-Some : goal.returns-in-Some
 returns-in-Some c =

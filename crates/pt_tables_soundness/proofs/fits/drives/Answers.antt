@@ -2,9 +2,9 @@ use Rattle.std.proofs.Common.{sym}
 use Rattle.pt_desk_rules.specs.Booking.{rows_of}
 use Rattle.pt_desk_rules.specs.Sound.{HasTimes}
 use Rattle.pt_desk_rules.specs.Travel.{table_on}
-use Rattle.pt_scheduling.specs.Plan.{stops_among}
-use Rattle.pt_soundness.proofs.FitLemmas.{plan_holds}
-use Rattle.pt_soundness.proofs.fits.drives.Goals as goal
+use Rattle.pt_desk_scheduling.specs.Plan.{stops_among}
+use Rattle.pt_tables_soundness.proofs.FitLemmas.{plan_holds}
+use Rattle.pt_tables_soundness.proofs.fits.drives.Goals as goal
 
 pub returns : goal.returns
 returns c =

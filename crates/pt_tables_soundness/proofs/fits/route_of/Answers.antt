@@ -1,9 +1,9 @@
 use Rattle.std.proofs.Common.{List, arith, ap, length, subst, sym, ◌∙◌}
-use Rattle.pt_base.specs.declared.trip.Trip.{Trip}
+use Rattle.pt_base_values.specs.declared.trip.Trip.{Trip}
 use Rattle.pt_feasible.specs.Pairing.{IsPaired}
-use Rattle.pt_scheduling.specs.Plan.{stops_among}
-use Rattle.pt_scheduling.proofs.RouteLemmas.{among_route}
-use Rattle.pt_soundness.proofs.fits.route_of.Goals as goal
+use Rattle.pt_desk_scheduling.specs.Plan.{stops_among}
+use Rattle.pt_desk_scheduling.proofs.RouteLemmas.{among_route}
+use Rattle.pt_tables_soundness.proofs.fits.route_of.Goals as goal
 
 pub unwrap-requires : goal.unwrap-requires
 unwrap-requires c =

@@ -1,7 +1,7 @@
 use Rattle.std.proofs.Common.{arith}
 use Rattle.pt_desk_rules.specs.Sound.{IsKeptWrite}
-use Rattle.pt_soundness.proofs.EachLemmas.{each_past, fails_at, holds_all}
-use Rattle.pt_soundness.proofs.kept.are_kept_writes.Goals as goal
+use Rattle.pt_tables_soundness.proofs.EachLemmas.{each_past, fails_at, holds_all}
+use Rattle.pt_tables_soundness.proofs.kept.are_kept_writes.Goals as goal
 
 pub loop-one-preserved : goal.loop-one-preserved
 loop-one-preserved c =

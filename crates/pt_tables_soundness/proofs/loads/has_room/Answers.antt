@@ -1,9 +1,9 @@
 use Rattle.std.proofs.Common.{arith}
-use Rattle.pt_base.specs.declared.vehicle.Vehicle.{Vehicle}
+use Rattle.pt_base_values.specs.declared.vehicle.Vehicle.{Vehicle}
 use Rattle.pt_feasible.specs.Loads.{LoadsFit}
 use Rattle.pt_feasible.specs.Route.{stops_of}
-use Rattle.pt_soundness.proofs.FitLemmas.{is_none, is_some, some_past}
-use Rattle.pt_soundness.proofs.loads.has_room.Goals as goal
+use Rattle.pt_tables_soundness.proofs.FitLemmas.{is_none, is_some, some_past}
+use Rattle.pt_tables_soundness.proofs.loads.has_room.Goals as goal
 
 pub loop-version-preserved : goal.loop-version-preserved
 loop-version-preserved c =

@@ -1,8 +1,8 @@
 use Rattle.std.proofs.Common.{sym}
 use Rattle.pt_feasible.specs.Loads.{LoadsFit}
-use Rattle.pt_scheduling.specs.Plan.{stops_among}
-use Rattle.pt_soundness.proofs.FitLemmas.{plan_holds}
-use Rattle.pt_soundness.proofs.loads.has_room_for.Goals as goal
+use Rattle.pt_desk_scheduling.specs.Plan.{stops_among}
+use Rattle.pt_tables_soundness.proofs.FitLemmas.{plan_holds}
+use Rattle.pt_tables_soundness.proofs.loads.has_room_for.Goals as goal
 
 pub returns : goal.returns
 returns c =

@@ -2,9 +2,9 @@ use Rattle.std.proofs.Common.{◌∙◌}
 use Rattle.pt_desk_rules.specs.Fleet.{in_force}
 use Rattle.pt_feasible.specs.Loads.{LoadsFit}
 use Rattle.pt_feasible.specs.Route.{stops_of}
-use Rattle.pt_scheduling.specs.Plan.{stops_among}
-use Rattle.pt_soundness.proofs.FitLemmas.{alike}
-use Rattle.pt_soundness.proofs.loads.has_room_on.Goals as goal
+use Rattle.pt_desk_scheduling.specs.Plan.{stops_among}
+use Rattle.pt_tables_soundness.proofs.FitLemmas.{alike}
+use Rattle.pt_tables_soundness.proofs.loads.has_room_on.Goals as goal
 
 pub returns : goal.returns
 returns c =

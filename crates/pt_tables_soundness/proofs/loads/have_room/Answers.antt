@@ -1,8 +1,8 @@
 use Rattle.std.proofs.Common.{arith}
 use Rattle.pt_desk_rules.specs.Sound.{LoadsFitIn}
-use Rattle.pt_scheduling.specs.Plan.{IsRoutePlan}
-use Rattle.pt_soundness.proofs.EachLemmas.{each_at, each_past, fails_at, holds_all}
-use Rattle.pt_soundness.proofs.loads.have_room.Goals as goal
+use Rattle.pt_desk_scheduling.specs.Plan.{IsRoutePlan}
+use Rattle.pt_tables_soundness.proofs.EachLemmas.{each_at, each_past, fails_at, holds_all}
+use Rattle.pt_tables_soundness.proofs.loads.have_room.Goals as goal
 
 pub has_room_for-requires-clause-route : goal.has_room_for-requires-clause-route
 has_room_for-requires-clause-route c =

@@ -1,7 +1,7 @@
 use Rattle.std.proofs.Common.{drop}
 use Rattle.pt_desk_rules.specs.Sound.{LoadsFitIn}
-use Rattle.pt_records.specs.Records.{Each}
-use Rattle.pt_soundness.proofs.loads.have_room.Given as goal
+use Rattle.pt_base_records.specs.Records.{Each}
+use Rattle.pt_tables_soundness.proofs.loads.have_room.Given as goal
 
 abbrev pub invariant-loop-plan : goal.invariant-loop-plan
 invariant-loop-plan l =

@@ -1,5 +1,5 @@
-use Rattle.pt_soundness.proofs.PairLemmas.{pairs_each, pairs_of_all}
-use Rattle.pt_soundness.proofs.pairs.are_paired.Goals as goal
+use Rattle.pt_tables_soundness.proofs.PairLemmas.{pairs_each, pairs_of_all}
+use Rattle.pt_tables_soundness.proofs.pairs.are_paired.Goals as goal
 
 pub returns : goal.returns
 returns c =

@@ -1,8 +1,8 @@
 use Rattle.std.proofs.Common.{arith}
-use Rattle.pt_scheduling.specs.Plan.{stops_of_trip, IsPair}
-use Rattle.pt_scheduling.specs.declared.planned.PlannedStop.{PlannedStop}
-use Rattle.pt_soundness.proofs.EachLemmas.{each_past, fails_at, holds_all}
-use Rattle.pt_soundness.proofs.pairs.are_pairs.Goals as goal
+use Rattle.pt_desk_scheduling.specs.Plan.{stops_of_trip, IsPair}
+use Rattle.pt_desk_scheduling.specs.declared.planned.PlannedStop.{PlannedStop}
+use Rattle.pt_tables_soundness.proofs.EachLemmas.{each_past, fails_at, holds_all}
+use Rattle.pt_tables_soundness.proofs.pairs.are_pairs.Goals as goal
 
 pub loop-stop-preserved : goal.loop-stop-preserved
 loop-stop-preserved c =

@@ -1,7 +1,7 @@
 use Rattle.std.proofs.Common.{arith}
-use Rattle.pt_scheduling.specs.Plan.{IsRoutePlan}
-use Rattle.pt_soundness.proofs.EachLemmas.{each_past, fails_at, holds_all}
-use Rattle.pt_soundness.proofs.pairs.are_route_plans.Goals as goal
+use Rattle.pt_desk_scheduling.specs.Plan.{IsRoutePlan}
+use Rattle.pt_tables_soundness.proofs.EachLemmas.{each_past, fails_at, holds_all}
+use Rattle.pt_tables_soundness.proofs.pairs.are_route_plans.Goals as goal
 
 pub loop-plan-preserved : goal.loop-plan-preserved
 loop-plan-preserved c =

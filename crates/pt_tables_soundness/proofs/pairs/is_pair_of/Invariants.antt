@@ -1,7 +1,7 @@
 use Rattle.std.proofs.Common.{drop}
-use Rattle.pt_scheduling.specs.Plan.{stops_of_trip, IsPair}
-use Rattle.pt_soundness.specs.Pairs.{IsRestAfter}
-use Rattle.pt_soundness.proofs.pairs.is_pair_of.Given as goal
+use Rattle.pt_desk_scheduling.specs.Plan.{stops_of_trip, IsPair}
+use Rattle.pt_tables_soundness.specs.Pairs.{IsRestAfter}
+use Rattle.pt_tables_soundness.proofs.pairs.is_pair_of.Given as goal
 
 abbrev pub invariant-loop-stop : goal.invariant-loop-stop
 invariant-loop-stop l = record {

@@ -1,9 +1,9 @@
 use Rattle.std.proofs.Common.{arith}
 use Rattle.pt_desk_rules.specs.Sound.{StandsIn}
-use Rattle.pt_scheduling.specs.Plan.{plan_key}
-use Rattle.pt_scheduling.specs.declared.planned.PlannedStop.{PlannedStop}
-use Rattle.pt_soundness.proofs.EachLemmas.{each_past, fails_at, holds_all}
-use Rattle.pt_soundness.proofs.plans.stand_in.Goals as goal
+use Rattle.pt_desk_scheduling.specs.Plan.{plan_key}
+use Rattle.pt_desk_scheduling.specs.declared.planned.PlannedStop.{PlannedStop}
+use Rattle.pt_tables_soundness.proofs.EachLemmas.{each_past, fails_at, holds_all}
+use Rattle.pt_tables_soundness.proofs.plans.stand_in.Goals as goal
 
 pub loop-stop-preserved : goal.loop-stop-preserved
 loop-stop-preserved c =

@@ -1,9 +1,9 @@
 use Rattle.std.proofs.Common.{◌≡◌, ◌∙◌, ℕ, Some, subst, sym}
-use Rattle.pt_records.specs.Records.{record_at}
+use Rattle.pt_base_records.specs.Records.{record_at}
 use Rattle.pt_desk_rules.specs.State.{trip_key}
-use Rattle.pt_scheduling.specs.Plan.{plan_key}
-use Rattle.pt_soundness.proofs.FoundLemmas.{trip_found}
-use Rattle.pt_soundness.proofs.plans.stands_in.Goals as goal
+use Rattle.pt_desk_scheduling.specs.Plan.{plan_key}
+use Rattle.pt_tables_soundness.proofs.FoundLemmas.{trip_found}
+use Rattle.pt_tables_soundness.proofs.plans.stands_in.Goals as goal
 
 pub returns-in-Some : goal.returns-in-Some
 returns-in-Some c =

@@ -1,7 +1,7 @@
 use Rattle.std.proofs.Common.{arith}
 use Rattle.pt_desk_rules.specs.Sound.{IsOfPlaces}
-use Rattle.pt_soundness.proofs.EachLemmas.{each_past, fails_at, holds_all}
-use Rattle.pt_soundness.proofs.travel.are_of_places.Goals as goal
+use Rattle.pt_tables_soundness.proofs.EachLemmas.{each_past, fails_at, holds_all}
+use Rattle.pt_tables_soundness.proofs.travel.are_of_places.Goals as goal
 
 pub loop-table-preserved : goal.loop-table-preserved
 loop-table-preserved c =

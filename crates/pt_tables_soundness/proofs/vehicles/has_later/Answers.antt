@@ -1,6 +1,6 @@
 use Rattle.std.proofs.Common.{sym}
-use Rattle.pt_soundness.proofs.FleetLemmas.{has_next, same_numbers}
-use Rattle.pt_soundness.proofs.vehicles.has_later.Goals as goal
+use Rattle.pt_tables_soundness.proofs.FleetLemmas.{has_next, same_numbers}
+use Rattle.pt_tables_soundness.proofs.vehicles.has_later.Goals as goal
 
 pub returns-in-Some : goal.returns-in-Some
 returns-in-Some c =

@@ -1,5 +1,5 @@
-use Rattle.pt_soundness.proofs.FleetLemmas.{has_versions}
-use Rattle.pt_soundness.proofs.vehicles.has_version.Goals as goal
+use Rattle.pt_tables_soundness.proofs.FleetLemmas.{has_versions}
+use Rattle.pt_tables_soundness.proofs.vehicles.has_version.Goals as goal
 
 pub returns : goal.returns
 returns c =

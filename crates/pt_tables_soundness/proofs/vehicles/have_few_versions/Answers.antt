@@ -1,9 +1,9 @@
 use Rattle.std.proofs.Common.{◌≤◌, length}
-use Rattle.pt_base.specs.declared.vehicle.Vehicle.{Vehicle}
+use Rattle.pt_base_values.specs.declared.vehicle.Vehicle.{Vehicle}
 use Rattle.pt_desk_rules.specs.Fleet.{versions_of}
 use Rattle.pt_desk_rules.specs.State.{most_versions}
-use Rattle.pt_soundness.proofs.FleetLemmas.{each_of, few_versions}
-use Rattle.pt_soundness.proofs.vehicles.have_few_versions.Goals as goal
+use Rattle.pt_tables_soundness.proofs.FleetLemmas.{each_of, few_versions}
+use Rattle.pt_tables_soundness.proofs.vehicles.have_few_versions.Goals as goal
 
 pub returns : goal.returns
 returns c =

@@ -1,7 +1,7 @@
 use Rattle.std.proofs.Common.{arith}
-use Rattle.pt_soundness.proofs.FleetLemmas.{order_from, days_from, count_goes}
-use Rattle.pt_soundness.proofs.vehicles.vehicle_count.Goals as goal
-use Rattle.pt_soundness.proofs.vehicles.vehicle_count.Goals.{then-not-has_later, else-not-has_later}
+use Rattle.pt_tables_soundness.proofs.FleetLemmas.{order_from, days_from, count_goes}
+use Rattle.pt_tables_soundness.proofs.vehicles.vehicle_count.Goals as goal
+use Rattle.pt_tables_soundness.proofs.vehicles.vehicle_count.Goals.{then-not-has_later, else-not-has_later}
 
 pub has_later-requires-clause-order : goal.has_later-requires-clause-order
 has_later-requires-clause-order c =

@@ -1,6 +1,6 @@
 use Rattle.std.proofs.Common.{◌≡◌, ◌+◌, ◌≤◌, drop}
 use Rattle.pt_desk_rules.specs.Fleet.{vehicle_count}
-use Rattle.pt_soundness.proofs.vehicles.vehicle_count.Given as goal
+use Rattle.pt_tables_soundness.proofs.vehicles.vehicle_count.Given as goal
 
 abbrev pub invariant-loop-at : goal.invariant-loop-at
 invariant-loop-at l = record {

@@ -1,5 +1,5 @@
 use Rattle.sqlite.specs.Held.{state}
-use Rattle.pt_scheduling.specs.Plan.{plan_key}
+use Rattle.pt_desk_scheduling.specs.Plan.{plan_key}
 use Rattle.pt_tables_rows.specs.Rows.{stop_rows}
 use Rattle.pt_tables_rows.specs.Schema.{stops_table}
 use Rattle.pt_tables_rows.specs.Tables.{IsStoredPlan}

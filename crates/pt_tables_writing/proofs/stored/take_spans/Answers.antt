@@ -1,7 +1,7 @@
 use Rattle.std.proofs.Common.{◌≡◌, ◌+◌, ◌++◌, ◌∷◌, [], take, sym, ap, ◌∙◌, arith}
 use Rattle.std.proofs.lemmas.List.{take_all, take_more}
 use Rattle.sqlite.specs.Held.{state}
-use Rattle.pt_records.specs.Records.{within}
+use Rattle.pt_base_records.specs.Records.{within}
 use Rattle.pt_tables_writing.specs.Groups.{KnowsTaken, OfEach}
 use Rattle.pt_tables_writing.specs.Stored.{TakesSpans}
 use Rattle.pt_tables_writing.proofs.ChangeLemmas.{did_at, did_then}

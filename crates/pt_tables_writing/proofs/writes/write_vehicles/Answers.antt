@@ -3,7 +3,7 @@ use Rattle.pt_desk_rules.specs.Parts as part
 use Rattle.pt_desk_rules.specs.State.{vehicle_key}
 use Rattle.pt_tables_rows.specs.Rows.{vehicle_chair_rows}
 use Rattle.pt_tables_rows.specs.Schema.{vehicle_chairs_table}
-use Rattle.pt_spelling.specs.Ranges.{IsVehicle}
+use Rattle.pt_desk_spelling.specs.Ranges.{IsVehicle}
 use Rattle.pt_tables_writing.specs.Stored.{PutsAll}
 use Rattle.pt_tables_writing.proofs.ChangeLemmas.{did_at, did_then}
 use Rattle.pt_tables_writing.proofs.GroupLemmas.{Known-vehicles}

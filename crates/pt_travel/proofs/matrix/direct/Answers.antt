@@ -10,12 +10,14 @@ loop-row-preserved c =
     let table = c.args.rows.now in
     let places = c.args.places.now in
     let at = get_or_read table c.loop-row.row-index c.row-item.result (omega arith) c.row-item.is (0, 0, 0) in
-    stands-more table (list_of places) (omega arith) c.loop-row.row-index c.loop-row.lines.items c.put.new.lines.items c.row-item.result (omega arith) (sym at) c.loop-row.invariant c.put.ensures
+    stands-more table (list_of places) (omega arith) c.loop-row.row-index c.loop-row.lines.items c.put.new.lines.items
+    c.row-item.result (omega arith) (sym at) c.loop-row.invariant c.put.ensures
 
 pub returns : goal.returns
 returns c =
     let table = c.args.rows.now in
     let places = c.args.places.now in
     let end : c.loop-row.row-index ≡ length table = omega arith in
-    stands-all table (list_of places) (omega arith) c.loop-row.lines.items (distinct-take places.numbers places.len places.distinct)
+    stands-all table (list_of places) (omega arith) c.loop-row.lines.items
+    (distinct-take places.numbers places.len places.distinct)
     (subst (λ (x : ℕ). StandsUpTo table (list_of places) x c.loop-row.lines.items) end c.loop-row.invariant)

@@ -1,7 +1,7 @@
 use Rattle.std.proofs.Common.{◌≡◌, Some, ap}
-use Rattle.pt_http.proofs.AnsweringLemmas.{answers_otherwise}
-use Rattle.pt_serve.specs.Connection.{IsAnsweredFrom}
-use Rattle.pt_serve.proofs.connection.InTimeAnswering.answer.Goals as goal
+use Rattle.pt_http_exchange.proofs.AnsweringLemmas.{answers_otherwise}
+use Rattle.pt_app_serve.specs.Connection.{IsAnsweredFrom}
+use Rattle.pt_app_serve.proofs.connection.InTimeAnswering.answer.Goals as goal
 
 pub returns : goal.returns
 returns g c =

@@ -1,6 +1,6 @@
-use Rattle.pt_serve.proofs.PortLemmas.{next_to_come, none_to_come}
-use Rattle.pt_serve.specs.Port.{left_of}
-use Rattle.pt_serve.proofs.listening.PortAccepts.accept.Goals as goal
+use Rattle.pt_app_serve.proofs.PortLemmas.{next_to_come, none_to_come}
+use Rattle.pt_app_serve.specs.Port.{left_of}
+use Rattle.pt_app_serve.proofs.listening.PortAccepts.accept.Goals as goal
 
 pub returns-clause-none : goal.returns-clause-none
 returns-clause-none c =

@@ -1,6 +1,6 @@
 use Rattle.std.proofs.Common.{arith}
 use Rattle.pt_feasible.specs.Route.{stops_of}
-use Rattle.pt_insertion.proofs.InsertionLemmas.{length-with_trip}
+use Rattle.pt_insertion_search.proofs.InsertionLemmas.{length-with_trip}
 use Rattle.pt_audit.proofs.insertion.Insertion.len.Goals as goal
 
 pub returns-clause-value : goal.returns-clause-value

@@ -1,8 +1,8 @@
 -- Each case reads the stop of the route with the trip put in at its place.
 use Rattle.std.proofs.Common.{◌≡◌, ◌-◌, Some, ap, sym, ◌∙◌, slice_get, arith}
 use Rattle.pt_feasible.specs.Route.{stops_of}
-use Rattle.pt_insertion.specs.Insertion.{with_trip}
-use Rattle.pt_insertion.proofs.InsertionLemmas.{with_trip_before, with_trip_pickup, with_trip_between, with_trip_drop, with_trip_after, length-with_trip}
+use Rattle.pt_insertion_search.specs.Insertion.{with_trip}
+use Rattle.pt_insertion_search.proofs.InsertionLemmas.{with_trip_before, with_trip_pickup, with_trip_between, with_trip_drop, with_trip_after, length-with_trip}
 use Rattle.pt_audit.proofs.insertion.Insertion.stop.Goals as goal
 
 pub stop-requires-else-k-self-4 : goal.stop-requires-else-k-self-4

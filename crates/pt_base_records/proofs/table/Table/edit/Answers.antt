@@ -1,7 +1,7 @@
 use Rattle.std.proofs.Common.{sym, subst, ◌∙◌, ap}
-use Rattle.pt_records.specs.Records.{IsInOrder, put_all}
-use Rattle.pt_records.proofs.TableLemmas.{IsInOrder-take_all, IsInOrder-edited}
-use Rattle.pt_records.proofs.table.Table.edit.Goals as goal
+use Rattle.pt_base_records.specs.Records.{IsInOrder, put_all}
+use Rattle.pt_base_records.proofs.TableLemmas.{IsInOrder-take_all, IsInOrder-edited}
+use Rattle.pt_base_records.proofs.table.Table.edit.Goals as goal
 
 pub put_records-requires-clause-order : goal.put_records-requires-clause-order
 put_records-requires-clause-order g c =

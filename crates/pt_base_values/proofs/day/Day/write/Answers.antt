@@ -1,6 +1,6 @@
 use Rattle.std.proofs.Common.{◌++◌, ◌∙◌, ap}
-use Rattle.pt_base.proofs.CalendarLemmas.{IsDateText-text}
-use Rattle.pt_base.proofs.day.Day.write.Goals as goal
+use Rattle.pt_base_values.proofs.CalendarLemmas.{IsDateText-text}
+use Rattle.pt_base_values.proofs.day.Day.write.Goals as goal
 
 pub returns-clause-text : goal.returns-clause-text
 returns-clause-text c =

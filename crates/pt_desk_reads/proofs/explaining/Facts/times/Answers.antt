@@ -2,7 +2,7 @@ use Rattle.std.proofs.Common.{subst}
 use Rattle.pt_travel.specs.Times.{time_in}
 use Rattle.pt_desk_rules.specs.Booking.{AreTimes}
 use Rattle.pt_desk_reads.specs.Refusal.{Refusal}
-use Rattle.pt_desk_reads.proofs.explaining.RefusalFacts.times.Goals as goal
+use Rattle.pt_desk_reads.proofs.explaining.Facts.times.Goals as goal
 
 pub returns : goal.returns
 returns c = record {

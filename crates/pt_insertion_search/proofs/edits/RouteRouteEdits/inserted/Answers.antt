@@ -4,11 +4,11 @@ use Rattle.std.proofs.lemmas.List.{take_all}
 use Rattle.pt_feasible.specs.Pairing.{IsPaired}
 use Rattle.pt_feasible.specs.declared.stop.Stop.{Stop}
 use Rattle.pt_feasible.specs.Route.{stops_of}
-use Rattle.pt_insertion.specs.Insertion.{with_trip}
-use Rattle.pt_insertion.proofs.ListLemmas.{take_more_get}
-use Rattle.pt_insertion.proofs.InsertionLemmas.{length-with_trip}
-use Rattle.pt_insertion.proofs.InsertionPairing.{IsPaired-with_trip}
-use Rattle.pt_insertion.proofs.edits.RouteRouteEdits.inserted.Goals as goal
+use Rattle.pt_insertion_search.specs.Insertion.{with_trip}
+use Rattle.pt_insertion_search.proofs.ListLemmas.{take_more_get}
+use Rattle.pt_insertion_search.proofs.InsertionLemmas.{length-with_trip}
+use Rattle.pt_insertion_search.proofs.InsertionPairing.{IsPaired-with_trip}
+use Rattle.pt_insertion_search.proofs.edits.RouteRouteEdits.inserted.Goals as goal
 
 -- one more stop is copied
 copied_more : (old new ys : List Stop) (k : ℕ) (y : Stop) → new ≡ old ++ y ∷ [] → old ≡ take k ys → slice_get ys k ≡ Some y →
@@ -52,4 +52,5 @@ returns c = record {
       let made : stops_of c.unwrap-2.result ≡ c.loop-k.stops.items = search rules in
       made ∙ copied_all c.loop-k.stops.items (with_trip c.args.asked.now c.args.chosen.now.i c.args.chosen.now.j (stops_of c.args.self.now))
       c.loop-k.k (length (stops_of c.args.self.now) + 2) c.loop-k.invariant.copied (omega arith) count;
+  memory = tt;
 }

@@ -1,7 +1,7 @@
 use Rattle.std.proofs.Common.{◌≡◌, ◌+◌, ◌≤◌, take, length, vec_len, vec_capacity}
 use Rattle.pt_feasible.specs.Route.{stops_of}
-use Rattle.pt_insertion.specs.Insertion.{with_trip}
-use Rattle.pt_insertion.proofs.edits.RouteRouteEdits.inserted.Given as goal
+use Rattle.pt_insertion_search.specs.Insertion.{with_trip}
+use Rattle.pt_insertion_search.proofs.edits.RouteRouteEdits.inserted.Given as goal
 
 abbrev pub invariant-loop-k : goal.invariant-loop-k
 invariant-loop-k l = record {

@@ -8,12 +8,12 @@ use Rattle.std.proofs.lemmas.List.{append-nil}
 use Rattle.pt_feasible.specs.Pairing.{IsPaired}
 use Rattle.pt_feasible.specs.declared.stop.Stop.{Stop}
 use Rattle.pt_feasible.specs.Route.{stops_of}
-use Rattle.pt_insertion.specs.Removal.{is_of_another, without_trip, KeepsFittingTimes, KeepsFittingLoads}
-use Rattle.pt_insertion.proofs.RemovalPairing.{IsPaired-without_trip}
-use Rattle.pt_insertion.proofs.RemovalTimes.{times_stay}
-use Rattle.pt_insertion.proofs.RemovalLoads.{loads_stay}
-use Rattle.pt_insertion.proofs.edits.RouteRouteEdits.removed.Goals as goal
-use Rattle.pt_insertion.proofs.edits.RouteRouteEdits.removed.Goals.{then-ne, else-ne}
+use Rattle.pt_insertion_search.specs.Removal.{is_of_another, without_trip, KeepsFittingTimes, KeepsFittingLoads}
+use Rattle.pt_insertion_search.proofs.RemovalPairing.{IsPaired-without_trip}
+use Rattle.pt_insertion_search.proofs.RemovalTimes.{times_stay}
+use Rattle.pt_insertion_search.proofs.RemovalLoads.{loads_stay}
+use Rattle.pt_insertion_search.proofs.edits.RouteRouteEdits.removed.Goals as goal
+use Rattle.pt_insertion_search.proofs.edits.RouteRouteEdits.removed.Goals.{then-ne, else-ne}
 
 -- one more stop of another trip is copied
 kept_more : (trip : ℕ) (old new ys : List Stop) (k : ℕ) (y : Stop) → slice_get ys k ≡ Some y → is_of_another trip y ≡ true →

@@ -1,7 +1,7 @@
 use Rattle.std.proofs.Common.{◌≡◌, ◌≤◌, take, length, vec_len, vec_capacity}
 use Rattle.pt_feasible.specs.Route.{stops_of}
-use Rattle.pt_insertion.specs.Removal.{without_trip}
-use Rattle.pt_insertion.proofs.edits.RouteRouteEdits.removed.Given as goal
+use Rattle.pt_insertion_search.specs.Removal.{without_trip}
+use Rattle.pt_insertion_search.proofs.edits.RouteRouteEdits.removed.Given as goal
 
 abbrev pub invariant-loop-k : goal.invariant-loop-k
 invariant-loop-k l = record {

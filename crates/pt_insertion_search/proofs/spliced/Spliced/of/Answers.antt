@@ -1,7 +1,7 @@
 -- A route in pairs stays in pairs when a new trip is put in.
 use Rattle.pt_feasible.specs.Route.{stops_of}
-use Rattle.pt_insertion.proofs.InsertionPairing.{IsPaired-with_trip}
-use Rattle.pt_insertion.proofs.spliced.Spliced.of.Goals as goal
+use Rattle.pt_insertion_search.proofs.InsertionPairing.{IsPaired-with_trip}
+use Rattle.pt_insertion_search.proofs.spliced.Spliced.of.Goals as goal
 
 pub invariant_of-result : goal.invariant_of-result
 invariant_of-result c = record {

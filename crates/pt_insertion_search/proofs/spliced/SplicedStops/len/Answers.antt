@@ -1,7 +1,7 @@
 use Rattle.std.proofs.Common.{arith}
 use Rattle.pt_feasible.specs.Route.{stops_of}
-use Rattle.pt_insertion.proofs.InsertionLemmas.{length-with_trip}
-use Rattle.pt_insertion.proofs.spliced.SplicedStops.len.Goals as goal
+use Rattle.pt_insertion_search.proofs.InsertionLemmas.{length-with_trip}
+use Rattle.pt_insertion_search.proofs.spliced.SplicedStops.len.Goals as goal
 
 pub returns : goal.returns
 returns c =

@@ -1,7 +1,7 @@
 use Rattle.std.proofs.Common.{arith}
 use Rattle.pt_feasible.specs.Route.{stops_of}
-use Rattle.pt_insertion.proofs.InsertionLemmas.{length-with_trip}
-use Rattle.pt_insertion.proofs.spliced.SplicedStops.stop.Goals as goal
+use Rattle.pt_insertion_search.proofs.InsertionLemmas.{length-with_trip}
+use Rattle.pt_insertion_search.proofs.spliced.SplicedStops.stop.Goals as goal
 
 pub stop_at-requires-clause-stop : goal.stop_at-requires-clause-stop
 stop_at-requires-clause-stop c =

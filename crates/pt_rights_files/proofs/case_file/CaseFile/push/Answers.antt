@@ -1,12 +1,12 @@
 -- The marks after the push are those of the longer file.
 use Rattle.std.specs.Prelude.{◌≡◌, ◌<◌, Bool, true, false, length, is_some}
 use Rattle.std.proofs.Common.{sym, ap, ◌∙◌}
-use Rattle.pt_rights.specs.Kinds.{grant_of}
-use Rattle.pt_rights.specs.declared.entry.Entered.{Entered}
-use Rattle.pt_rights.proofs.Pushed.{AreMarks-pushed, newer-some, newer-none}
-use Rattle.pt_rights.proofs.case_file.CaseFile.push.Goals as goal
-use Rattle.pt_rights.proofs.case_file.CaseFile.push.Goals.{then-is_some, else-is_some}
-use Rattle.pt_rights.specs.Limits.{most_entries}
+use Rattle.pt_rights_files.specs.Kinds.{grant_of}
+use Rattle.pt_rights_files.specs.declared.entry.Entered.{Entered}
+use Rattle.pt_rights_files.proofs.Pushed.{AreMarks-pushed, newer-some, newer-none}
+use Rattle.pt_rights_files.proofs.case_file.CaseFile.push.Goals as goal
+use Rattle.pt_rights_files.proofs.case_file.CaseFile.push.Goals.{then-is_some, else-is_some}
+use Rattle.pt_rights_files.specs.Limits.{most_entries}
 
 pub invariant_of-self : goal.invariant_of-self
 invariant_of-self c =

@@ -1,6 +1,6 @@
 use Rattle.std.proofs.Common.{arith}
-use Rattle.pt_rights.proofs.MonthMarks.{month_marked, marked_month, no_month}
-use Rattle.pt_rights.proofs.months.Months.contains.Goals as goal
+use Rattle.pt_rights_files.proofs.MonthMarks.{month_marked, marked_month, no_month}
+use Rattle.pt_rights_files.proofs.months.Months.contains.Goals as goal
 
 pub returns-in-1-to-12 : goal.returns-in-1-to-12
 returns-in-1-to-12 c =

@@ -1,8 +1,8 @@
 use Rattle.std.proofs.Common.{◌≡◌, ◌≤◌, length, ◌+◌, ◌++◌, [], ◌∷◌, false, get_or, sym, ap, ◌∙◌, take_all, arith}
-use Rattle.pt_rights.specs.Months.{numbers_of}
-use Rattle.pt_rights.proofs.MonthMarks.{length-numbers_of-take, numbers_of-take_yes, numbers_of-take_no, AreMonths-numbers_of}
-use Rattle.pt_rights.proofs.months.Months.numbers.Goals as goal
-use Rattle.pt_rights.proofs.months.Months.numbers.Goals.{then-self-from, else-self-from}
+use Rattle.pt_rights_files.specs.Months.{numbers_of}
+use Rattle.pt_rights_files.proofs.MonthMarks.{length-numbers_of-take, numbers_of-take_yes, numbers_of-take_no, AreMonths-numbers_of}
+use Rattle.pt_rights_files.proofs.months.Months.numbers.Goals as goal
+use Rattle.pt_rights_files.proofs.months.Months.numbers.Goals.{then-self-from, else-self-from}
 
 pub push-requires : goal.push-requires
 push-requires c =

@@ -1,8 +1,8 @@
 use Rattle.std.proofs.Common.{◌≡◌, ◌≤◌, ◌-◌, length, false, refl, sym, ◌∙◌, arith}
 use Rattle.std.specs.Prelude.{slice_index, nat_eq}
 use Rattle.std.proofs.lemmas.Bool.Decides.{nat_tests}
-use Rattle.pt_rights.proofs.MonthMarks.{IsRead, read_more, read_all}
-use Rattle.pt_rights.proofs.months.Months.of.Goals as goal
+use Rattle.pt_rights_files.proofs.MonthMarks.{IsRead, read_more, read_all}
+use Rattle.pt_rights_files.proofs.months.Months.of.Goals as goal
 
 pub loop-number-preserved : goal.loop-number-preserved
 loop-number-preserved c =

@@ -1,5 +1,5 @@
 use Rattle.std.proofs.Common.{◌≡◌, Err, refl, rules}
-use Rattle.pt_store.specs.declared.keeper.StoreFault.TheVariants.{Memory}
+use Rattle.pt_desk_store.specs.declared.keeper.StoreFault.TheVariants.{Memory}
 use Rattle.pt_tables_keeper.proofs.ReadLemmas.{reads_held, wants_held}
 use Rattle.pt_tables_keeper.proofs.keeper.SqlKeeper.copy.Goals as goal
 

@@ -1,7 +1,7 @@
 use Rattle.std.proofs.Common.{◌≡◌, Ok, Err, Some, sym, ap, subst, ◌∙◌, rules}
 use Rattle.sqlite.specs.Held.{state}
-use Rattle.pt_store.specs.Store.{Goes}
-use Rattle.pt_store.specs.declared.keeper.StoreFault.TheVariants.{Memory}
+use Rattle.pt_desk_store.specs.Store.{Goes}
+use Rattle.pt_desk_store.specs.declared.keeper.StoreFault.TheVariants.{Memory}
 use Rattle.pt_desk_rules.specs.State.{applied}
 use Rattle.pt_tables_keeper.proofs.CommitLemmas.{agrees_writable, at_most_one, commits_by, commits_made, commits_not, riders_counted, step_made, step_undone, wants_memory}
 use Rattle.pt_tables_keeper.proofs.PlanLemmas.{carried_after}

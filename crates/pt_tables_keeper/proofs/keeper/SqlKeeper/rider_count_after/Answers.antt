@@ -1,6 +1,6 @@
 use Rattle.std.proofs.Common.{◌≡◌, ◌∷◌, [], Err, None, length, min, ◌+◌, sym, ap, subst, ◌∙◌, rules}
 use Rattle.std.specs.List.{slice_get}
-use Rattle.pt_store.specs.Store.{Goes}
+use Rattle.pt_desk_store.specs.Store.{Goes}
 use Rattle.pt_desk_rules.specs.State.{State, applied, rider_of}
 use Rattle.pt_tables_keeper.proofs.ReadLemmas.{counted_now, goes_not, goes_to, readable_now, serves_still}
 use Rattle.pt_tables_keeper.proofs.RiderLemmas.{only_one, riders_one_more, riders_still}
@@ -19,6 +19,7 @@ returns-in_err-read_rider g c =
       reads = subst (λ r. Goes old new riders None r) (sym passed)
           (goes_not old new (rider_of c.in-Some.new.now.id c.args.self.now.content) riders None e c.in_err-read_rider.ensures.reads);
       content = c.in_err-read_rider.ensures.content;
+      unfit = c.in_err-read_rider.ensures.unfit;
     }
 
 pub returns : goal.returns
@@ -42,6 +43,7 @@ returns g c =
             (goes_to old new (rider_of put.id) c.in_ok-read_rider.field-0 riders c.self-2.inside.rider_count read (λ clean same.
             counted clean ∙ riders_still change after.content put readable c.requires.writable.riders is w.in-Some-2.field-0 (sym w.in-Some-2.is ∙ same)));
         content = c.in_ok-read_rider.ensures.content;
+        unfit = c.in_ok-read_rider.ensures.unfit;
       }
       | in-None w ↦ record {
         reads = subst (λ r. Goes old new (riders c.args.self.now.content) None r) (sym w.result-is)
@@ -50,5 +52,6 @@ returns g c =
             ∙ riders_one_more change after.content put readable c.requires.writable.riders is
             (sym w.in-None.is ∙ same)));
         content = c.in_ok-read_rider.ensures.content;
+        unfit = c.in_ok-read_rider.ensures.unfit;
       }
     ]

@@ -1,5 +1,5 @@
 use Rattle.std.proofs.Common.{◌≡◌, Err, Some, length, refl, sym, ap, subst, ◌∙◌, rules}
-use Rattle.pt_store.specs.Store.{Goes, IsByRules}
+use Rattle.pt_desk_store.specs.Store.{Goes, IsByRules}
 use Rattle.pt_desk_rules.specs.State.{State, applied}
 use Rattle.pt_tables_keeper.proofs.CommitLemmas.{commit_refused, commits_then, fits_after}
 use Rattle.pt_tables_keeper.proofs.ReadLemmas.{goes_not}
@@ -43,6 +43,39 @@ returns-clause-fits g c =
     fits_after (store_of g.S.Store c.args.self.now) (store_of g.S.Store c.rider_count_after.new.self) (store_of g.S.Store c.make.new.self)
     (length (applied c.args.change c.args.self.now.content).riders) c.in_ok-rider_count.rider_count (IsByRules c.args.change) c.in_ok-rider_count.ensures.reads
     c.make.ensures.commits.clean c.make.ensures.unfit
+
+pub returns-in_err-rider_count-clause-spares : goal.returns-in_err-rider_count-clause-spares
+returns-in_err-rider_count-clause-spares g c may = c.in_err-rider_count.ensures.unfit
+
+pub returns-in_err-rider_count-clause-keeps : goal.returns-in_err-rider_count-clause-keeps
+returns-in_err-rider_count-clause-keeps g c some = c.in_err-rider_count.ensures.unfit
+
+pub returns-in_err-rider_count-clause-marks : goal.returns-in_err-rider_count-clause-marks
+returns-in_err-rider_count-clause-marks g c none never =
+    let known : c.self.inside.known.content.vehicles ≡ c.as_slice.result.now = search rules in
+    let same : c.args.self.now.content.vehicles ≡ c.self.inside.known.content.vehicles = sym (ap (λ (k : KeptTables _). k.content.vehicles) c.self.view_is) in
+    let passes = c.is_writable.ensures.writable.0 c.if-not-is_writable.false in
+    absurd (never (subst (λ vs. IsWritable vs c.args.change) (sym (same ∙ known)) passes))
+
+pub returns-clause-spares : goal.returns-clause-spares
+returns-clause-spares g c may = c.make.ensures.unfit ∙ c.in_ok-rider_count.ensures.unfit
+
+pub returns-clause-keeps : goal.returns-clause-keeps
+returns-clause-keeps g c some = c.make.ensures.unfit ∙ c.in_ok-rider_count.ensures.unfit
+
+pub returns-clause-marks : goal.returns-clause-marks
+returns-clause-marks g c none never =
+    let known : c.self.inside.known.content.vehicles ≡ c.as_slice.result.now = search rules in
+    let same : c.args.self.now.content.vehicles ≡ c.self.inside.known.content.vehicles = sym (ap (λ (k : KeptTables _). k.content.vehicles) c.self.view_is) in
+    let passes = c.is_writable.ensures.writable.0 c.if-not-is_writable.false in
+    absurd (never (subst (λ vs. IsWritable vs c.args.change) (sym (same ∙ known)) passes))
+
+pub returns-then-not-is_writable-clause-spares : goal.returns-then-not-is_writable-clause-spares
+returns-then-not-is_writable-clause-spares g c is =
+    let known : c.self.inside.known.content.vehicles ≡ c.as_slice.result.now = search rules in
+    let same : c.args.self.now.content.vehicles ≡ c.self.inside.known.content.vehicles = sym (ap (λ (k : KeptTables _). k.content.vehicles) c.self.view_is) in
+    let may = subst (λ vs. IsWritable vs c.args.change) (same ∙ known) is in
+    absurd (let passes = c.is_writable.ensures.writable.1 may in let fails = c.if-not-is_writable.true in cc)
 
 pub returns-then-not-is_writable-clause-fits : goal.returns-then-not-is_writable-clause-fits
 returns-then-not-is_writable-clause-fits g c clean is =

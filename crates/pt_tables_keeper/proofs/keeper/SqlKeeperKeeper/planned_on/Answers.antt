@@ -1,9 +1,9 @@
 use Rattle.std.proofs.Common.{◌≡◌, ap, sym, subst, ◌∙◌, arith, rules}
 use Rattle.pt_desk_rules.specs.Planned.{planned_on}
 use Rattle.pt_desk_rules.specs.State.{State}
-use Rattle.pt_records.specs.Records.{Each}
-use Rattle.pt_tables_asking.specs.Plans.{HasVersionAmong}
-use Rattle.pt_tables_keeper.proofs.ReadLemmas.{reads_so, step_by}
+use Rattle.pt_base_records.specs.Records.{Each}
+use Rattle.pt_tables_asking.specs.Plans.{HasFewStops, HasVersionAmong}
+use Rattle.pt_tables_keeper.proofs.ReadLemmas.{caused_so, reads_so, step_by}
 use Rattle.pt_tables_keeper.specs.Keeper.{KeptTables}
 use Rattle.pt_tables_keeper.proofs.keeper.SqlKeeperKeeper.planned_on.Goals as goal
 
@@ -30,4 +30,9 @@ returns g c =
           c.args.self.now (λ (s : State). planned_on c.args.day s.planned) c.self.view_is
           (λ clean held. c.plans_by_day-found.ensures.told clean content c.self.invariant.readable same carried held);
       refuses = λ some. absurd (let zero : c.args.self.now.failures ≡ 0 = c.in_ok-serve.ensures.served in omega arith);
+      caused = λ few. caused_so g.S.Store c.self.inside.conn c.plans_by_day-found.new.conn c.self.inside.failures c.count.new.failures content c.plans_by_day-found.result c.count.result
+          none c.self.invariant c.plans_by_day-found.ensures.rests (λ db here left. g.met.S.Store.settled c.plans_by_day-found.new.conn.store db here left) c.count.ensures.counts
+          c.args.self.now c.self.view_is
+          (λ clean held. c.plans_by_day-found.ensures.excused clean content c.self.invariant.readable same carried
+          (subst (λ (k : KeptTables _). Each HasFewStops k.content.planned) (sym c.self.view_is) few) held);
     }

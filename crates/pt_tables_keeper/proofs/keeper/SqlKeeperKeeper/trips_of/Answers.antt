@@ -1,7 +1,7 @@
 use Rattle.std.proofs.Common.{◌≡◌, ap, ◌∙◌, arith}
 use Rattle.pt_desk_rules.specs.Planned.{trips_of}
 use Rattle.pt_desk_rules.specs.State.{State}
-use Rattle.pt_tables_keeper.proofs.ReadLemmas.{reads_by, step_by}
+use Rattle.pt_tables_keeper.proofs.ReadLemmas.{caused_by, reads_by, step_by}
 use Rattle.pt_tables_keeper.specs.Keeper.{KeptTables}
 use Rattle.pt_tables_keeper.proofs.keeper.SqlKeeperKeeper.trips_of.Goals as goal
 
@@ -20,4 +20,7 @@ returns g c =
           none c.self.invariant c.trips_by_rider-found.ensures.rests (λ db here left. g.met.S.Store.settled c.trips_by_rider-found.new.conn.store db here left) c.count.ensures.counts
           c.args.self.now (λ (s : State). trips_of c.args.rider s.trips) c.self.view_is c.trips_by_rider-found.ensures.told;
       refuses = λ some. absurd (let zero : c.args.self.now.failures ≡ 0 = c.in_ok-serve.ensures.served in omega arith);
+      caused = caused_by g.S.Store c.self.inside.conn c.trips_by_rider-found.new.conn c.self.inside.failures c.count.new.failures c.self.inside.known.content c.trips_by_rider-found.result c.count.result
+          none c.self.invariant c.trips_by_rider-found.ensures.rests (λ db here left. g.met.S.Store.settled c.trips_by_rider-found.new.conn.store db here left) c.count.ensures.counts
+          c.args.self.now c.self.view_is c.trips_by_rider-found.ensures.excused;
     }

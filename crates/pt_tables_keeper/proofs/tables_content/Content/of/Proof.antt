@@ -27,7 +27,7 @@ use denote.Triple.Table.{entered}
 use denote.Triple.Walked.{says, Stays, stay_dropped, walk_of, ends_at, walk_Meets, Goes-dropped}
 use Rattle.pt_tables_keeper.proofs.Walks.{none, none_made}
 use Rattle.pt_tables_keeper.specs.contracts.tables_content.Content as Content
-use Rattle.pt_store.specs.contracts.list_keeper.ListKeeper as lists
+use Rattle.pt_desk_store.specs.contracts.list_keeper.ListKeeper as lists
 use Rattle.pt_tables_keeper.specs.contracts.tables_content.Content.of as F
 use Rattle.pt_tables_keeper.specs.contracts.tables_content.Content.of.Key.{name as #self}
 use Rattle.pt_tables_keeper.proofs.tables_content.Content.of.Statement as stated

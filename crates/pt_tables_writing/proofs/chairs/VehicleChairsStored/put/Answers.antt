@@ -1,7 +1,7 @@
 use Rattle.pt_desk_rules.specs.State.{vehicle_key}
 use Rattle.pt_tables_rows.specs.Rows.{vehicle_chair_rows}
 use Rattle.pt_tables_rows.specs.Schema.{vehicle_chairs_table}
-use Rattle.pt_spelling.specs.Ranges.{IsVehicle}
+use Rattle.pt_desk_spelling.specs.Ranges.{IsVehicle}
 use Rattle.pt_tables_writing.proofs.ChangeLemmas.{did_put}
 use Rattle.pt_tables_writing.proofs.chairs.VehicleChairsStored.put.Goals as goal
 

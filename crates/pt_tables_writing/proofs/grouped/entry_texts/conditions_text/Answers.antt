@@ -1,6 +1,6 @@
 use Rattle.std.proofs.Common.{◌≡◌, ◌≤◌, ◌+◌, ◌*◌, ◌∷◌, ◌++◌, [], length, arith, length-append, ap, ◌∙◌}
-use Rattle.pt_conditions.specs.Texts.{condition_text}
-use Rattle.pt_conditions.proofs.JoinLemmas.{join-take, join-first}
+use Rattle.pt_rights_conditions.specs.Texts.{condition_text}
+use Rattle.pt_rights_conditions.proofs.JoinLemmas.{join-take, join-first}
 use Rattle.pt_tables_writing.proofs.grouped.entry_texts.conditions_text.Goals as goal
 use Rattle.pt_tables_writing.proofs.grouped.entry_texts.conditions_text.Goals.{then-index-gt0, else-index-gt0}
 

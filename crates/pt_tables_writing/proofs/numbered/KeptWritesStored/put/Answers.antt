@@ -1,15 +1,5 @@
-use Rattle.std.proofs.Common.{rules}
-use Rattle.sqlite.specs.Held.{state}
-use Rattle.pt_tables_writing.proofs.NumberedTables.{kept_stored}
-use Rattle.pt_tables_writing.proofs.ChangeLemmas.{did_run}
+use Rattle.pt_tables_writing.proofs.ChangeLemmas.{did_as}
 use Rattle.pt_tables_writing.proofs.numbered.KeptWritesStored.put.Goals as goal
 
 pub returns : goal.returns
-returns g c =
-    let old = state g.S.Store c.args.tx.now.conn.now in
-    let new = state g.S.Store c.execute.new.self.conn.now in
-    let ran = c.in_ok-execute.ensures in
-    record {
-      step = did_run ran.same_reference ran.runs ran.survives
-          (λ run has. kept_stored.puts c.args.kept.now old new c.in_ok-execute.field-0 has (search rules));
-    }
+returns g c = record { step = did_as c.put_kept.ensures.step (λ both. both.0) }

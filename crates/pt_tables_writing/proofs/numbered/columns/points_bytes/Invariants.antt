@@ -1,6 +1,6 @@
 use Rattle.std.proofs.Common.{◌≡◌, ◌*◌, take, length}
 use Rattle.std.specs.List.{flat_map}
-use Rattle.pt_spelling.specs.Requests.{point_bytes}
+use Rattle.pt_desk_spelling.specs.Requests.{point_bytes}
 use Rattle.pt_tables_writing.proofs.numbered.columns.points_bytes.Given as goal
 
 abbrev pub invariant-loop-point : goal.invariant-loop-point

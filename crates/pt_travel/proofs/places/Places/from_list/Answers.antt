@@ -22,7 +22,12 @@ loop-place-preserved c =
     let one = subst (Contains list) (sym at) (Contains-get_or list i 0 (omega arith)) in
     let put = put-kept old new place
     (only-true _ _ c.insert.result c.insert.ensures.kept c.insert.ensures.full
-    (λ full. omega (arith, full.0, crowded old list place (distinct-take places.numbers places.len places.distinct) full.1 c.loop-place.invariant.within one))) in
+    (λ full. omega (
+      arith,
+      full.0,
+      crowded old list place (distinct-take places.numbers places.len places.distinct)
+          full.1 c.loop-place.invariant.within one,
+    ))) in
     record {
       has =
           All-more (Contains new) list i 0 (omega arith)

@@ -11,4 +11,5 @@ returns-then-number-from c there =
 pub returns-in_err-place : goal.returns-in_err-place
 returns-in_err-place c =
     let places = c.args.self.now in
-    rw c.from_residual.ensures (λ there. false≢true (c.in_err-place.ensures.in_range.1 (in-range places.numbers places.len c.args.number places.valid there).0))
+    rw c.from_residual.ensures (λ there. false≢true (c.in_err-place.ensures.in_range.1
+    (in-range places.numbers places.len c.args.number places.valid there).0))

@@ -21,7 +21,8 @@ table_of c =
     let places = c.in_ok-places.places in
     record {
       in_order = subst Rises c.deref.ensures.value (c.if-not-rises.ensures.0 refl);
-      within_a_day = subst (λ (rows : List Row). All (λ row. row.2 ≤ 1439) rows) c.deref-else-not-rises.ensures.value (c.if-not-within_a_day.ensures.0 refl);
+      within_a_day = subst (λ (rows : List Row). All (λ row. row.2 ≤ 1439) rows) c.deref-else-not-rises.ensures.value
+          (c.if-not-within_a_day.ensures.0 refl);
       few_places = (
         list_of places,
         omega (arith, places.within, length-take places.len places.numbers),
@@ -30,7 +31,8 @@ table_of c =
     }
 
 pub invariant_of-result : goal.invariant_of-result
-invariant_of-result c = (table_of c, subst (NamesOnly (list_of c.in_ok-places.places)) c.deref-2.ensures.value c.in_ok-places.ensures.named)
+invariant_of-result c =
+    (table_of c, subst (NamesOnly (list_of c.in_ok-places.places)) c.deref-2.ensures.value c.in_ok-places.ensures.named)
 
 pub returns-clause-table : goal.returns-clause-table
 returns-clause-table c = ((λ some. table_of c), (λ table. refl))

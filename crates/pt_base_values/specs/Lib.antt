@@ -1,0 +1,12 @@
+pub mod DateText
+pub mod Day
+pub mod Fault
+pub mod Load
+pub mod Moment
+pub mod Place
+pub mod Ranges
+pub mod Rule
+pub mod SpelledNumber
+pub mod SpelledDay
+pub mod TripStatus
+pub mod Weekday

@@ -1,0 +1,12 @@
+pub mod Asked
+pub mod Driving
+pub mod Insertion
+pub mod Possible
+pub mod Choice
+pub mod Removal
+pub mod TravelTimes
+pub mod SplicedStops
+pub mod BestBelow
+pub mod Bounds
+pub mod Riding
+pub mod DropSearch

@@ -1,5 +1,0 @@
-use Rattle.pt_laws.proofs.ExplanationLemmas.{explanations_are_right}
-use Rattle.pt_laws.proofs.explanations_are_right.Goals as goal
-
-pub returns : goal.returns
-returns c = explanations_are_right

@@ -1,0 +1,15 @@
+pub mod Admission
+pub mod Appeals
+pub mod ByPosition
+pub mod Conditions
+pub mod Feet
+pub mod Kinds
+pub mod Limits
+pub mod Marks
+pub mod Months
+pub mod Notices
+pub mod Positions
+pub mod Reasons
+pub mod Rules
+pub mod Standing
+pub mod Suspension

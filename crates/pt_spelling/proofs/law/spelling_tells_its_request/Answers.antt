@@ -1,5 +1,0 @@
-use Rattle.pt_spelling.proofs.RequestLemmas.{spelling-injective}
-use Rattle.pt_spelling.proofs.law.spelling_tells_its_request.Goals as goal
-
-pub returns : goal.returns
-returns c = spelling-injective
