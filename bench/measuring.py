@@ -9,8 +9,7 @@ import subprocess
 import sys
 import time
 
-ROOT = os.path.dirname(os.path.dirname(os.path.realpath(__file__)))
-sys.path.insert(0, f"{ROOT}/tests")
+from desk_tools.tree import TOP
 from serving import ZONE
 
 EMPTY_DAY = "2099-12-31"
@@ -59,8 +58,8 @@ def has_deployed_allocator():
 
 @contextlib.contextmanager
 def as_deployed():
-    """In here the programs are started with the allocator that deploy/desk.service names."""
-    with open(f"{ROOT}/deploy/desk.service", encoding="utf-8") as unit:
+    """In here the programs are started with the allocator that deploy/desk@.service names."""
+    with open(f"{TOP}/deploy/desk@.service", encoding="utf-8") as unit:
         words = re.search(r"(?m)^Environment=(LD_PRELOAD=.*)$", unit.read())[1].split()
     os.environ.update(word.split("=", 1) for word in words)
     try:

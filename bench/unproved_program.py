@@ -1,13 +1,11 @@
-"""Compiles a program of bench/ with no proof, from what `rt try` makes of it, without the checks that a trial has."""
+"""Compiles a program of bench/, or the desk, with no proof, from what `rt try` makes of it, without the checks of a trial."""
 import os
 import re
 import shutil
 import subprocess
-import sys
 
-ROOT = os.path.dirname(os.path.dirname(os.path.realpath(__file__)))
-sys.path.insert(0, f"{ROOT}/bin")
-from office_parts import unproved
+from desk_tools.demo import unproved
+from desk_tools.tree import TOP
 
 # What a trial checks at each step, and a proved program does not. Each is one line of LLVM's text.
 CHECKS = re.compile(
@@ -42,16 +40,16 @@ def lines_of(path):
 
 def lay_out(source, name, tree):
     """Copies the crates that a program needs to a folder, and the program as one crate more. The folder of that one."""
-    lines, libraries = lines_of(f"{ROOT}/crates.txt"), libraries_of(source)
+    lines, libraries = lines_of(f"{TOP}/crates.txt"), libraries_of(source)
     for crate in needed(libraries, lines):
         for part in ("src", "specs", "proofs"):
-            shutil.copytree(f"{ROOT}/crates/{crate}/{part}", f"{tree}/crates/{crate}/{part}")
+            shutil.copytree(f"{TOP}/crates/{crate}/{part}", f"{tree}/crates/{crate}/{part}")
     for part in ("src", "specs", "proofs"):
         os.makedirs(f"{tree}/crates/{name}/{part}")
     shutil.copy(source, f"{tree}/crates/{name}/src/main.rt")
     for part in ("specs", "proofs"):
         open(f"{tree}/crates/{name}/{part}/Lib.antt", "x", encoding="utf-8").close()
-    shutil.copy(f"{ROOT}/HANDLES", f"{tree}/HANDLES")
+    shutil.copy(f"{TOP}/HANDLES", f"{tree}/HANDLES")
     with open(f"{tree}/crates.txt", "x", encoding="utf-8") as file:
         for crate in sorted(needed(libraries, lines)):
             print(f"{crate}: {' '.join(lines[crate])}", file=file)
@@ -72,12 +70,27 @@ def without_checks(compiler, module, room):
     return text
 
 
+def made(crate, room):
+    """Compiles the program of a crate's folder. Its path in `room`."""
+    compiler, words = unproved.module_of(crate, room)
+    module = unproved.module_in(words)
+    text = without_checks(compiler, module, room)
+    kept = [
+        text if word == module else word
+        for word in words[1:]
+        if not word.startswith(unproved.OF_TRIALS)
+    ]
+    unproved.run([compiler, *kept, "-O2"], room)
+    return unproved.linked(os.path.dirname(os.path.dirname(compiler)), words, room)
+
+
 def compiled(source, room):
     """Compiles a program of bench/ in an empty folder. Its path there."""
     name = "bench_" + os.path.basename(source).removesuffix(".program")
-    compiler, words = unproved.module_of(lay_out(source, name, f"{room}/tree"), room)
-    module = unproved.module_in(words)
-    text = without_checks(compiler, module, room)
-    kept = [text if word == module else word for word in words[1:] if not word.startswith(unproved.OF_TRIALS)]
-    unproved.run([compiler, *kept, "-O2"], room)
-    return unproved.linked(os.path.dirname(os.path.dirname(compiler)), words, room)
+    return made(lay_out(source, name, f"{room}/tree"), room)
+
+
+def desk(room):
+    """Compiles the desk's own program in an empty folder. Its path there."""
+    unproved.copy_sources(TOP, f"{room}/tree")
+    return made(f"{room}/tree/crates/{unproved.CRATE}", room)

@@ -3,6 +3,9 @@
 import argparse
 import datetime
 
+# The words that ask for help, of a command that reads its words itself.
+HELP = (["--help"], ["-h"])
+
 
 def day_of(text: str) -> datetime.date:
     """A day of the command line, YYYY-MM-DD; another text is argparse's error."""

@@ -72,7 +72,9 @@ class Desk:
                 return None
             if error.code in AGAIN:
                 raise NotAnswered(f"{self.url} answers with status {error.code}") from None
-            raise Refused(f"the desk answers {path} with {error.code}: {_why(error)}") from None
+            raise Refused(
+                f"the desk answers {path} with {error.code}: {refusal_in(error)}"
+            ) from None
         except (OSError, http.client.HTTPException) as error:
             said = getattr(error, "reason", None) or error
             raise NotAnswered(f"{self.url} does not answer ({said})") from None
@@ -80,7 +82,8 @@ class Desk:
             raise Refused(f"the desk's reply to {path} is not of its form: {error}") from None
 
 
-def _why(error: urllib.error.HTTPError) -> str:
+def refusal_in(error: urllib.error.HTTPError) -> str:
+    """Why the desk refused, as far as it said so."""
     try:
         return str(json.loads(error.read())["denied"])
     except (OSError, ValueError, KeyError, TypeError):

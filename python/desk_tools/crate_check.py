@@ -1,7 +1,7 @@
 """bin/check: reads the code and the specs of crates in seconds, and proves nothing.
 
     bin/check                  the crates of which a file differs from the last commit
-    bin/check pt_base ..       these crates
+    bin/check pt_base_values ..       these crates
 
 Each crate is read over the sources of the crates below it, so nothing need be proved before. What is named: a fault of the
 code that the compiler finds, and in each file of specs/ a name that is not there or a type that does not fit. Lemmas and

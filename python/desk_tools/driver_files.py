@@ -5,13 +5,15 @@ bin/site-files makes the agency's whole list of places (staff/places.json) and o
 desk and writes what each van needs of the lists: drivers/VEHICLE/roster.csv, places.json and
 outcomes.json, which has what drivers of the van told today as well (staff/today.json). A van without
 stops has no files. A file is written whole, and only where it changes.
+
+It also writes staff/plans.json, with which a clerk's page says how late a van is: the times of today's
+stops and how trips ended, without riders and places.
 """
 
 import argparse
 import contextlib
 import csv
 import datetime
-import fcntl
 import io
 import json
 import logging
@@ -20,20 +22,26 @@ import re
 import urllib.error
 import urllib.request
 import zoneinfo
-from collections.abc import Iterator
 from dataclasses import dataclass, field
 from pathlib import Path
 from typing import Any
 
-from desk_tools import ending
+from desk_tools.setup import whole_file
+from desk_tools import asking, ending
 from desk_tools.town.site_addresses import End, Known
 
 LOG = logging.getLogger("desk-driver-files")
 HEAD = re.compile(r"VEHICLE (\d+) DAY \d{4}-\d{2}-\d{2}")
 STOP = re.compile(r"\d\d:\d\d (?:DEPOT (\d+)|(PICK|DROP) trip (\d+) rider (\d+) place (\d+)\b.*)")
 END_OF = {"PICK": "from", "DROP": "to"}
+PLANNED = re.compile(
+    r"(\d\d):(\d\d) (?:(DEPOT) \d+|(PICK|DROP) trip (\d+) rider \d+ place \d+ load (\d+)(?: chairs (\d+))?.*)"
+)
+WINDOW = re.compile(r" window (\d\d):(\d\d)-(\d\d):(\d\d)\b")
 PLACE_FIELDS = ("id", "name", "note", "latitude", "longitude")
 ROSTER_FIELDS = ("rider", "name", "note")
+PLACES = "staff/places.json"
+PLANS = "staff/plans.json"
 NAMES = ("roster.csv", "places.json", "outcomes.json", "addresses.json")
 ADDRESS_FIELDS = ("id", "street", "note", "latitude", "longitude")
 # Of what a driver taps, what says how far a trip has come.
@@ -83,6 +91,36 @@ def needs_in(sheets: list[str], exports: list[str]) -> dict[int, Need]:
             if row["status"] != "booked" and int(row["vehicle"]) in needs:
                 needs[int(row["vehicle"])].outcomes[int(row["trip"])] = row["status"]
     return needs
+
+
+def plans_in(day: str, sheet: str, export: str, made: datetime.datetime) -> dict[str, Any]:
+    """What staff/plans.json has: by van the times of a day's stops, and how trips ended."""
+    vehicles: dict[str, list[dict[str, Any]]] = {}
+    vehicle = "0"
+    for line in sheet.splitlines():
+        if head := HEAD.fullmatch(line):
+            vehicle = head[1]
+        elif found := PLANNED.fullmatch(line):
+            vehicles.setdefault(vehicle, []).append(planned_stop(found, WINDOW.search(line)))
+    rows = csv.DictReader(io.StringIO(export))
+    outcomes = {row["trip"]: row["status"] for row in rows if row["status"] != "booked"}
+    moment = made.astimezone(datetime.timezone.utc).strftime("%Y-%m-%dT%H:%M:%SZ")
+    return {"day": day, "made": moment, "vehicles": vehicles, "outcomes": outcomes}
+
+
+def planned_stop(found: re.Match[str], window: re.Match[str] | None) -> dict[str, Any]:
+    """One stop of a manifest: its minute of the day, and of a pickup its window."""
+    stop: dict[str, Any] = {"at": minutes_of(found[1], found[2]), "what": found[3] or found[4]}
+    if found[5]:
+        stop |= {"trip": int(found[5]), "load": int(found[6]), "chairs": int(found[7] or 0)}
+    if window:
+        stop["window"] = [minutes_of(window[1], window[2]), minutes_of(window[3], window[4])]
+    return stop
+
+
+def minutes_of(hour: str, minute: str) -> int:
+    """The minute of the day."""
+    return 60 * int(hour) + int(minute)
 
 
 def texts_of(
@@ -158,17 +196,11 @@ def asked(url: str, key: str, path: str) -> str:
         with urllib.request.urlopen(request, timeout=SECONDS) as reply:
             return str(reply.read().decode("utf-8"))
     except urllib.error.HTTPError as error:
-        raise Wrong(f"the desk answers {path} with {error.code}: {refusal_in(error)}") from None
+        raise Wrong(
+            f"the desk answers {path} with {error.code}: {asking.refusal_in(error)}"
+        ) from None
     except (OSError, ValueError) as error:
         raise Wrong(f"the desk does not answer at {url}: {error}") from None
-
-
-def refusal_in(error: urllib.error.HTTPError) -> str:
-    """Why the desk refused, as far as it said so."""
-    try:
-        return str(json.loads(error.read())["denied"])
-    except (OSError, ValueError, KeyError, TypeError):
-        return str(error.reason)
 
 
 def key_in(path: Path) -> str:
@@ -184,7 +216,7 @@ def key_in(path: Path) -> str:
 
 def places_in(folder: Path) -> list[dict[str, Any]]:
     """All places, as bin/site-files has them for staff; none where there is no such file."""
-    found = object_in(folder / "staff/places.json").get("places", [])
+    found = object_in(folder / PLACES).get("places", [])
     return [it for it in found if isinstance(it, dict)]
 
 
@@ -298,24 +330,15 @@ def opener(path: str, flags: int) -> int:
     return number
 
 
-@contextlib.contextmanager
-def locked(folder: Path) -> Iterator[None]:
-    """One run at a time, of this command and of bin/site-files."""
-    number = os.open(folder, os.O_RDONLY | os.O_DIRECTORY)
-    try:
-        fcntl.flock(number, fcntl.LOCK_EX)
-        yield
-    finally:
-        os.close(number)
-
-
 def make(folder: Path, url: str, key: str, today: str | None) -> str:
     """Makes the files of all vans; what was done, in one line."""
+    if not (folder / PLACES).is_file():
+        raise Wrong(f"{folder} has no {PLACES} of bin/site-files, so it is not the site's folder")
     try:
         days = days_from(today, object_in(folder / "agency.json").get("zone"))
         sheets = [asked(url, key, f"/days/{day}/sheet") for day in days]
         exports = [asked(url, key, f"/days/{day}/trips.csv") for day in days]
-        with locked(folder):
+        with whole_file.turn_in(str(folder)):
             places, roster, town = places_in(folder), roster_in(folder), town_in(folder)
             needs = sorted(needs_in(sheets, exports).items())
             for van, taps in taps_in(folder, days[0]).items():
@@ -324,6 +347,8 @@ def make(folder: Path, url: str, key: str, today: str | None) -> str:
             changed = put(
                 folder, {van: texts_of(need, places, roster, town) for van, need in needs}
             )
+            plans = plans_in(days[0], sheets[0], exports[0], datetime.datetime.now().astimezone())
+            written(folder / PLANS, as_json(plans))
     except OSError as error:
         raise Wrong(f"{error.filename or folder}: {error.strerror}") from None
     except (KeyError, ValueError) as error:
@@ -333,7 +358,9 @@ def make(folder: Path, url: str, key: str, today: str | None) -> str:
 
 def words_of(arguments: list[str]) -> argparse.Namespace:
     """The words of the command line."""
-    parser = argparse.ArgumentParser("driver-files", description=(__doc__ or "").split("\n\n")[0])
+    parser = argparse.ArgumentParser(
+        "bin/driver-files", description=(__doc__ or "").split("\n\n")[0]
+    )
     parser.add_argument("folder", metavar="FOLDER", type=Path, help="the site's folder")
     parser.add_argument("--key", type=Path, required=True, help="a file with a dispatcher's key")
     parser.add_argument("--url", default="http://127.0.0.1:8437", help="where the desk answers")

@@ -7,8 +7,10 @@ import re
 import shutil
 from collections.abc import Iterable, Sequence
 
+from desk_tools import agencies
+
 NONE_YET = "none yet"
-# The night's backup, and what a new machine needs beside it, as desk-backup.service names them.
+# The night's backup, and what a new machine needs beside it, as desk-backup@.service names them.
 NAME = re.compile(
     r"(?P<kind>desk|machine)-(?P<moment>\d{4}-\d\d-\d\d-\d{4})(?:\.db|\.tar\.gz)"
     r"(?P<seal>\.age|\.gpg)?"
@@ -33,8 +35,8 @@ class Place:
     def told(self) -> str:
         return f"{self.machine}:{self.folder}" if self.machine else self.folder
 
-    def of_agency(self, agency: str | None) -> "Place":
-        return dataclasses.replace(self, folder=f"{self.folder}/{agency}") if agency else self
+    def of_agency(self, agency: agencies.Agency) -> "Place":
+        return dataclasses.replace(self, folder=self.folder + agency.folder_there)
 
 
 def place_of(text: str) -> Place | None:

@@ -4,11 +4,11 @@
 `here` that `there` lacks, or has otherwise, is a finding. Days are dates; minutes are those of the day.
 """
 
-import datetime
 import pathlib
 import sqlite3
 from collections.abc import Iterator, Mapping
 
+from desk_tools.days import day_of
 from desk_tools import keys_of_then, theft
 from desk_tools.tables import KEYS
 from desk_tools.theft import BOOKED, CANCELED, ENDINGS, Entry, Finding, Trip
@@ -29,7 +29,7 @@ def entries_in(tables: sqlite3.Connection) -> dict[tuple[int, int], Entry]:
     """Each entry of a case file, by rider and place."""
     query = "SELECT rider, place, kind, day, author FROM entries"
     return {
-        (rider, place): Entry(place, kind, theft.EPOCH + datetime.timedelta(days=day), author)
+        (rider, place): Entry(place, kind, day_of(day), author)
         for rider, place, kind, day, author in tables.execute(query)
     }
 

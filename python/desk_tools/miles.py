@@ -158,7 +158,8 @@ def hours(minutes: int) -> str:
     return f"{hundredths // 100}.{hundredths % 100:02}"
 
 
-# The forms of the National Transit Database: each line with its name, and where its figure comes from.
+# The forms of the National Transit Database: each line with its name, and where its figure comes from. The names were
+# written from memory, since no package of Debian has the forms, and nobody has compared them.
 
 MILES_FIELDS = (
     ("Vehicle miles", "miles"),

@@ -22,6 +22,9 @@ ESBUILD = "esbuild"
 ENTRIES = ("parts/early.js", "parts/main.js")
 # Of the folder of the pages, what is for the people who change them alone.
 OF_SOURCES = ("README.md", "tsconfig.json", "types.d.ts")
+# The modules that are read by themselves, as they are asked for first.
+FIRST, MAIN = ENTRIES
+CORE = "parts/core.js"
 PRELOADS = re.compile(r'(?m)^<link rel="modulepreload" href="[^"]*">\n')
 AHEAD = re.compile(r'data-(\w+)="[^"]*"')
 LONGEST = 120.0
@@ -64,6 +67,68 @@ def bundle_of(told: dict[str, Any]) -> Bundle:
     )
 
 
+@dataclass(frozen=True)
+class Graph:
+    """The modules of the sources: which each imports at once, and which are asked for by themselves."""
+
+    imports: dict[str, list[str]]
+    entries: frozenset[str]
+
+    def taken_by(self, module: str) -> frozenset[str]:
+        """The modules that a module takes, and itself."""
+        taken: set[str] = set()
+        waiting = [module]
+        while waiting:
+            name = waiting.pop()
+            if name not in taken:
+                taken.add(name)
+                waiting += self.imports[name]
+        return frozenset(taken)
+
+
+def graph_of(told: dict[str, Any]) -> Graph:
+    """The graph that a metafile of esbuild tells of."""
+    inputs = told["inputs"]
+    return Graph(
+        {
+            name: [it["path"] for it in one["imports"] if it["kind"] == "import-statement"]
+            for name, one in inputs.items()
+        },
+        frozenset(it["entryPoint"] for it in told["outputs"].values() if "entryPoint" in it),
+    )
+
+
+def grouped(graph: Graph, ahead: Iterable[str]) -> dict[str, tuple[list[str], list[str]]]:
+    """The groups that belong in one file each, since a phone waits for each file: by the name of a module to be made, what
+    it imports and which modules import it. `ahead` are the screens that a page asks for early."""
+    core = graph.taken_by(MAIN) - {MAIN}
+    groups = {CORE: (sorted(core), sorted(graph.entries - {FIRST}))}
+    for name in ahead:
+        mine = graph.taken_by(name) - core - {name, MAIN}
+        others = {it: graph.taken_by(it) & mine for it in graph.entries - {name, FIRST, MAIN}}
+        shared = sorted({module for it in others.values() for module in it})
+        if shared:
+            takers = sorted({it for it, taken in others.items() if taken} | {name})
+            groups[f"parts/with-{Path(name).name}"] = (shared, takers)
+    return groups
+
+
+def write_groups(folder: Path, groups: dict[str, tuple[list[str], list[str]]]) -> None:
+    """Makes the modules of groups, and has their takers import them."""
+
+    def imported(name: str, taker: str) -> str:
+        return f'import "{"../" * (len(Path(taker).parts) - 1)}{name}";\n'
+
+    for name, (members, takers) in groups.items():
+        text = "".join(imported(it, name) for it in members)
+        (folder / name).write_text(text, encoding="utf-8")
+        for taker in takers:
+            path = folder / taker
+            path.write_text(
+                imported(name, taker) + path.read_text(encoding="utf-8"), encoding="utf-8"
+            )
+
+
 def _inner(name: str) -> str:
     """A file's name from `parts/` on: esbuild tells it from where it ran."""
     return name[name.index("parts/") :]
@@ -79,11 +144,7 @@ def index_of(page: str, bundle: Bundle) -> str:
 
     def ahead(found: re.Match[str]) -> str:
         name = found[1]
-        module = next(
-            (it for it in (f"screens/{name}.js", f"parts/{name}.js") if it in bundle.entries), None
-        )
-        if module is None:
-            raise Unpackable(f"index.html names {name}, and no module of the pages has this name")
+        module = _module_of(name, bundle.entries)
         return f'data-{name}="{" ".join(it for it in bundle.taken_by(module) if it not in first)}"'
 
     start = PRELOADS.search(page)
@@ -91,6 +152,15 @@ def index_of(page: str, bundle: Bundle) -> str:
         raise Unpackable("index.html preloads no module")
     bare = PRELOADS.sub("", page)
     return AHEAD.sub(ahead, bare[: start.start()] + links + bare[start.start() :])
+
+
+def _module_of(name: str, entries: Iterable[str]) -> str:
+    """The module of a screen that index.html names."""
+    known = set(entries)
+    for module in (f"screens/{name}.js", f"parts/{name}.js"):
+        if module in known:
+            return module
+    raise Unpackable(f"index.html names {name}, and no module of the pages has this name")
 
 
 def _beside(bundle: Bundle, first: list[str]) -> list[str]:
@@ -120,26 +190,25 @@ def _apart(folder: Path) -> Iterable[str]:
     )
 
 
+def _bundled(folder: Path, target: str) -> dict[str, Any]:
+    """Puts the modules of a folder together in another; the metafile of esbuild."""
+    telling = f"{target}.json"
+    shape = ["--bundle", "--splitting", "--format=esm", "--outbase=.", "--entry-names=[dir]/[name]"]
+    names = [f"--outdir={target}", "--chunk-names=parts/part-[hash]", f"--metafile={telling}"]
+    _esbuild(folder, *ENTRIES, *shape, *names)
+    told: dict[str, Any] = json.loads(Path(telling).read_text(encoding="utf-8"))
+    return told
+
+
 def bundle_folder(folder: Path) -> None:
     """Packs a copy of the pages in its place."""
     with tempfile.TemporaryDirectory(prefix="desk-packing-") as made:
-        telling = f"{made}/told.json"
-        shape = [
-            "--bundle",
-            "--splitting",
-            "--format=esm",
-            "--outbase=.",
-            "--entry-names=[dir]/[name]",
-        ]
-        names = [
-            f"--outdir={made}/pages",
-            "--chunk-names=parts/part-[hash]",
-            f"--metafile={telling}",
-        ]
-        _esbuild(folder, *ENTRIES, *shape, *names)
-        told = json.loads(Path(telling).read_text(encoding="utf-8"))
-        _esbuild(folder, *_apart(folder), "--outdir=.", "--outbase=.", "--allow-overwrite")
         page = folder / "index.html"
+        graph = graph_of(_bundled(folder, f"{made}/first"))
+        names = AHEAD.findall(page.read_text(encoding="utf-8"))
+        write_groups(folder, grouped(graph, [_module_of(it, graph.entries) for it in names]))
+        told = _bundled(folder, f"{made}/pages")
+        _esbuild(folder, *_apart(folder), "--outdir=.", "--outbase=.", "--allow-overwrite")
         page.write_text(
             index_of(page.read_text(encoding="utf-8"), bundle_of(told)), encoding="utf-8"
         )
@@ -173,7 +242,9 @@ def pack(source: Path, target: Path) -> bool:
 def main(words: list[str] | None = None) -> int:
     """Packs the folder that is named on the command line."""
     reader = argparse.ArgumentParser(
-        prog="pack-pages", description=__doc__, formatter_class=argparse.RawDescriptionHelpFormatter
+        prog="deploy/pack-pages",
+        description=__doc__,
+        formatter_class=argparse.RawDescriptionHelpFormatter,
     )
     reader.add_argument("source", type=Path, metavar="FROM", help="the folder of the pages")
     reader.add_argument(

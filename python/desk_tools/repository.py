@@ -1,6 +1,6 @@
 """bin/apt-repository: makes a signed apt repository of the desk's packages, which apt checks by itself.
 
-    bin/apt-repository --key KEY FOLDER desk_0.9.0_amd64.deb ..
+    bin/apt-repository --key KEY FOLDER FILE.deb ..
 
 KEY is the fingerprint or the address of a secret key of gpg. FOLDER is made, or gets more packages; a web server may
 serve it. Its file desk.gpg is the public key, for whoever installs. The exit status is 0 where all is done, 1 where

@@ -7,9 +7,11 @@ by a write, changes nothing that anybody keeps.
 from __future__ import annotations
 
 import contextlib
+import csv
 import datetime
 import hashlib
 import http.client
+import io
 import json
 import os
 import re
@@ -22,13 +24,12 @@ from collections.abc import Iterator
 from dataclasses import dataclass
 from pathlib import Path
 
-from desk_tools import asking
+from desk_tools import asking, installed
 from desk_tools.journal.places import Wrong
-from desk_tools.journal.replaying import free_port, library
+from desk_tools.journal.replaying import library
+from desk_tools.ports import free_port
 from desk_tools.tables import KEYS, ROLES
 
-# Where the program is installed: by the package, and by hand.
-INSTALLED = (Path("/usr/bin/desk"), Path("/usr/local/bin/desk"))
 SECONDS, TRIES, MOST_CALLERS, MOST_HOURS, NOON = 60, 20, 1_000, 24, 12
 # The version of the tables that the program serves.
 VERSION = 2
@@ -106,6 +107,11 @@ class ServedCopy:
             if it
         ]
 
+    def dues(self, day: datetime.date) -> dict[int, int]:
+        """What is due of each trip of a day, in cents."""
+        rows = csv.DictReader(io.StringIO(self._read(f"/days/{day}/trips.csv", DISPATCHER)))
+        return {int(it["trip"]): int(it["due"]) for it in rows}
+
     def _read(self, path: str, role: int) -> str:
         try:
             desk = asking.Desk(f"http://127.0.0.1:{self.port}", self.keys[role], patience=0)
@@ -137,7 +143,7 @@ class ServedCopy:
 def program_of(given: Path | None) -> Path:
     """The program that is named, or that DESK names, or the one that is installed. Raises Refused where there is none."""
     named = given or (Path(os.environ["DESK"]) if os.environ.get("DESK") else None)
-    found = [named] if named else [it for it in INSTALLED if it.exists()]
+    found = [named] if named else [it for it in installed.PROGRAMS if it.exists()]
     if not found:
         raise Refused("the desk is asked, and its program is not installed: name it by --program")
     if not os.access(found[0], os.X_OK) or found[0].is_dir():

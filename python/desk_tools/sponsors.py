@@ -7,7 +7,7 @@ import contextlib
 import datetime
 import re
 from collections import Counter
-from collections.abc import Collection, Iterable, Sequence
+from collections.abc import Callable, Collection, Iterable, Sequence
 from dataclasses import dataclass, field
 from decimal import Decimal
 from pathlib import Path
@@ -83,17 +83,23 @@ class Charge:
     why: str = ""
 
 
-def read(path: Path, riders: Collection[int]) -> Table:
-    """The table of a file, as a spreadsheet saved it. A rider who is none at the desk, and rows of a rider that overlap, are faults."""
+def read(
+    path: Path,
+    riders: Collection[int],
+    show: Callable[[int, int], None] = lambda done, total: None,
+) -> Table:
+    """The table of a file, as a spreadsheet saved it. A rider who is none at the desk, and rows of a rider that overlap, are faults.
+
+    `show` gets how many rows are read, and of how many.
+    """
     try:
         sheet = sheets.read(path, {it: () for it in COLUMNS})
+        sheets.require(sheet, COLUMNS, {it: () for it in COLUMNS})
     except sheets.Unreadable as error:
         raise Unreadable(str(error)) from None
-    missing = [it for it in COLUMNS if it not in sheet.header]
-    if missing:
-        raise Unreadable(f"{path} has no column {missing[0]} in its first row")
     table = Table([], [f"row {it.number}: {it.reason}" for it in sheet.refused], _notes(sheet))
-    for row in sheet.rows:
+    for at, row in enumerate(sheet.rows):
+        show(at, len(sheet.rows))
         _take(table, row.number, {it: row.fields.get(it, "") for it in COLUMNS}, riders)
     _name_overlaps(table)
     return table
@@ -222,6 +228,11 @@ def rounded(number: int, by: int) -> int:
 def dollars(cents: int) -> str:
     """Cents as dollars."""
     return f"{Decimal(cents) / 100:.2f}"
+
+
+def amount(charge: Charge) -> str:
+    """The dollars of a charge, or nothing where it has no amount yet."""
+    return "" if charge.quantity is None else dollars(charge.cents)
 
 
 def units(quantity: int | None) -> str:

@@ -13,9 +13,9 @@ import urllib.parse
 from collections.abc import Iterable, Iterator, Mapping
 from typing import Any
 
+from desk_tools.days import clock, EPOCH
 from desk_tools.tables import ROLES
 
-EPOCH = datetime.date(1970, 1, 1)
 BOOKED, CANCELED, RIDDEN, MISSED, FAILED = range(5)
 ENDINGS = ("booked", "canceled", "ridden", "missed by the rider", "missed by the operator")
 # The desk's own words for these, in the same order.
@@ -97,10 +97,6 @@ class Finding:
     advice: str
     rider: int
     pickup: tuple[datetime.date, int] | None = None
-
-
-def clock(minute: int) -> str:
-    return f"{minute // 60:02d}:{minute % 60:02d}"
 
 
 @contextlib.contextmanager

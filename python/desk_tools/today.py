@@ -7,6 +7,7 @@ missing; what is in it twice counts once. docs/SITE-FILES.md has the form of the
 
 import argparse
 import datetime
+import errno
 import json
 import logging
 import os
@@ -522,6 +523,9 @@ def main(arguments: list[str]) -> int:
     words = reader.parse_args(arguments)
     logging.basicConfig(format="deploy/today: %(message)s")
     work = Work(Follower(words.log), words.output, words.agency, words.group, words.no_shows)
+    if words.once and not words.log.exists():
+        log.error("%s: %s", words.log, os.strerror(errno.ENOENT))
+        return 1
     is_begun, said = False, ""
     while True:
         try:

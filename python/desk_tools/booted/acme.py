@@ -6,6 +6,7 @@ import json
 import shutil
 from pathlib import Path
 
+from desk_tools import agencies
 from desk_tools.booted import office
 from desk_tools.booted.town import Town
 
@@ -62,7 +63,7 @@ def start(town: Town) -> None:
     """Starts pebble in the machine, which trusts it."""
     machine = town.machine
     shutil.copy(PEBBLE, machine.root / "usr/local/bin/pebble")
-    machine.run("mkdir -p /root/pebble /etc/desk/acme")
+    machine.run(f"mkdir -p /root/pebble {agencies.SETTINGS}/acme")
     machine.run("cat >/root/pebble/config.json", stdin=json.dumps(CONFIG))
     words = "openssl req -x509 -newkey rsa:2048 -nodes -days 9 -subj /CN=localhost"
     words += " -addext subjectAltName=DNS:localhost -keyout key.pem -out cert.pem"

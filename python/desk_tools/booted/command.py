@@ -4,7 +4,8 @@
 
 Without --all one machine is set up, sees a night and is upgraded. With it the rest of that machine is tried too, up to
 its removal and purge; two machines with a line between them change over and back while clients write, a third comes
-back from the copies of a lost disk, and keys are stolen, all by the commands of the installed documents.
+back from the copies of a lost disk, and keys are stolen, all by the commands of the installed documents. With --earlier
+also a machine that an earlier package set up is upgraded, and goes back.
 
 Each machine is a root of Debian 12, run by systemd-nspawn with a network of its own. mmdebstrap makes the root, which is
 kept in ~/.cache/desk-booted for a day; DESK_BOOTED names another folder. Where none can be made, an older one counts. Where this machine cannot boot one, that is said and nothing is counted. Whatever happens, the
@@ -31,6 +32,7 @@ from types import FrameType
 from desk_tools import ending
 from desk_tools.booted import (
     acme,
+    earlier,
     follow_ups,
     machines,
     moving_in,
@@ -67,7 +69,7 @@ SLOW: dict[str, Callable[[Town], None]] = {
 # And these by --all once all else was tried: the desk is gone then.
 LAST: dict[str, Callable[[Town], None]] = {"removing": removing.check}
 # On a machine of its own, by --all.
-SETUPS, TWO, MOVING_IN = "setups", "two", "moving_in"
+SETUPS, TWO, MOVING_IN, EARLIER = "setups", "two", "moving_in", "earlier"
 # After so many seconds all is ended and counts as failed. The package and the root are made before that time begins.
 MOST, MOST_OF_ALL, MOST_TO_MAKE = 600, 3_600, 600
 PREFIX = "desk-booted-"
@@ -85,12 +87,18 @@ def words_of(arguments: list[str]) -> argparse.Namespace:
     words.add_argument("--all", action="store_true", help="the slow parts too, and two machines")
     words.add_argument(
         "--only",
-        choices=[*PARTS, *SLOW, *LAST, SETUPS, TWO, MOVING_IN],
+        choices=[*PARTS, *SLOW, *LAST, SETUPS, TWO, MOVING_IN, EARLIER],
         help="this part alone, and the setup",
     )
     words.add_argument("--keep", type=Path, help="a folder in which the machines stay, to look at")
     words.add_argument(
         "--package", type=Path, help="a package that is tried in place of this tree's"
+    )
+    words.add_argument(
+        "--earlier",
+        metavar="FILE",
+        type=Path,
+        help="a package of an earlier version: a machine that it set up is upgraded",
     )
     words.add_argument("program", metavar="PROGRAM", type=Path)
     return words.parse_args(arguments)
@@ -129,7 +137,7 @@ def parts_of(told: argparse.Namespace) -> dict[str, Callable[[Town], None]]:
     if told.only:
         return (
             {}
-            if told.only in (SETUPS, TWO, MOVING_IN)
+            if told.only in (SETUPS, TWO, MOVING_IN, EARLIER)
             else {**first, told.only: {**PARTS, **SLOW, **LAST}[told.only]}
         )
     return {**first, **SLOW, **PARTS, **LAST} if told.all else PARTS
@@ -175,6 +183,11 @@ def try_all(told: argparse.Namespace, folder: Path, checks: Checks) -> None:
             town = Town(machine, package, checks, is_whole=True)
             office.install(machine, office.bring(machine, package))
             moving_in.check(town)
+    if told.earlier and (told.all or told.only == EARLIER):
+        checks.step(EARLIER)
+        with Machine(roots.unpacked(folder / EARLIER), EARLIER) as machine:
+            town = Town(machine, package, checks, is_whole=True)
+            earlier.check(machine, town, told.earlier)
     if told.all or told.only == TWO:
         two.check(folder, package, checks)
 

@@ -7,12 +7,15 @@ import io
 import json
 from datetime import timedelta
 
+from desk_tools import agencies
 from desk_tools.booted import office, stolen
 from desk_tools.booted.town import Town
 
-CLOSED, DENIALS = "desk-closed-days", "desk-denials"
-KEY, CALLS = "the closed days", f"/var/lib/{CLOSED}/closed-days.csv"
-KEPT, MARK = "/var/backups/desk/denials", "01JB00TED0000000000000MARK"
+MAIN = agencies.Agency()
+CLOSED, DENIALS = MAIN.unit_of("closed-days"), MAIN.unit_of("denials")
+CLOSED_FOLDER = MAIN.data("closed-days")
+KEY, CALLS = "the closed days", f"{CLOSED_FOLDER}/closed-days.csv"
+KEPT, MARK = f"{MAIN.backups}/denials", "01JB00TED0000000000000MARK"
 
 
 def check(town: Town) -> None:
@@ -44,30 +47,32 @@ def check_closed_days(town: Town) -> None:
     """Nothing without a key; then a list; and where that is set, each trip is canceled, called about and counted."""
     checks, machine, day = town.checks, town.machine, stolen.today(town.machine)
     closed = {"day": (day + timedelta(days=1)).isoformat(), "name": "Founders' Day"}
-    said = machine.run("cat /etc/desk/agency.json").output
+    said = machine.run(f"cat {MAIN.names}").output
     before = json.loads(said)
-    machine.run("cat >/etc/desk/agency.json", stdin=json.dumps({**before, "closed": [closed]}))
+    machine.run(f"cat >{MAIN.names}", stdin=json.dumps({**before, "closed": [closed]}))
     checks.has("without a key it leaves all as it is", "skipped", run_once(town, CLOSED))
     path, body = stolen.caller(5, "dispatcher", KEY)
     stolen.write(town, town.admin, town.next_number(), path, body)
-    machine.run("umask 077; mkdir -p /etc/desk/keys; cat >/etc/desk/keys/closed-days", stdin=KEY)
+    machine.run(
+        f"umask 077; mkdir -p {agencies.SETTINGS}/keys; cat >{MAIN.key('closed-days')}", stdin=KEY
+    )
     told = run_once(town, CLOSED)
     checks.has("it counts", f"{closed['day']} (Founders' Day) is closed; 2 trips", told)
     checks.has("it names whom to call", "Ana Lind (7), pickup", told)
     checks.equal("it only lists", ["booked", "booked"], statuses(town))
-    machine.run("echo CLOSED_DAYS=cancel >/etc/desk/closed-days.conf")
+    machine.run(f"echo CLOSED_DAYS=cancel >{MAIN.own('closed-days.conf')}")
     checks.has("it cancels where that is set", "2 trips are canceled", run_once(town, CLOSED))
     checks.equal("they are canceled", ["cancelled", "cancelled"], statuses(town))
     rows = list(csv.DictReader(io.StringIO(machine.run(f"cat {CALLS}").output)))
     found = [(it["telephone"], it["canceled"]) for it in rows]
     checks.equal("the call list", [("555-0107", "yes")] * 2, found)
-    mode = machine.run(f"stat -c '%a %U' /var/lib/{CLOSED} {CALLS}").output.split("\n")[:2]
+    mode = machine.run(f"stat -c '%a %U' {CLOSED_FOLDER} {CALLS}").output.split("\n")[:2]
     checks.equal("it is root's alone", ["700 root", "600 root"], mode)
-    counted = machine.run("grep -c /tally/cancellations.*by=agency /var/log/desk/tally.log")
+    counted = machine.run(f"grep -c /tally/cancellations.*by=agency {MAIN.tally}")
     checks.equal("the site counts them", "2", counted.output.strip())
     checks.has("a second run finds none", "; 0 trips are booked", run_once(town, CLOSED))
-    machine.run("rm /etc/desk/closed-days.conf")
-    machine.run("cat >/etc/desk/agency.json", stdin=said)
+    machine.run(f"rm {MAIN.own('closed-days.conf')}")
+    machine.run(f"cat >{MAIN.names}", stdin=said)
 
 
 def check_denials(town: Town) -> None:

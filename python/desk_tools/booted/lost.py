@@ -2,12 +2,15 @@
 
 from __future__ import annotations
 
+import re
 from pathlib import Path
 
+from desk_tools import agencies
 from desk_tools.booted import documents, office, second
 from desk_tools.booted.machines import Machine, NoBoot
 from desk_tools.booted.town import Town
 
+MAIN = agencies.Agency()
 PACKAGE, HEADING = "PACKAGE.md", "When the machine is lost"
 
 
@@ -19,7 +22,7 @@ def check(town: Town, machine: Machine, place: Path, package: Path) -> None:
     office.bring(machine, package)
     # (the document is in the package; a person has it on paper)
     text = documents.block(town.machine, PACKAGE, HEADING, "apt install")
-    names["./desk_0.9.0_amd64.deb"] = "./desk.deb"
+    names.update({it: "./desk.deb" for it in re.findall(r"\./desk_[\w.]+\.deb", text)})
     told = documents.play(machine, documents.filled(text, names), "/root", check=False)
     checks.has("one command sets it up", f"{office.AGENCY} is set up", told.output)
     come_back(town, machine, "a new machine")
@@ -36,13 +39,13 @@ def check(town: Town, machine: Machine, place: Path, package: Path) -> None:
 def come_back(town: Town, machine: Machine, label: str) -> None:
     """The zone, the keys, the site and all that runs are those of before."""
     checks = town.checks
-    zone = machine.run("systemctl show -P Environment desk").output
+    zone = machine.run(f"cat {MAIN.conf}").output
     checks.has(f"{label}: the zone", "ZONE=CST6CDT,M3.2.0,M11.1.0", zone)
     reply = office.ask(machine, "/days/2026-01-01/sheet", key=town.admin)
     checks.equal(f"{label}: the admin's key", 403, reply.status)
     reply = office.ask(machine, "/agency.json")
     checks.has(f"{label}: the site", office.AGENCY, reply.body)
     second.has_all(town, machine, label)
-    hour = "systemctl show -P NextElapseUSecRealtime desk-backup.timer"
+    hour = f"systemctl show -P NextElapseUSecRealtime {MAIN.unit_of('backup.timer')}"
     told = machine.run(f'TZ={office.ZONE} date -d "$({hour})" +%H:%M').output.strip()
     checks.equal(f"{label}: the hour of the backup", "03:05", told)

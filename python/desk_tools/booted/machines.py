@@ -2,7 +2,7 @@
 
     with Machine(root, "one") as one, Machine(other, "two") as two:
         link(one, two)                       # 10.85.0.1 and 10.85.0.2, named one and two in /etc/hosts
-        one.run("systemctl start desk")      # raises, where it fails
+        one.run("systemctl start desk@main")      # raises, where it fails
         two.wait_for("curl -sf http://one/")
 """
 

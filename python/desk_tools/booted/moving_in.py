@@ -5,9 +5,11 @@ from __future__ import annotations
 import re
 import shlex
 
+from desk_tools import agencies
 from desk_tools.booted import documents, office
 from desk_tools.booted.town import Town
 
+MAIN = agencies.Agency()
 PAGE, HERE = "MOVING-IN.md", "On a machine of desk-setup"
 BLOCK = re.compile(r"(?ms)^```sh\n(.*?)^```\n(?:\n```text\n(.*?)^```\n)?")
 DATE = re.compile(r"\d{4}-\d\d-\d\d")
@@ -29,14 +31,14 @@ def check(town: Town) -> None:
         if wanted:
             what = f"what this prints: {commands[:80]}"
             checks.equal(what, DATE.sub("DAY", wanted), DATE.sub("DAY", got))
-    names = machine.run("cat /var/lib/desk-site/staff/places.json").output
+    names = machine.run(f"cat {MAIN.site}/staff/places.json").output
     checks.has("the pages have the places' names", "North End Clinic", names)
     checks.has("the agency keeps its name", office.AGENCY, names_of(town))
 
 
 def names_of(town: Town) -> str:
     """What everybody reads of the agency."""
-    return town.machine.run("cat /var/lib/desk-site/agency.json").output
+    return town.machine.run(f"cat {MAIN.site}/agency.json").output
 
 
 def blocks_of(town: Town) -> list[tuple[str, str]]:

@@ -10,10 +10,12 @@ import shutil
 from dataclasses import dataclass
 from pathlib import Path
 
+from desk_tools import agencies
 from desk_tools.booted.machines import Machine, Ran
 
+MAIN = agencies.Agency()
 NAME, PORT, AGENCY, ZONE = "desk.test", 443, "Test Town", "America/Chicago"
-CERTIFICATE = "/etc/ssl/desk/certificate.pem"
+CERTIFICATE = f"{MAIN.tls}/certificate.pem"
 
 
 def bring(machine: Machine, package: Path, name: str = "desk.deb") -> str:
@@ -62,9 +64,10 @@ def ask(
     body: object = None,
     number: int = 0,
     accept: str = "*/*",
+    certificate: str = CERTIFICATE,
 ) -> Reply:
     """Asks the site of the machine by TLS, from the machine itself."""
-    words = f"curl --silent --include --max-time 20 --cacert {CERTIFICATE} --http1.1"
+    words = f"curl --silent --include --max-time 20 --cacert {certificate} --http1.1"
     words += f" --resolve {NAME}:{PORT}:127.0.0.1 -H 'Accept: {accept}'"
     words += f" -H 'Desk-Key: {key}'" if key else ""
     if body is not None:
@@ -87,12 +90,12 @@ def answers(machine: Machine, seconds: float = 30) -> bool:
     return machine.wait_for(words, seconds)
 
 
-def process(machine: Machine, unit: str = "desk") -> str:
+def process(machine: Machine, unit: str = MAIN.unit) -> str:
     """The number of a unit's process."""
     return machine.run(f"systemctl show -P MainPID {unit}").output.strip()
 
 
 def make_backup(machine: Machine) -> None:
     """The night's backup by its unit. Its name has the minute, so that of the one before is waited for."""
-    machine.wait_for("! test -e /var/backups/desk/desk-$(date +%F-%H%M).db", 65)
-    machine.run("systemctl start desk-backup.service")
+    machine.wait_for(f"! test -e {MAIN.backups}/desk-$(date +%F-%H%M).db", 65)
+    machine.run(f"systemctl start {MAIN.unit_of('backup.service')}")

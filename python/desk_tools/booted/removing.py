@@ -2,11 +2,15 @@
 
 from __future__ import annotations
 
+from desk_tools import agencies
 from desk_tools.booted import office
 from desk_tools.booted.town import Town
 
+MAIN = agencies.Agency()
 LISTENING = "ss -Hltn | awk '{print $4}' | grep -E ':(443|843[0-9])$'"
-FOLDERS = "/var/lib/desk /var/lib/desk-site /etc/desk /etc/ssl/desk /var/log/desk /var/backups/desk"
+FOLDERS = (
+    f"{MAIN.folder} {agencies.SITES} {agencies.SETTINGS} {MAIN.tls} {agencies.LOGS} {MAIN.backups}"
+)
 
 
 def check(town: Town) -> None:
@@ -20,13 +24,13 @@ def check(town: Town) -> None:
         is_gone,
         machine.run(LISTENING, check=False).output,
     )
-    checks.holds("the data stay", machine.run("test -s /var/lib/desk/desk.db", check=False).is_well)
+    checks.holds("the data stay", machine.run(f"test -s {MAIN.file}", check=False).is_well)
     if town.is_whole:
         check_back(town)
     told = machine.run("apt-get purge -y -q desk").output
     for folder in FOLDERS.split():
         checks.has("a purge names what stays", folder, told)
-    checks.holds("and keeps it", machine.run("test -s /var/lib/desk/desk.db", check=False).is_well)
+    checks.holds("and keeps it", machine.run(f"test -s {MAIN.file}", check=False).is_well)
     left = machine.run(
         "ls /etc/systemd/system | grep ^desk; ls /etc/nginx/conf.d", check=False
     ).output
@@ -53,6 +57,7 @@ def check_purge_of_all(town: Town) -> None:
     machine.run("echo 'desk desk/remove-data boolean true' | debconf-set-selections")
     machine.run("apt-get purge -y -q desk")
     data = machine.run(
-        "ls -d /var/lib/desk* /etc/desk /etc/ssl/desk /var/log/desk 2>/dev/null", check=False
+        f"ls -d /var/lib/desk* {agencies.SETTINGS} /etc/ssl/desk* {agencies.LOGS} 2>/dev/null",
+        check=False,
     )
     checks.equal("a purge with a yes leaves nothing of them", "", data.output)

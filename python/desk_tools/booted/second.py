@@ -4,25 +4,30 @@ from __future__ import annotations
 
 from pathlib import Path
 
+from desk_tools import agencies
 from desk_tools.booted import documents, office, restoring, writers
 from desk_tools.booted.machines import Machine
 from desk_tools.booted.town import Town
 from desk_tools.booted.writers import Writers
+from desk_tools.machine.earlier import below
 
+MAIN = agencies.Agency()
 BACKUPS, SECOND, ELSEWHERE = "BACKUPS.md", "A second machine", "Copies elsewhere"
 COPY, OF_MACHINE = "desk-2025-03-11-0305.db", "machine-2025-03-11-0305.tar.gz"
 # What runs on a machine that serves by desk-setup's usual answers.
 SERVING = (
-    "desk.service desk-health.service desk-record.service desk-today.service desk-backup.timer desk-closed-days.timer desk-denials.timer "
-    "desk-driver-files.timer desk-journal.timer desk-reminders-soon.timer desk-reminders.timer desk-restart.timer desk-retention.timer "
-    "desk-watch.timer desk-worklist.timer nginx.service"
-).split()
+    f"{MAIN.unit}.service",
+    *map(MAIN.unit_of, ("backup.timer", "worklist.timer")),
+    *MAIN.beside,
+    *agencies.UNITS_OF_MACHINE,
+    "nginx.service",
+)
 OPENED = "no write is missing"
 
 
 def copies(machine: Machine) -> list[Path]:
     """The newest backup of a night and the newest copy of the machine, as files of the machine that tries."""
-    folder = machine.root / "var/backups/desk"
+    folder = below(machine.root, MAIN.backups)
     return [max(folder.glob(it)) for it in ("desk-*.db", "machine-*.tar.gz")]
 
 
@@ -98,7 +103,7 @@ def change(town: Town, old: Machine, new: Machine, text: str, clients: Writers) 
     address = {"first": "10.85.0.1", "second": "10.85.0.2"}
     before = writers.riders_of(old)
     with Writers(new, address[old.name], clients.begun) as at_old:
-        begun = old.wait_for("test $(stat -c %s /var/lib/desk/desk.db-wal) -gt 100000", 20)
+        begun = old.wait_for(f"test $(stat -c %s {MAIN.file}-wal) -gt 100000", 20)
         checks.holds(f"{label}: the clients write", begun)
         told = documents.play(new, text, check=False)
     checks.has(f"{label}: the opening", OPENED, told.output)
@@ -143,8 +148,8 @@ def check(town: Town, first: Machine, second: Machine) -> None:
     set_up_way_back(town, first, second)
     back = {"root@first.example.org": "root@second.example.org"}
     change(town, second, first, documents.filled(opening, back), clients)
-    second.run("systemctl start desk-standby.service")
-    words = "journalctl --sync; journalctl -u desk-standby -n 20 -o short-precise"
+    second.run(f"systemctl start {MAIN.unit_of('standby.service')}")
+    words = f"journalctl --sync; journalctl -u {MAIN.unit_of('standby')} -n 20 -o short-precise"
     second.wait_for(f"{words} | grep -q 'is fenced and sends nothing'", 10)
     said = second.run(words).output
     town.checks.has("the fenced one's timer", "is fenced and sends nothing", said)
@@ -164,7 +169,7 @@ def check_copies(town: Town, first: Machine, second: Machine) -> None:
     second.run(f"cat >{keys} && chown desk-copies: {keys}", stdin=line)
     conf = documents.block(second, BACKUPS, ELSEWHERE, "OFFSITE=desk-copies@")
     conf = documents.filled(conf, {"RECIPIENT=age1...\n": ""})
-    first.run("cat >/etc/desk/copies.conf", stdin=conf)
+    first.run(f"cat >{agencies.SETTINGS}/copies.conf", stdin=conf)
     first.run("ssh-keyscan backup.example.org >>/root/.ssh/known_hosts")
     told = first.run("cd /usr/lib/desk && deploy/elsewhere send")
     checks.has("a copy is elsewhere", ".db is at desk-copies@backup.example.org", told.output)
@@ -175,7 +180,7 @@ def check_copies(town: Town, first: Machine, second: Machine) -> None:
         checks.has(f"the key that adds copies: {asked}", "nothing else", refused.output)
     checks.equal("the copies there", before, second.run("ls -l /srv/desk-copies/lake").output)
     office.make_backup(first)
-    words = "journalctl -u desk-elsewhere -o cat | grep -q 'is at desk-copies@'"
+    words = f"journalctl -u {MAIN.unit_of('elsewhere')} -o cat | grep -q 'is at desk-copies@'"
     checks.holds("the night's unit sends them by itself", first.wait_for(words, 30))
     told = second.run(
         "cd /usr/lib/desk && deploy/drill --elsewhere /srv/desk-copies/lake", check=False

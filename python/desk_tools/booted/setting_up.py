@@ -4,12 +4,11 @@ from __future__ import annotations
 
 import json
 
+from desk_tools import agencies
 from desk_tools.booted import office
 from desk_tools.booted.town import Town
 
-# What waits for a key, or for something that is marked.
-REST = "desk-closed-days.timer desk-denials.timer desk-driver-files.timer desk-reminders.timer desk-reminders-soon.timer"
-
+MAIN = agencies.Agency()
 # Takes what the watch sends, as an agency's own service would.
 HOOK = """
 import http.server
@@ -57,8 +56,8 @@ def check_setup(town: Town) -> None:
     checks.has("desk-setup ends", f"{office.AGENCY} is set up", ran.output)
     checks.holds("it shows the admin's key", len(town.admin) > 20, ran.output)
     checks.has("it sent a test line", "this is a test", machine.run("cat /root/alarms").output)
-    units = "desk.service desk-health.service nginx.service desk-watch.timer desk-backup.timer"
-    for unit in f"{units} desk-restart.timer desk-worklist.timer {REST}".split():
+    units = [f"{MAIN.unit}.service", *map(MAIN.unit_of, ("backup.timer", "worklist.timer"))]
+    for unit in [*units, *MAIN.beside, *agencies.UNITS_OF_MACHINE, "nginx.service"]:
         said = machine.run(f"systemctl is-active {unit}; systemctl is-enabled {unit}", check=False)
         checks.equal(f"{unit} runs and is enabled", "active\nenabled\n", said.output)
     words = f"openssl x509 -in {office.CERTIFICATE} -noout -ext basicConstraints,extendedKeyUsage"
@@ -94,17 +93,17 @@ def check_health(town: Town) -> None:
     checks.holds("the last write", 0 <= told.get("seconds_since_write", -1) < 120, told)
     figures = machine.run("curl -s http://127.0.0.1:8436/metrics").output
     for wanted in (
-        'desk_up{desk="desk"} 1',
+        f'desk_up{{desk="{MAIN.unit}"}} 1',
         f'desk_requests_total{{site="{office.NAME}",path="places",status="200"}} 1',
         "desk_refused_keys_total 1",
-        'desk_file_bytes{desk="desk"}',
+        f'desk_file_bytes{{desk="{MAIN.unit}"}}',
         'desk_request_seconds_count{path="places"}',
     ):
         checks.has("/metrics", wanted, figures)
     checks.equal("/metrics from outside", 404, office.ask(machine, "/metrics").status)
-    machine.run('sed -i \'s/^{/{ "telephone": "555-0100",/\' /etc/desk/agency.json')
+    machine.run(f'sed -i \'s/^{{/{{ "telephone": "555-0100",/\' {MAIN.names}')
     machine.run("desk-setup --site")
-    machine.run("systemctl stop desk")
+    machine.run(f"systemctl stop {MAIN.unit}")
     reply = office.ask(machine, "/riders/7/trips", key=town.admin, accept="text/html")
     checks.equal("the desk is away", (502, "5"), (reply.status, reply.headers.get("retry-after")))
     checks.has("a person reads whom to call", "555-0100", reply.body)
@@ -115,5 +114,5 @@ def check_health(town: Town) -> None:
     words = f"curl -sk --resolve {office.NAME}:443:127.0.0.1 https://{office.NAME}/health"
     is_told = machine.wait_for(f"{words} -o /dev/null -w '%{{http_code}}' | grep -qx 503", 15)
     checks.holds("/health of a desk that is away", is_told)
-    machine.run("systemctl start desk")
+    machine.run(f"systemctl start {MAIN.unit}")
     checks.holds("it answers again", office.answers(machine))

@@ -5,13 +5,16 @@ from __future__ import annotations
 import shutil
 import subprocess
 
+from desk_tools import agencies
 from desk_tools.booted import office, packages
 from desk_tools.booted.town import Town
+from desk_tools.machine.earlier import below
 
+MAIN = agencies.Agency()
 # What a setup makes, and an end of one that failed has not.
 MADE = (
-    "/var/lib/desk/desk.db /var/lib/desk-setup /etc/desk/agency.json /etc/desk/setup.json /etc/nginx/conf.d/desk.conf "
-    "/etc/systemd/system/desk.service.d/zone.conf /var/lib/desk-site/agency.json"
+    f"{MAIN.file} /var/lib/desk-setup {MAIN.names} {agencies.SETTINGS}/setup.json /etc/nginx/conf.d/desk.conf "
+    f"{MAIN.conf} {MAIN.site}/agency.json"
 )
 EARLIER = packages.TOP / "tests/migration/first-version.desk"
 NGINX = "/usr/local/sbin/nginx"
@@ -88,7 +91,7 @@ def check_killed(town: Town) -> None:
     ran = office.set_up(machine, check=False)
     checks.equal("a setup that is killed", 137, ran.status)
     machine.run(f"rm {NGINX}")
-    checks.has("it has made the file", "/var/lib/desk/desk.db", left(town))
+    checks.has("it has made the file", MAIN.file, left(town))
     said = machine.run("stat -c '%a %U' /var/lib/desk-setup").output.strip()
     checks.equal("its keys are root's alone", "700 root", said)
     ran = office.set_up(machine)
@@ -104,11 +107,13 @@ def check_again(town: Town) -> None:
     answers = "Other Town\nMoon\nAmerica/Denver\n\n\n\n\nnone\n"
     said = machine.run("script -qec desk-setup /dev/null", stdin=answers, check=False).output
     checks.has("a wrong answer is asked again", "no zone", said)
-    zone = machine.run("cat /etc/systemd/system/desk.service.d/zone.conf").output
+    zone = machine.run(f"cat {MAIN.conf}").output
     checks.has("the new zone", "=MST7MDT", zone)
     checks.has("the file stays", "was there already", said)
     checks.has("the new name", "Other Town", office.ask(machine, "/agency.json").body)
-    timer = machine.run("systemctl is-enabled desk-backup.timer", check=False).output.strip()
+    timer = machine.run(
+        f"systemctl is-enabled {MAIN.unit_of('backup.timer')}", check=False
+    ).output.strip()
     checks.equal("what runs each night", "disabled", timer)
     site = "/etc/nginx/conf.d/desk.conf"
     machine.run(f"sed -i s/rate=30r/rate=31r/ {site}")
@@ -140,11 +145,11 @@ def check_demonstration(town: Town) -> None:
 
 def check_migration(town: Town) -> None:
     """A file of an earlier version is migrated by an upgrade; one that is spoilt ends it, and stays as it is."""
-    checks, machine, file = town.checks, town.machine, "/var/lib/desk/desk.db"
+    checks, machine, file = town.checks, town.machine, MAIN.file
     later = packages.other(town.package, "0.97.0")
     path = office.bring(machine, later, later.name)
     machine.run(
-        f"systemctl stop desk && rm -f {file}* && printf spoilt >{file} && chown desk:desk {file}"
+        f"systemctl stop {MAIN.unit} && rm -f {file}* && printf spoilt >{file} && chown {MAIN.user}:{MAIN.user} {file}"
     )
     ran = office.install(machine, path, check=False)
     checks.holds(
@@ -153,12 +158,12 @@ def check_migration(town: Town) -> None:
         ran.output[-300:],
     )
     checks.equal("and is as it was", "spoilt", machine.run(f"cat {file}").output)
-    (machine.root / "var/lib/desk/desk.db").write_bytes(EARLIER.read_bytes())
-    machine.run(f"chown desk:desk {file} && chmod 600 {file}")
+    below(machine.root, MAIN.file).write_bytes(EARLIER.read_bytes())
+    machine.run(f"chown {MAIN.user}:{MAIN.user} {file} && chmod 600 {file}")
     ran = office.install(machine, path, check=False)
     checks.holds("a file of an earlier version", ran.is_well, ran.output[-300:])
     checks.holds("the desk answers", office.answers(machine))
-    copies = sorted((machine.root / "var/lib/desk").glob("desk.db.before-*"))
+    copies = sorted(below(machine.root, MAIN.folder).glob("desk.db.before-*"))
     is_kept = any(it.read_bytes() == EARLIER.read_bytes() for it in copies)
     checks.holds("the file from before is kept", is_kept, copies)
     reply = office.ask(machine, "/riders/7/trips", key="hello")

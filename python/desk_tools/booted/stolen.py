@@ -5,11 +5,13 @@ from __future__ import annotations
 import time
 from datetime import date, timedelta
 
+from desk_tools import agencies
 from desk_tools.booted import documents, office
 from desk_tools.booted.machines import Machine
 from desk_tools.booted.second import COPY, copies
 from desk_tools.booted.town import Town
 
+MAIN = agencies.Agency()
 RUNNING, KEYS, COMMANDS = "RUNNING.md", "When something is wrong with a key", "The commands"
 ANOTHER = "Another key for the admin"
 RIDER, HIGHEST = 7, 4_294_967_295
@@ -106,7 +108,9 @@ def make_town(town: Town) -> None:
     write(town, PANEL, 1, f"/riders/{RIDER}/entries", grant)
     for number, wish in (1, 600), (2, 780):
         write(town, MINE, number, "/trips", trip(day + timedelta(days=1), wish))
-    machine.run("cat >/etc/desk/roster.csv", stdin="rider,name,telephone\n7,Ana Lind,555-0107\n")
+    machine.run(
+        f"cat >{MAIN.own('roster.csv')}", stdin="rider,name,telephone\n7,Ana Lind,555-0107\n"
+    )
     text = documents.block(machine, RUNNING, ANOTHER, "cat >/root/keys/1-admin")
     for name, key in ("1-admin", town.admin), ("clerk", CLERK):
         machine.run(documents.filled(text, {"1-admin": name}), stdin=f"{key}\n")
@@ -118,16 +122,13 @@ def give_times(town: Town, day: date) -> None:
     machine = town.machine
     machine.run("umask 077; mkdir -p /root/work; cat >/root/work/times.csv", stdin=TIMES)
     machine.run("umask 077; cat >/root/work/KEYFILE", stdin=f"{RADIO}\n")
-    text = documents.block(machine, RUNNING, COMMANDS, "desk travel /var/lib/desk/desk.db")
-    zone = machine.run(
-        "systemctl show -P Environment desk | tr ' ' '\\n' | sed -n s/^ZONE=//p"
-    ).output.strip()
+    text = documents.block(machine, RUNNING, COMMANDS, f"journal travel {MAIN.file}")
+    zone = machine.run(f"sed -n s/^ZONE=//p {MAIN.conf}").output.strip()
     text = documents.filled(
         text,
         {
             "EST5EDT,M3.2.0,M11.1.0": zone,
-            "deploy/with-key": "/usr/lib/desk/deploy/with-key",
-            "KEY NUMBER DAY": f"KEY 2 {day.isoformat()}",
+            "KEYFILE NUMBER DAY": f"KEYFILE 2 {day.isoformat()}",
         },
     )
     told = documents.play(machine, text, "/root/work", check=False)
@@ -138,7 +139,7 @@ def give_times(town: Town, day: date) -> None:
 def check(town: Town) -> None:
     """Both thefts, and what the document's command says of each."""
     day = today(town.machine)
-    backup = f"/var/backups/desk/{copies(town.machine)[0].name}"
+    backup = f"{MAIN.backups}/{copies(town.machine)[0].name}"
     check_rider(town, day, backup)
     check_driver(town, day, backup)
     # (the command's own writes as the admin have the time for their numbers)
@@ -163,7 +164,7 @@ def check_rider(town: Town, day: date, backup: str) -> None:
             "RIDER": str(RIDER),
             "https://desk.example.org": f"https://{office.NAME} --certificate {office.CERTIFICATE}",
             "CLERKS-KEYFILE": "/root/keys/clerk",
-            f"/var/backups/desk/{COPY}": backup,
+            f"{MAIN.backups}/{COPY}": backup,
             "NUMBER": str(RIDER),
         },
     )
@@ -194,7 +195,7 @@ def check_driver(town: Town, day: date, backup: str) -> None:
         {
             "VEHICLE": "1",
             "https://desk.example.org": f"https://{office.NAME} --certificate {office.CERTIFICATE}",
-            f"/var/backups/desk/{COPY}": backup,
+            f"{MAIN.backups}/{COPY}": backup,
             "2025-03-11T18:30": f"{day}T00:00",
             "NUMBER": "6",
         },

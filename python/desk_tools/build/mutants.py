@@ -8,12 +8,12 @@ import glob
 import hashlib
 import os
 
-from desk_parts import sources
+from desk_tools.build import sources
 
 LIST = "tests/mutants-refused"
 
 
-def mutants_of(top):
+def mutants_of(top: str) -> dict[str, str]:
     """Each mutant as CRATE/NAME, with the path of its edit, in order."""
     found = {}
     for path in sorted(glob.glob(f"{top}/crates/*/must-fail/*.edit")):
@@ -22,7 +22,7 @@ def mutants_of(top):
     return found
 
 
-def digests_of(top, logic):
+def digests_of(top: str, logic: str) -> dict[str, str]:
     """The digest of each mutant."""
     crates = {name.partition("/")[0] for name in mutants_of(top)}
     below = {crate: digest_below(top, crate) for crate in crates}
@@ -32,14 +32,14 @@ def digests_of(top, logic):
     }
 
 
-def digest_below(top, crate):
+def digest_below(top: str, crate: str) -> str:
     """The digest of a crate's files, of those below it, and of the kit's crates that they name."""
     own, kits = sources.crates_of(top, crate)
     lines = [f"{it} {sources.digest_of_crate(top, it)}" for it in sorted(own)] + sorted(kits)
     return hashlib.sha256("\n".join(lines).encode()).hexdigest()
 
 
-def recorded(top):
+def recorded(top: str) -> dict[str, tuple[str, str]]:
     """What the list says of each mutant: its digest and the day. A line of another form is a fault, and ValueError."""
     try:
         with open(f"{top}/{LIST}", encoding="utf-8") as file:
@@ -51,18 +51,18 @@ def recorded(top):
     return {name: (digest, day) for name, digest, day in lines}
 
 
-def without_edit(top):
+def without_edit(top: str) -> list[str]:
     """The lines of the list whose mutant is not there any more."""
     return sorted(set(recorded(top)) - set(mutants_of(top)))
 
 
-def known(top, logic):
+def known(top: str, logic: str) -> set[str]:
     """The mutants that were refused by exactly the present text."""
     said, now = recorded(top), digests_of(top, logic)
     return {name for name, digest in now.items() if said.get(name, ("", ""))[0] == digest}
 
 
-def record(top, logic, tried):
+def record(top: str, logic: str, tried: list[str]) -> None:
     """Writes a line for each mutant that this gate saw refused; the lines of the others stay."""
     said, now = recorded(top), digests_of(top, logic)
     today = datetime.datetime.now(datetime.timezone.utc).date().isoformat()

@@ -8,12 +8,12 @@ import shutil
 import subprocess
 import tempfile
 
-from desk_parts import built, sources
+from desk_tools.build import built, sources
 
 LEFT_OUT = "out", "must-fail"
 
 
-def copy_crates(top, folder, crates):
+def copy_crates(top: str, folder: str, crates: list[str]) -> None:
     """Copies these crates, their lines of crates.txt and HANDLES."""
     for name in crates:
         shutil.copytree(f"{top}/crates/{name}", f"{folder}/crates/{name}", ignore=shutil.ignore_patterns(*LEFT_OUT))
@@ -24,7 +24,7 @@ def copy_crates(top, folder, crates):
     shutil.copy(f"{top}/HANDLES", folder)
 
 
-def build(top, log):
+def build(top: str, log: str) -> int:
     """Puts the program where bin/desk runs it. What the kit says goes to the log. The exit status of the kit."""
     crates, _ = sources.crates_of(top)
     with tempfile.TemporaryDirectory(prefix="desk-build-") as room, open(log, "ab") as output:

@@ -1,14 +1,19 @@
 """Makes the files of an office: its database with the made past, the agency's file, the roster, and a denied trip."""
+
+from __future__ import annotations
+
 import csv
 import datetime
 import json
 import os
 import secrets
 import time
+from collections.abc import Callable, Iterator
+from typing import Any
 
-from office_parts import past, rows, town
-from office_parts.keys import write_keys
-from office_parts.serving import Trouble, ran
+from desk_tools.demo import past, rows, town
+from desk_tools.demo.keys import write_keys
+from desk_tools.demo.serving import ran, Trouble
 
 DATABASE, KEYS, AGENCY, ROSTER = "desk.db", "keys.json", "agency.json", "roster.csv"
 DRIVERS, DENIED = "drivers.csv", "denied"
@@ -20,49 +25,54 @@ RIDER, LATE, HOME = 104, 1_300, 21
 STATION, LATER, WEST = 10, 1_375, 25
 
 
-def use_clock():
+def use_clock() -> None:
     """From here on this program goes by the clocks of the town."""
     os.environ["TZ"] = town.ZONE_RULE
     time.tzset()
 
 
-def minute_now():
+def minute_now() -> int:
     now = time.localtime()
     return now.tm_hour * 60 + now.tm_min
 
 
-def noon_zone(today):
+def noon_zone(today: Any) -> str:
     """A zone whose clocks show midday of that day now, so that no midnight comes between two requests."""
     now = datetime.datetime.now(datetime.timezone.utc)
     midnight = datetime.datetime.combine(today, datetime.time(), datetime.timezone.utc)
     return f"<DAY>{int((now - midnight).total_seconds() // 3600) - 12:+d}"
 
 
-def write_text(path, text):
+def write_text(path: str, text: str) -> None:
     with open(path, "w", encoding="utf-8") as file:
         file.write(text)
 
 
-def write_rows(path, lines):
+def write_rows(path: str, lines: list[Any]) -> None:
     with open(path, "w", encoding="utf-8", newline="") as file:
         csv.writer(file, lineterminator="\n").writerows(lines)
 
 
-def write_agency(folder, people):
+def write_agency(folder: str, people: list[town.Rider]) -> None:
     """The agency's own files, from which those of the site are derived."""
     write_text(f"{folder}/{AGENCY}", json.dumps(town.agency(), indent=1, ensure_ascii=False) + "\n")
     write_rows(f"{folder}/{ROSTER}", town.roster_rows(people))
-    write_rows(f"{folder}/{DRIVERS}", [("rider", "name", "note"), *((it.id, it.name, it.note) for it in people)])
+    write_rows(
+        f"{folder}/{DRIVERS}",
+        [("rider", "name", "note"), *((it.id, it.name, it.note) for it in people)],
+    )
 
 
-def make_database(program, file):
+def make_database(program: str, file: str) -> None:
     """An empty desk. Nobody has the key of its admin yet."""
     made = ran(program, "init", file, secrets.token_hex(16))
     if made.returncode:
-        raise Trouble(f"the desk makes no database {file}: {made.stderr.decode(errors='replace').strip()}")
+        raise Trouble(
+            f"the desk makes no database {file}: {made.stderr.decode(errors='replace').strip()}"
+        )
 
 
-def late_wishes(today):
+def late_wishes(today: datetime.date) -> Iterator[list[str | int]]:
     """Trips in the evening, when the bus lines still run: first on a Sunday, when few vans are on duty."""
     days = [today + datetime.timedelta(days=it) for it in range(2, 9)]
     for day in sorted(days, key=lambda it: it.isoweekday() != 7):
@@ -70,7 +80,9 @@ def late_wishes(today):
     yield [RIDER, days[0].isoformat(), LATER, STATION, WEST, "none", 0, 0]
 
 
-def write_denial(program, folder, work, keys, today):
+def write_denial(
+    program: str, folder: str, work: str, keys: dict[str, str], today: datetime.date
+) -> None:
     """A trip that no van can take, with the log that shows why. It asks a copy in `work`: the desk serves meanwhile."""
     file, room, said = f"{work}/{DATABASE}", f"{folder}/{DENIED}", b""
     for words in late_wishes(today):
@@ -80,13 +92,23 @@ def write_denial(program, folder, work, keys, today):
             os.makedirs(room, exist_ok=True)
             with open(f"{room}/refusal.log", "wb") as output:
                 output.write(log.stdout)
-            judged = ran(program, "audit", f"{room}/refusal.log", file, town.ZONE_RULE, keys["dispatcher"], *words)
+            judged = ran(
+                program,
+                "audit",
+                f"{room}/refusal.log",
+                file,
+                town.ZONE_RULE,
+                keys["dispatcher"],
+                *words,
+            )
             write_text(f"{room}/README.txt", denial_text(words, judged.stdout.decode().strip()))
             return
-    raise Trouble(f"the desk denies no trip for want of a van: {said.decode(errors='replace').strip()}")
+    raise Trouble(
+        f"the desk denies no trip for want of a van: {said.decode(errors='replace').strip()}"
+    )
 
 
-def denial_text(words, judged):
+def denial_text(words: list[Any], judged: str) -> str:
     rider, day, wish, start, end, *_ = words
     asked = " ".join(map(str, words))
     return (
@@ -100,7 +122,7 @@ def denial_text(words, judged):
     )
 
 
-def make(program, folder, today, step):
+def make(program: str, folder: str, today: datetime.date, step: Callable[..., Any]) -> None:
     """All files of an office, in an empty folder."""
     people, file = town.riders(), f"{folder}/{DATABASE}"
     keys = write_keys(f"{folder}/{KEYS}", CALLERS)

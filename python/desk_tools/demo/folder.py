@@ -1,4 +1,7 @@
 """The folder in which an office lives: one office at a time, whole or not there, and kept for the next time."""
+
+from __future__ import annotations
+
 import datetime
 import fcntl
 import json
@@ -7,8 +10,9 @@ import shutil
 import sqlite3
 from contextlib import closing
 
-from office_parts import building, past, rows, site
-from office_parts.serving import Trouble
+from desk_tools.days import number_of
+from desk_tools.demo import building, past, rows, site
+from desk_tools.demo.serving import Trouble
 
 STATE, LOCK, SAID = "office.json", "lock", "desk.said"
 OWN = [
@@ -30,14 +34,16 @@ OWN = [
 ROOM, MOST_DAYS_ADDED = 100_000_000, 90
 
 
-def default():
-    return os.path.join(os.environ.get("XDG_DATA_HOME") or os.path.expanduser("~/.local/share"), "desk-office")
+def default() -> str:
+    return os.path.join(
+        os.environ.get("XDG_DATA_HOME") or os.path.expanduser("~/.local/share"), "desk-office"
+    )
 
 
 class Folder:
     """An office's folder, which this process alone has until it ends."""
 
-    def __init__(self, path):
+    def __init__(self, path: str) -> None:
         self.path = os.path.abspath(path)
         try:
             os.makedirs(self.path, mode=0o700, exist_ok=True)
@@ -48,10 +54,12 @@ class Folder:
                 )
             self.lock = open(f"{self.path}/{LOCK}", "a+", encoding="ascii")
         except OSError as error:
-            raise Trouble(f"{error.filename or self.path} cannot be used: {error.strerror}") from None
+            raise Trouble(
+                f"{error.filename or self.path} cannot be used: {error.strerror}"
+            ) from None
         self.take()
 
-    def take(self):
+    def take(self) -> None:
         try:
             fcntl.flock(self.lock, fcntl.LOCK_EX | fcntl.LOCK_NB)
         except OSError:
@@ -63,13 +71,13 @@ class Folder:
             ) from None
         self.tell("")
 
-    def tell(self, address):
+    def tell(self, address: str) -> None:
         """Leaves the address for whoever finds the folder taken."""
         self.lock.truncate(0)
         self.lock.write(address)
         self.lock.flush()
 
-    def day(self):
+    def day(self) -> datetime.date | None:
         """The day as of which a whole office is here, or None."""
         try:
             with open(f"{self.path}/{STATE}", encoding="ascii") as file:
@@ -77,12 +85,12 @@ class Folder:
         except (OSError, ValueError, KeyError, TypeError):
             return None
 
-    def mark(self, day):
+    def mark(self, day: datetime.date) -> None:
         """Says that the office is whole, as of that day."""
         building.write_text(f"{self.path}/{STATE}.new", json.dumps({"day": day.isoformat()}) + "\n")
         os.replace(f"{self.path}/{STATE}.new", f"{self.path}/{STATE}")
 
-    def clear(self):
+    def clear(self) -> None:
         """Takes away all files of an office, its mark first."""
         for name in OWN:
             path = f"{self.path}/{name}"
@@ -91,7 +99,7 @@ class Folder:
             elif name != LOCK and os.path.exists(path):
                 os.remove(path)
 
-    def need_room(self):
+    def need_room(self) -> None:
         free = shutil.disk_usage(self.path).free
         if free < ROOM:
             raise Trouble(
@@ -99,7 +107,7 @@ class Folder:
             )
 
 
-def roll_on(folder, today, day):
+def roll_on(folder: Folder, today: datetime.date, day: datetime.date) -> None:
     """Ends the trips that are over, and adds the days that are missing since that day. `undo` undoes it."""
     file, minute = f"{folder.path}/{building.DATABASE}", building.minute_now()
     with closing(sqlite3.connect(file)) as database:
@@ -108,11 +116,13 @@ def roll_on(folder, today, day):
     with closing(sqlite3.connect(file)) as database, database:
         rows.end_trips(database, today, minute)
         taken = {it for it, in database.execute("SELECT DISTINCT day FROM trips")}
-        trips = past.trips_between(today, minute, past.LAST_TRIPS + 1 - (today - day).days, past.LAST_TRIPS)
-        rows.write_trips(database, [it for it in trips if rows.number_of(it[1]) not in taken])
+        trips = past.trips_between(
+            today, minute, past.LAST_TRIPS + 1 - (today - day).days, past.LAST_TRIPS
+        )
+        rows.write_trips(database, [it for it in trips if number_of(it[1]) not in taken])
 
 
-def undo(folder):
+def undo(folder: Folder) -> None:
     """Puts the file back as it was before `roll_on`."""
     file = f"{folder.path}/{building.DATABASE}"
     for name in f"{file}-wal", f"{file}-shm":

@@ -2,6 +2,9 @@
 
 It has the paths and the headers of deploy/desk.nginx, and none of its limits of requests, and no TLS.
 """
+
+from __future__ import annotations
+
 import datetime
 import http.client
 import os
@@ -10,14 +13,17 @@ import sys
 import threading
 from functools import partial
 from http.server import BaseHTTPRequestHandler, ThreadingHTTPServer
+from typing import Any
 
-from moving.typed import events
+from desk_tools import events
 
 DESKS_PATHS = re.compile(r"/(callers|policy|places|routes|vehicles|riders|trips|days)(/|$)")
 TALLY = {f"/tally/{it.name}": re.compile(events.pattern_of(it)) for it in events.EVENTS.values()}
 VEHICLE = re.compile("(?:^|&)vehicle=([0-9]+)")
 OWN = re.compile(r"/own/([1-9][0-9]*)/(?:places|addresses)\.json")
-OF_VEHICLE = re.compile(r"/drivers/([1-9][0-9]*)/(roster\.csv|places\.json|outcomes\.json|addresses\.json)")
+OF_VEHICLE = re.compile(
+    r"/drivers/([1-9][0-9]*)/(roster\.csv|places\.json|outcomes\.json|addresses\.json)"
+)
 # Nobody's number, by which the desk tells what a key may do.
 NOBODY = "/riders/4294967295"
 KINDS = {
@@ -38,19 +44,19 @@ DENIALS = {401: "desk.key", 403: "desk.caller", 404: "http.path"}
 class Handler(BaseHTTPRequestHandler):
     protocol_version = "HTTP/1.1"
 
-    def __init__(self, office, *given):
+    def __init__(self, office: Office, *given: Any) -> None:
         self.office = office
         super().__init__(*given)
 
-    def log_message(self, format, *args):
+    def log_message(self, *args: str) -> None:
         """Nothing is logged, so that no key is."""
 
-    def do_GET(self):
+    def do_GET(self) -> None:
         self.answer()
 
     do_HEAD = do_POST = do_GET
 
-    def answer(self):
+    def answer(self) -> None:
         path = self.path.partition("?")[0]
         if DESKS_PATHS.match(path):
             self.pass_on()
@@ -61,7 +67,7 @@ class Handler(BaseHTTPRequestHandler):
         else:
             self.send_file_of(path)
 
-    def send_file_of(self, path):
+    def send_file_of(self, path: str) -> None:
         site, own, of_vehicle = self.office.site, OWN.fullmatch(path), OF_VEHICLE.fullmatch(path)
         if path == "/agency.json":
             self.send_file(site, "agency.json", "no-cache")
@@ -72,40 +78,50 @@ class Handler(BaseHTTPRequestHandler):
         elif own:
             self.send_where(self.judged(f"/riders/{own[1]}/standing/2026-01-01"), site, path[1:])
         elif of_vehicle:
-            self.send_where(self.judged(f"/vehicles/{of_vehicle[1]}/manifest/2026-01-01"), site, path[1:])
+            self.send_where(
+                self.judged(f"/vehicles/{of_vehicle[1]}/manifest/2026-01-01"), site, path[1:]
+            )
         else:
-            self.send_file(self.office.pages, f"{path}index.html"[1:] if path.endswith("/") else path[1:], "no-cache")
+            self.send_file(
+                self.office.pages,
+                f"{path}index.html"[1:] if path.endswith("/") else path[1:],
+                "no-cache",
+            )
 
     # What the desk says of a key: 204 lets by.
 
-    def status_of(self, path):
+    def status_of(self, path: str) -> int:
         reply = self.asked("GET", path, {"Desk-Key": self.headers.get("Desk-Key", "")})
         return reply[0] if reply else 502
 
-    def judged(self, path):
+    def judged(self, path: str) -> int:
         status = self.status_of(path)
         return {200: 204, 404: 204, 400: 401}.get(status, status)
 
-    def teller(self, path, words):
+    def teller(self, path: str, words: str) -> tuple[int, str]:
         """The status of a key that tells an event, and whose key it is."""
         who = events.EVENTS[path.rpartition("/")[2]].who
         if who == "vehicle":
-            return self.judged(f"/vehicles/{VEHICLE.search(words)[1]}/manifest/2026-01-01"), "vehicle"
+            vehicle = VEHICLE.search(words)
+            return (
+                self.judged(f"/vehicles/{vehicle[1] if vehicle else 0}/manifest/2026-01-01"),
+                "vehicle",
+            )
         status = self.judged(f"{NOBODY}/standing/2026-01-01")
         if status != 403:
             return status, "office"
         status = self.judged(f"{NOBODY}/trips")
         return (204, "other") if status == 403 and who == "anybody" else (status, "dispatcher")
 
-    def any_key(self):
+    def any_key(self) -> int:
         status = self.judged(f"{NOBODY}/standing/2026-01-01")
         return 204 if status == 403 else status
 
-    def staffs_key(self):
+    def staffs_key(self) -> int:
         status = self.judged(f"{NOBODY}/standing/2026-01-01")
         return self.judged(f"{NOBODY}/trips") if status == 403 else status
 
-    def send_where(self, status, folder, name):
+    def send_where(self, status: int, folder: str, name: str) -> None:
         if status == 204:
             self.send_file(folder, name)
         elif status == 502:
@@ -115,7 +131,7 @@ class Handler(BaseHTTPRequestHandler):
 
     # Replies.
 
-    def send_file(self, folder, name, kept="no-store"):
+    def send_file(self, folder: str, name: str, kept: str = "no-store") -> None:
         path = os.path.realpath(os.path.join(folder, name))
         if os.path.isdir(path):
             path += "/index.html"
@@ -133,14 +149,18 @@ class Handler(BaseHTTPRequestHandler):
                 {"Service-Worker-Allowed": "/"} if name == "service-worker.js" else {},
             )
 
-    def deny(self, status, name):
+    def deny(self, status: int, name: str) -> None:
         more = {"WWW-Authenticate": "Desk-Key"} if status == 401 else {}
         self.give(status, "application/json", f'{{"denied":"{name}"}}'.encode(), more=more)
 
-    def say_away(self):
-        self.give(502, "text/plain", b"The desk does not answer. Send the same again in a moment.\n")
+    def say_away(self) -> None:
+        self.give(
+            502, "text/plain", b"The desk does not answer. Send the same again in a moment.\n"
+        )
 
-    def give(self, status, kind, content, kept="no-store", more=()):
+    def give(
+        self, status: int, kind: str, content: bytes, kept: str = "no-store", more: Any = ()
+    ) -> None:
         self.send_response(status)
         headers = {
             "Content-Type": kind,
@@ -155,7 +175,7 @@ class Handler(BaseHTTPRequestHandler):
         if self.command != "HEAD" and status != 204:
             self.wfile.write(content)
 
-    def body(self):
+    def body(self) -> bytes | None:
         """The bytes of the request, or None where they are too many."""
         length = self.headers.get("Content-Length", "0")
         if not length.isdigit() or int(length) > MOST_BYTES:
@@ -165,7 +185,9 @@ class Handler(BaseHTTPRequestHandler):
 
     # The desk.
 
-    def asked(self, method, path, headers, content=None):
+    def asked(
+        self, method: str, path: str, headers: dict[str, str], content: Any = None
+    ) -> tuple[int, http.client.HTTPMessage, bytes] | None:
         """The desk's status, headers and body, or None."""
         line = http.client.HTTPConnection("127.0.0.1", self.office.desk_port, timeout=SECONDS)
         try:
@@ -177,20 +199,22 @@ class Handler(BaseHTTPRequestHandler):
         finally:
             line.close()
 
-    def pass_on(self):
+    def pass_on(self) -> None:
         content = self.body()
         if content is None:
             self.deny(413, "http.length")
             return
         headers = {name: self.headers[name] for name in PASSED_ON if name in self.headers}
-        reply = self.asked(self.command, self.path, headers, content if self.command == "POST" else None)
+        reply = self.asked(
+            self.command, self.path, headers, content if self.command == "POST" else None
+        )
         if reply is None:
             self.say_away()
         else:
             more = {it: reply[1][it] for it in ("WWW-Authenticate", "Allow") if it in reply[1]}
             self.give(reply[0], reply[1]["Content-Type"], reply[2], more=more)
 
-    def tally(self, path):
+    def tally(self, path: str) -> None:
         words = self.path.partition("?")[2]
         self.body()
         if self.command != "POST":
@@ -214,7 +238,7 @@ class Handler(BaseHTTPRequestHandler):
 class Server(ThreadingHTTPServer):
     """The proxy's server, for which a client that goes away is no fault."""
 
-    def handle_error(self, request, client_address):
+    def handle_error(self, request: Any, client_address: Any) -> None:
         if not isinstance(sys.exception(), (ConnectionError, TimeoutError)):
             super().handle_error(request, client_address)
 
@@ -222,16 +246,24 @@ class Server(ThreadingHTTPServer):
 class Office:
     """What the proxy stands before, and the port that it has."""
 
-    def __init__(self, port, desk_port, pages, site, tally, headers):
-        self.desk_port, self.pages, self.site, self.tally, self.headers = desk_port, pages, site, tally, headers
+    def __init__(
+        self, port: int, desk_port: int, pages: str, site: str, tally: str, headers: dict[str, str]
+    ) -> None:
+        self.desk_port, self.pages, self.site, self.tally, self.headers = (
+            desk_port,
+            pages,
+            site,
+            tally,
+            headers,
+        )
         self.lock = threading.Lock()
         self.server = Server(("127.0.0.1", port), partial(Handler, self))
         self.server.daemon_threads = True
         threading.Thread(target=self.server.serve_forever, daemon=True).start()
 
-    def has_ended(self):
+    def has_ended(self) -> bool:
         return False
 
-    def stop(self):
+    def stop(self) -> None:
         self.server.shutdown()
         self.server.server_close()

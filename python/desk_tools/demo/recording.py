@@ -1,23 +1,29 @@
 """Records the two weeks of trips that the made past repeats: a desk books them, and they are kept in weeks.csv.
 
-  PYTHONPATH=bin python3 -m office_parts.recording PROGRAM
+  PYTHONPATH=python python3 -m desk_tools.demo.recording PROGRAM
 
 It takes a minute with a proved program. Run it again where the town or the rules of booking have changed.
 """
+
+from __future__ import annotations
+
 import datetime
 import random
 import sqlite3
 import sys
 import tempfile
+from collections.abc import Iterator
 from contextlib import closing
+from typing import Any
 
-from office_parts import building, past, rows, town
-from office_parts.serving import Desk
+from desk_tools.days import day_of
+from desk_tools.demo import building, past, rows, town
+from desk_tools.demo.serving import Desk
 
 DAYS = 14
 
 
-def wishes_on(people, day):
+def wishes_on(people: Any, day: Any) -> Any:
     """The trips that riders wish on a day, in the order in which they ask."""
     chance, wishes = random.Random(day.toordinal() // 7 * 10 + day.isoweekday()), []
     for rider in people:
@@ -28,13 +34,17 @@ def wishes_on(people, day):
                     "companions": int(chance.random() < 0.08),
                 }
                 shared = {"rider": rider.id, "day": day.isoformat(), **party}
-                wishes.append({**shared, "wish": it.out, "from": rider.home, "to": it.place, "by": it.by})
-                wishes.append({**shared, "wish": it.back, "from": it.place, "to": rider.home, "by": None})
+                wishes.append(
+                    {**shared, "wish": it.out, "from": rider.home, "to": it.place, "by": it.by}
+                )
+                wishes.append(
+                    {**shared, "wish": it.back, "from": it.place, "to": rider.home, "by": None}
+                )
     chance.shuffle(wishes)
     return wishes
 
 
-def book(desk, key, people, today):
+def book(desk: Any, key: Any, people: Any, today: Any) -> None:
     """Books each wish of the two weeks, and cancels some trips. The write's number, as all of one caller."""
     number, chance = 0, random.Random(town.SEED)
     for offset in range(1, DAYS + 1):
@@ -48,35 +58,40 @@ def book(desk, key, people, today):
         print(f"{day}: {number} writes", flush=True)
 
 
-def trips_in(file):
+def trips_in(file: Any) -> Iterator[Any]:
     """Each trip of a file as a row of weeks.csv."""
     with closing(sqlite3.connect(file)) as database:
-        places = {(trip, kind): place for trip, kind, place in database.execute("SELECT trip, kind, place FROM stops")}
+        places = {
+            (trip, kind): place
+            for trip, kind, place in database.execute("SELECT trip, kind, place FROM stops")
+        }
         chairs = {trip for trip, in database.execute("SELECT trip FROM trip_chairs")}
         for number, rider, day, wish, origin, goal, by, *rest, _ in database.execute(
             "SELECT * FROM trips ORDER BY day, id"
         ):
-            day = datetime.date.fromordinal(day + rows.DAY_ZERO)
-            yield past.Trip(
-                (day.toordinal() - 1) // 7 % 2,
-                day.isoweekday(),
-                rider,
-                wish,
-                origin,
-                goal,
-                None if by < 0 else by,
-                *rest,
-                int(number in chairs),
-                places.get((number, rows.PICKUP)),
-                places.get((number, rows.DROP)),
+            day = day_of(day)
+            yield past.Trip._make(
+                [
+                    (day.toordinal() - 1) // 7 % 2,
+                    day.isoweekday(),
+                    rider,
+                    wish,
+                    origin,
+                    goal,
+                    None if by < 0 else by,
+                    *rest,
+                    int(number in chairs),
+                    places.get((number, rows.PICKUP)),
+                    places.get((number, rows.DROP)),
+                ]
             )
 
 
-def write_weeks(file):
+def write_weeks(file: Any) -> None:
     building.write_rows(past.WEEKS, [past.Trip._fields, *trips_in(file)])
 
 
-def main(program):
+def main(program: str) -> None:
     people, today = town.riders(), datetime.date.today()
     with tempfile.TemporaryDirectory() as folder:
         file, keys = f"{folder}/desk.db", {who: who for who in building.CALLERS}

@@ -1,44 +1,40 @@
 """Writes the made office as rows of the desk's tables (docs/FORMATS.md). The desk judges them at its opening."""
+
+from __future__ import annotations
+
 import datetime
-import os
 import sqlite3
 import struct
-import sys
+from collections.abc import Iterable
 from contextlib import closing
+from typing import Any
 
-from office_parts import past, town
-from office_parts.keys import digest_of
-
-sys.path.append(os.path.join(os.path.dirname(os.path.realpath(__file__)), "..", "..", "python"))
+from desk_tools.days import day_of, number_of
+from desk_tools.demo import past, town
+from desk_tools.demo.keys import digest_of
 from desk_tools.tables import ROLES
 
 PICKUP, DROP = 0, 1
-DAY_ZERO = datetime.date(1970, 1, 1).toordinal()
 
 
-def number_of(day):
-    """A day as the tables have it: days since 1 January 1970."""
-    return day.toordinal() - DAY_ZERO
-
-
-def day_of(number):
-    return datetime.date.fromordinal(number + DAY_ZERO)
-
-
-def bits_of(weekdays):
+def bits_of(weekdays: list[int]) -> int:
     return sum(1 << (it - 1) for it in weekdays)
 
 
-def insert(database, table, rows):
+def insert(
+    database: sqlite3.Connection, table: str, rows: list[tuple[int, ...]] | Iterable[Any]
+) -> None:
     rows = list(rows)
     if rows:
         database.executemany(f"INSERT INTO {table} VALUES ({', '.join('?' * len(rows[0]))})", rows)
 
 
-def write_callers(database, keys):
+def write_callers(database: sqlite3.Connection, keys: dict[str, str]) -> None:
     named = {who: (number, role, 0) for who, (number, role) in past.STAFF.items()}
     named |= {who: (number, "driver", van) for who, (number, van) in past.DRIVERS.items()}
-    named |= {who: (number, "rider", rider) for who, (number, rider) in past.RIDERS_WITH_KEYS.items()}
+    named |= {
+        who: (number, "rider", rider) for who, (number, rider) in past.RIDERS_WITH_KEYS.items()
+    }
     database.execute("DELETE FROM callers")
     insert(
         database,
@@ -50,11 +46,13 @@ def write_callers(database, keys):
     )
 
 
-def write_agency(database, first_day):
+def write_agency(database: sqlite3.Connection, first_day: int) -> None:
     """The policy, places, fixed routes, vans and driving times, which hold from a day on."""
     settings = ", ".join(f"{name} = {value}" for name, value in town.POLICY.items())
     database.execute(f"UPDATE desk SET {settings}")
-    insert(database, "places", ((number, x, y, int(core)) for number, _, _, x, y, core in town.PLACES))
+    insert(
+        database, "places", ((number, x, y, int(core)) for number, _, _, x, y, core in town.PLACES)
+    )
     insert(
         database,
         "fixed",
@@ -79,33 +77,54 @@ def write_agency(database, first_day):
             for number, _, days, depot, seats, _, opens, closes, duration in town.VANS
         ),
     )
-    insert(database, "vehicle_chairs", ((number, first_day, chairs) for number, _, _, _, _, chairs, *_ in town.VANS))
+    insert(
+        database,
+        "vehicle_chairs",
+        ((number, first_day, chairs) for number, _, _, _, _, chairs, *_ in town.VANS),
+    )
     times = [tuple(map(int, line.split(","))) for line in town.driving_times().splitlines()[1:]]
     insert(database, "travel", [(first_day, 0, 0, 0), *((first_day, *it) for it in times)])
 
 
-def write_riders(database, people, today):
-    insert(database, "riders", ((it.id, int(it.kind == "visitor"), int(it.attendant)) for it in people))
+def write_riders(database: sqlite3.Connection, people: list[town.Rider], today: int) -> None:
+    insert(
+        database, "riders", ((it.id, int(it.kind == "visitor"), int(it.attendant)) for it in people)
+    )
     insert(database, "rider_chairs", ((it.id,) for it in people if it.wheelchair))
     for rider in people:
         if rider.kind == "resident":
             insert(
                 database,
                 "entries",
-                (entry_row(rider.id, place, it, today) for place, it in enumerate(past.entries_of(rider.id, day_of(today)))),
+                (
+                    entry_row(rider.id, place, it, today)
+                    for place, it in enumerate(past.entries_of(rider.id, day_of(today)))
+                ),
             )
 
 
-def entry_row(rider, place, entry, today):
+def entry_row(rider: int, place: int, entry: past.Entry, today: int) -> tuple[str | int, ...]:
     are_days = entry.kind in ("grant", "appeal granted", "suspend")
     a, b = (-1 if it is None else it + today * are_days for it in (entry.a, entry.b))
-    return rider, place, past.KINDS[entry.kind], today + entry.day, entry.author, a, b, entry.conditions, entry.words
+    return (
+        rider,
+        place,
+        past.KINDS[entry.kind],
+        today + entry.day,
+        entry.author,
+        a,
+        b,
+        entry.conditions,
+        entry.words,
+    )
 
 
-def write_trips(database, trips):
+def write_trips(
+    database: sqlite3.Connection, trips: list[tuple[past.Trip, datetime.date, int]] | Iterable[Any]
+) -> None:
     """Adds trips, each with its stops, under the numbers that follow the last one given."""
     number = database.execute("SELECT last_trip FROM desk").fetchone()[0]
-    stops = {}
+    stops: dict[tuple[int, int], list[Any]] = {}
     for number, (it, day, status) in enumerate(trips, number + 1):
         by = -1 if it.by is None else it.by
         insert(
@@ -140,12 +159,22 @@ def write_trips(database, trips):
         insert(
             database,
             "stops",
-            ((vehicle, day, place, trip, kind) for place, (_, trip, kind) in enumerate(sorted(route))),
+            (
+                (vehicle, day, place, trip, kind)
+                for place, (_, trip, kind) in enumerate(sorted(route))
+            ),
         )
     database.execute("UPDATE desk SET last_trip = ?", (number,))
 
 
-def write_office(file, people, keys, today, trips, first_offset):
+def write_office(
+    file: str,
+    people: list[town.Rider],
+    keys: dict[str, str],
+    today: datetime.date,
+    trips: Iterable[Any],
+    first_offset: int,
+) -> None:
     """Fills an empty desk of this file. The agency begins some weeks before today."""
     with closing(sqlite3.connect(file)) as database, database:
         write_callers(database, keys)
@@ -154,7 +183,7 @@ def write_office(file, people, keys, today, trips, first_offset):
         write_trips(database, trips)
 
 
-def end_trips(database, today, minute):
+def end_trips(database: sqlite3.Connection, today: datetime.date, minute: int) -> None:
     """Says of each trip that is over that it was ridden, where nobody said how it ended."""
     database.execute(
         "UPDATE trips SET status = ? WHERE status = ? AND (day < ? OR day = ? AND window_to + 40 <= ?)",

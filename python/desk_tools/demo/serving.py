@@ -1,14 +1,24 @@
 """A desk that is started, asked and stopped."""
+
+from __future__ import annotations
+
 import contextlib
 import http.client
 import json
-import random
-import socket
 import subprocess
 import time
-from collections import namedtuple
+from typing import Any, NamedTuple
 
-Reply = namedtuple("Reply", "status body")
+from desk_tools.ports import free_port
+
+
+class Reply(NamedTuple):
+    """The desk's reply: its status, and its body as JSON has it."""
+
+    status: int
+    body: Any
+
+
 SECONDS, MOST_CONNECTIONS, PAUSE = 120, 1_000_000, 0.05
 
 
@@ -21,25 +31,16 @@ class TakenPort(Trouble):
 
 
 TRIES, TAKEN = 5, "fault 6 "
-# Above these, Linux gives ports to connections that begin, so one that was free is taken a moment later.
-PORTS = range(10_000, 32_768)
 
 
-def free_port():
-    """A port that nobody listens at and that no connection is given."""
-    for port in random.sample(PORTS, 100):
-        with socket.socket() as tried, contextlib.suppress(OSError):
-            tried.bind(("127.0.0.1", port))
-            return port
-    raise Trouble(f"no port of 100 between {PORTS[0]} and {PORTS[-1]} is free")
-
-
-def ran(program, *words):
+def ran(program: str, *words: str | int) -> subprocess.CompletedProcess[bytes]:
     """How a command of the desk ends, and what it prints. A key among the words is one of the demonstration's."""
-    return subprocess.run([program, *map(str, words)], capture_output=True, stdin=subprocess.DEVNULL, check=False)
+    return subprocess.run(
+        [program, *map(str, words)], capture_output=True, stdin=subprocess.DEVNULL, check=False
+    )
 
 
-def end(process, seconds=10):
+def end(process: subprocess.Popen[bytes], seconds: int = 10) -> None:
     """Ends a process that this program started."""
     if process.poll() is None:
         process.terminate()
@@ -53,10 +54,11 @@ def end(process, seconds=10):
 class Desk:
     """A desk that serves a file on a free port of this machine. What it says goes to the file `said`."""
 
-    def __init__(self, program, file, zone, said):
-        self.words, self.said, self.port, self.process = [program, "serve", file, zone], said, free_port(), None
+    def __init__(self, program: str, file: str, zone: str, said: str) -> None:
+        self.words, self.said, self.port = [program, "serve", file, zone], said, free_port()
+        self.process: Any = None
 
-    def start(self):
+    def start(self) -> Any:
         """Starts it; another program may have taken the port meanwhile, and then it gets another one."""
         for _ in range(TRIES - 1):
             with contextlib.suppress(TakenPort):
@@ -64,12 +66,16 @@ class Desk:
             self.port = free_port()
         return self.start_once()
 
-    def start_once(self):
+    def start_once(self) -> None:
         words = [*self.words, str(self.port), str(MOST_CONNECTIONS)]
         with open(self.said, "wb") as output:
             # A group of its own, so that Ctrl+C goes to the office alone, which then ends it.
             self.process = subprocess.Popen(
-                words, stdin=subprocess.DEVNULL, stdout=output, stderr=output, start_new_session=True
+                words,
+                stdin=subprocess.DEVNULL,
+                stdout=output,
+                stderr=output,
+                start_new_session=True,
             )
         try:
             self.wait_until_open()
@@ -77,36 +83,42 @@ class Desk:
             self.stop()
             raise
 
-    def wait_until_open(self):
+    def wait_until_open(self) -> None:
         while not self.says().startswith("listening"):
             if self.has_ended():
                 is_taken = self.says().startswith(TAKEN)
-                raise (TakenPort if is_taken else Trouble)(f"the desk does not open {self.words[2]}: it says '{self.says() or 'nothing'}'")
+                raise (TakenPort if is_taken else Trouble)(
+                    f"the desk does not open {self.words[2]}: it says '{self.says() or 'nothing'}'"
+                )
             time.sleep(PAUSE)
 
-    def says(self):
+    def says(self) -> str:
         """The first whole line that it said, or nothing."""
         with open(self.said, encoding="utf-8", errors="replace") as file:
             line = file.readline()
         return line.strip() if line.endswith("\n") else ""
 
-    def stop(self):
+    def stop(self) -> None:
         """Ends it. What was answered is on the disk."""
         if self.process:
             end(self.process)
             self.process = None
 
-    def has_ended(self):
+    def has_ended(self) -> bool:
         return self.process is not None and self.process.poll() is not None
 
-    def __enter__(self):
+    def status(self) -> Any:
+        """With which status it ended, or None."""
+        return self.process.poll() if self.process else None
+
+    def __enter__(self) -> Any:
         self.start()
         return self
 
-    def __exit__(self, *_):
+    def __exit__(self, *_: Any) -> None:
         self.stop()
 
-    def ask(self, method, path, key, number=None, body=None):
+    def ask(self, method: Any, path: str, key: Any, number: Any = None, body: Any = None) -> Any:
         """The reply to a request. A write whose reply was not seen is sent once more under its number."""
         headers = {"Desk-Key": key, **({} if number is None else {"Desk-Number": str(number)})}
         content = None if body is None else json.dumps(body, separators=(",", ":"))
@@ -119,7 +131,7 @@ class Desk:
         except (OSError, http.client.HTTPException) as error:
             raise Trouble(f"the desk does not answer {method} {path}: {error}") from None
 
-    def asked_once(self, method, path, headers, content):
+    def asked_once(self, method: Any, path: str, headers: Any, content: Any) -> Any:
         line = http.client.HTTPConnection("127.0.0.1", self.port, timeout=SECONDS)
         try:
             line.request(method, path, content, headers)

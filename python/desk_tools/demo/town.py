@@ -2,13 +2,21 @@
 
 All of it comes from a fixed seed, so each office has the same town. No person here is real.
 """
+
+from __future__ import annotations
+
 import datetime
 import math
 import random
-from collections import namedtuple
+from typing import Any, NamedTuple
 
 SEED = 20
-NAME, TELEPHONE, ZONE_NAME, ZONE_RULE = "Chervil Falls Transit", "555-0100", "America/Chicago", "CST6CDT,M3.2.0,M11.1.0"
+NAME, TELEPHONE, ZONE_NAME, ZONE_RULE = (
+    "Chervil Falls Transit",
+    "555-0100",
+    "America/Chicago",
+    "CST6CDT,M3.2.0,M11.1.0",
+)
 LATITUDE, LONGITUDE = 43.6000, -90.9000
 # Degrees of a foot, near enough for a made town.
 NORTH, EAST = 1 / 364_600, 1 / 264_000
@@ -58,7 +66,7 @@ PLACES = [
     (29, "26 Orchard Lane", "two steps, the rider needs an arm", -7_000, 1_500, False),
     (30, "Harbor House", "ask for the night manager", 2_500, 3_200, False),
 ]
-DEPOTS, SHELTER, OWN_HOME, FAIRGROUND, HOSPITAL, DIALYSIS = (1, 2), 30, 29, 17, 4, 5
+SHELTER, OWN_HOME, HOSPITAL, DIALYSIS = 30, 29, 4, 5
 HOMES = [20, 20, 21, 21, 22, 23, 24, 24, 25, 26, 27, 28, 28]
 ERRANDS = [3, 4, 4, 7, 8, 8, 9, 10, 11, 12, 13, 14, 14, 15, 16, 18, 19]
 WORK = [6, 6, 9, 14, 15, 18]
@@ -76,7 +84,15 @@ LINES = [
         360,
         1_260,
     ),
-    (4, "4 Hospital and College", [[-12_000, -9_000], [0, -5_000], [12_000, -8_000]], True, EACH_DAY, 360, 1_320),
+    (
+        4,
+        "4 Hospital and College",
+        [[-12_000, -9_000], [0, -5_000], [12_000, -8_000]],
+        True,
+        EACH_DAY,
+        360,
+        1_320,
+    ),
     (5, "5 Hilltop", [[0, 0], [-9_000, 12_000], [-15_000, 14_000]], False, NO_SUNDAY, 390, 1_170),
     (6, "6 Crosstown", [[-18_000, -6_000], [18_000, 6_000]], True, WORKDAYS, 360, 1_140),
     (7, "7 Market", [[4_000, -14_000], [8_000, -6_000], [10_000, 0]], True, EACH_DAY, 420, 1_080),
@@ -123,22 +139,40 @@ AIDS = ["", "", "", "cane", "walker", "walker", "white cane"]
 
 FIRST_RIDER, RIDERS, VISITORS = 101, 200, 10
 
-# A rider: number, name, kind, attendant, wheelchair, home, outings, and the columns of the roster.
-Rider = namedtuple("Rider", "id name kind attendant wheelchair home outings telephone language aid note")
-# An outing: weekdays, the place, the minute of the wish out, by when to be there (or None), the wish back.
-Outing = namedtuple("Outing", "days place out by back")
+
+class Rider(NamedTuple):
+    """A rider: number, name, kind, attendant, wheelchair, home, outings, and the columns of the
+    roster."""
+
+    id: int
+    name: str
+    kind: Any
+    attendant: Any
+    wheelchair: Any
+    home: int
+    outings: list[Outing]
+    telephone: str
+    language: str
+    aid: str
+    note: str
 
 
-def position(x, y):
+class Outing(NamedTuple):
+    """An outing: weekdays, the place, the minute of the wish out, by when to be there (or None),
+    the wish back."""
+
+    days: Any
+    place: int
+    out: int
+    by: int | None
+    back: int | None
+
+
+def position(x: int, y: int) -> tuple[float, float]:
     return round(LATITUDE + y * NORTH, 6), round(LONGITUDE + x * EAST, 6)
 
 
-def place_records():
-    """The body of each place's request."""
-    return [{"id": number, "x": x, "y": y, "core": core} for number, _, _, x, y, core in PLACES]
-
-
-def line_records():
+def line_records() -> list[dict[str, Any]]:
     return [
         {
             "id": number,
@@ -153,12 +187,7 @@ def line_records():
     ]
 
 
-def van_records(first_day):
-    names = "days", "depot", "capacity", "chairs", "opens", "closes", "duration"
-    return [{"id": number, "from_day": first_day.isoformat(), **dict(zip(names, rest))} for number, _, *rest in VANS]
-
-
-def driving_times():
+def driving_times() -> str:
     """The table of driving times as CSV: straight lines, somewhat longer, and never less than some minutes."""
     rows = ["from,to,minutes"]
     for start, _, _, x, y, _ in PLACES:
@@ -169,12 +198,12 @@ def driving_times():
     return "\n".join(rows) + "\n"
 
 
-def quarter(chance, first, last):
+def quarter(chance: random.Random, first: int, last: int) -> int:
     """A minute on a quarter of an hour."""
     return 15 * chance.randint(first // 15, last // 15)
 
 
-def outings_of(chance, number):
+def outings_of(chance: random.Random, number: int) -> list[Outing]:
     """Where a rider goes in a week: to dialysis, to work or school, or on errands."""
     turn = number - FIRST_RIDER
     if turn % 25 == 3:
@@ -183,20 +212,32 @@ def outings_of(chance, number):
     if turn % 14 == 5:
         out = quarter(chance, 420, 510)
         return [
-            Outing(chance.choice([WORKDAYS, [1, 2, 4, 5], [1, 3, 5]]), chance.choice(WORK), out, out + 75, out + 480)
+            Outing(
+                chance.choice([WORKDAYS, [1, 2, 4, 5], [1, 3, 5]]),
+                chance.choice(WORK),
+                out,
+                out + 75,
+                out + 480,
+            )
         ]
     outings = []
     for _ in range(chance.choice([0, 1, 1, 1, 2])):
         out = quarter(chance, 510, 870)
         outings.append(
-            Outing([chance.randint(1, 6)], chance.choice(ERRANDS), out, None, out + quarter(chance, 90, 210))
+            Outing(
+                [chance.randint(1, 6)],
+                chance.choice(ERRANDS),
+                out,
+                None,
+                out + quarter(chance, 90, 210),
+            )
         )
     if chance.random() < 0.08:
         outings.append(Outing([7], 16, 570, 630, 720))
     return outings
 
 
-def rider_of(number, name):
+def rider_of(number: int, name: str) -> Rider:
     """The rider of a number, by a chance of that rider alone."""
     chance = random.Random(SEED * 1_000 + number)
     is_visitor = number >= FIRST_RIDER + RIDERS - VISITORS
@@ -241,15 +282,15 @@ SPANISH_NAMES = {
 }
 
 
-def riders():
+def riders() -> list[Rider]:
     """All riders, each with another name."""
-    chance, names = random.Random(SEED), {}
+    chance, names = random.Random(SEED), dict[str, None]()
     while len(names) < RIDERS:
         names[f"{chance.choice(FIRST_NAMES)} {chance.choice(LAST_NAMES)}"] = None
     return [rider_of(FIRST_RIDER + turn, name) for turn, name in enumerate(names)]
 
 
-def agency():
+def agency() -> dict[str, Any]:
     """The agency's one file, from which all that the site serves of it is derived."""
     private = {OWN_HOME: FIRST_RIDER + 7, SHELTER: True}
     places = []
@@ -293,15 +334,20 @@ def agency():
     }
 
 
-def roster_rows(people):
+def roster_rows(people: list[Rider]) -> list[tuple[str | int, ...]]:
     """The rows of the roster, the header first."""
-    rows = [("rider", "name", "telephone", "language", "home", "usual", "aid", "note")]
+    rows: list[tuple[str | int, ...]] = [
+        ("rider", "name", "telephone", "language", "home", "usual", "aid", "note")
+    ]
     for it in people:
-        usual = ";".join(str(place) for place in dict.fromkeys([it.home, *(outing.place for outing in it.outings)]))
+        usual = ";".join(
+            str(place)
+            for place in dict.fromkeys([it.home, *(outing.place for outing in it.outings)])
+        )
         rows.append((it.id, it.name, it.telephone, it.language, it.home, usual, it.aid, it.note))
     return rows
 
 
-def days_from(day, first, last):
+def days_from(day: Any, first: Any, last: Any) -> Any:
     """The days from one that lies `first` days after a day to one that lies `last` days after it."""
     return [day + datetime.timedelta(days=it) for it in range(first, last + 1)]

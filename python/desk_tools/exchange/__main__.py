@@ -1,7 +1,7 @@
 """Writes a day's trips for another dispatch system, as TCRP 210 transactional data in JSON.
 
-  bin/trip-exchange /var/lib/desk-site --key FILE --day 2026-03-02 --output trips.json
-  bin/trip-exchange /var/lib/desk-site --key FILE --plan
+  bin/trip-exchange /var/lib/desk-site/main --key FILE --day 2026-03-02 --output trips.json
+  bin/trip-exchange /var/lib/desk-site/main --key FILE --plan
 
 The names of objects and fields are those of TCRP Report 210 as they were remembered: nobody has compared them with the
 report. Compare them with the other system's own example before you send anything. docs/GUIDE.md, "What other dispatch
@@ -20,12 +20,13 @@ from collections import Counter
 from pathlib import Path
 from typing import Any
 
-from desk_tools import ending, whole_file
+from desk_tools import ending
 from desk_tools.arguments import day_of
 from desk_tools.asking import Desk, NotAnswered, Refused, key_in
 from desk_tools.counting import counted
 from desk_tools.exchange import reading
 from desk_tools.exchange.telegrams import SPECIFICATION, trip_of
+from desk_tools.setup import whole_file
 
 LOG = logging.getLogger("bin/trip-exchange")
 DONE, FAILED, WRONG, NOT_ANSWERED = range(4)

@@ -1,6 +1,6 @@
 """Checks a GTFS-Flex feed: required, forbidden and conditional fields, forms, references and zones.
 
-Its tables follow the GTFS Schedule reference and were not compared with that text. No validator is in Debian, and this is
+Its tables were written from memory of the GTFS Schedule reference, and nobody has compared them: Debian has neither that text nor a validator. This is
 no replacement for the validator of the reference's authors.
 """
 

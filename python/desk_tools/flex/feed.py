@@ -75,10 +75,15 @@ def clock(minute: int) -> str:
     return f"{minute // 60:02}:{minute % 60:02}:00"
 
 
-def geojson_of(zones: dict[Hours, list[Line]], position: Position) -> dict[str, object]:
-    """locations.geojson: a zone for each set of hours."""
+def geojson_of(
+    zones: dict[Hours, list[Line]],
+    position: Position,
+    show: Callable[[int], None] = lambda done: None,
+) -> dict[str, object]:
+    """locations.geojson: a zone for each set of hours. `show` gets how many are drawn."""
     features = []
     for at, lines in enumerate(zones.values(), 1):
+        show(at - 1)
         polygons = [[_ring(ring, position) for ring in it] for it in polygons_of(lines)]
         features.append(
             {
@@ -178,7 +183,7 @@ def _booking(service: Service) -> dict[str, str]:
         "prior_notice_last_time": clock(service.until),
         "prior_notice_start_day": str(FIRST_DAY),
         "prior_notice_start_time": "00:00:00",
-        "message": "For riders who are eligible under the ADA. Book 1 to 14 days ahead.",
+        "message": f"For riders who are eligible under the ADA. Book {LAST_DAY} to {FIRST_DAY} days ahead.",
         "phone_number": service.telephone,
         "info_url": service.url,
         "booking_url": service.url,

@@ -1,7 +1,7 @@
 """deploy/health: answers /health and /metrics on a port of this machine alone.
 
 /health is 200 with the program's version and the seconds since the last answered write, or 503 where the desk does not
-answer; /health/AGENCY is that of one of several agencies. /metrics has the figures in Prometheus' text form: requests
+answer; /health/AGENCY is that of another agency than `main`. /metrics has the figures in Prometheus' text form: requests
 by path class and status, the time taken, refused keys, the age of the backup, the file's size, troubles. A desk is asked
 once in five seconds at most, whoever asks here.
 """
@@ -20,7 +20,7 @@ import time
 from dataclasses import dataclass, field
 from pathlib import Path
 
-from desk_tools import ending
+from desk_tools import agencies, ending
 from desk_tools.health.access_log import Follower
 from desk_tools.health.figures import Figures, text_of
 
@@ -43,7 +43,9 @@ class Desks:
     def ports(self) -> dict[str, int]:
         """The port of each desk by its unit, as the watch saw them."""
         told = self.figures.seen().get("ports") or {}
-        return {unit: int(port) for unit, port in told.items()} or {"desk": self.port}
+        return {unit: int(port) for unit, port in told.items()} or {
+            agencies.Agency().unit: self.port
+        }
 
     def answers(self, unit: str) -> bool:
         """Whether the desk answers."""
@@ -70,7 +72,7 @@ class Desks:
         """The status and the text for one desk."""
         with self.turn:
             ports = self.ports()
-            unit = f"desk@{agency}" if agency else "desk"
+            unit = agencies.Agency(agency or agencies.MAIN).unit
             if unit not in ports:
                 return 404, '{"denied":"http.path"}'
             self.figures.look()
@@ -142,7 +144,7 @@ def main(arguments: list[str]) -> int:
     words.add_argument("--desk", type=int, default=DESKS_PORT, help="where the watch saw none yet")
     words.add_argument("--log", type=Path, default=Path("/var/log/nginx/access.log"))
     words.add_argument("--seen", type=Path, default=Path("/run/desk-watch.json"))
-    words.add_argument("--program", default="/usr/local/bin/desk")
+    words.add_argument("--program", default="/usr/bin/desk")
     told = words.parse_args(arguments)
     desks = Desks(Figures(Follower(told.log), told.seen), told.program, told.desk)
     try:

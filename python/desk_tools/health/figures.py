@@ -126,7 +126,7 @@ def lines_of_desks(figures: Figures, seen: dict[str, Any], units: list[str]) -> 
     kinds.append(
         (
             "desk_last_write_seconds",
-            "Seconds since the desk's file changed or a write was answered.",
+            "Seconds since the site last answered a write, by its log of today.",
             told,
         )
     )

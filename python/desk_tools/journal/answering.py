@@ -15,10 +15,10 @@ from desk_tools.journal import chain, questions, shown
 from desk_tools.journal.people import Damaged
 from desk_tools.journal.places import Wrong
 from desk_tools.journal.words import LANGUAGES
+from desk_tools.town.cells import HIGHEST_NUMBER
 
 # A question may take as long as the site waits for its answer.
 SECONDS = 150
-HIGHEST = 4_294_967_295
 LOG = logging.getLogger("journal")
 # All that a question needs, for its first and last day and in its language.
 Ask = Callable[[date | None, date | None, str], questions.Asked]
@@ -61,8 +61,8 @@ def answered(path: str, ask: Ask) -> questions.Answer | None:
         or language not in LANGUAGES
         or not number.isascii()
         or not number.isdecimal()
-        or len(number) > len(str(HIGHEST))
-        or not 0 < int(number) <= HIGHEST
+        or len(number) > len(str(HIGHEST_NUMBER))
+        or not 0 < int(number) <= HIGHEST_NUMBER
     ):
         return None
     return OF_NUMBER[name](ask(first, last, language), int(number))

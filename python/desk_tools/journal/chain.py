@@ -11,10 +11,13 @@ import hashlib
 import json
 import os
 import re
+import zlib
 from collections.abc import Iterator
 from dataclasses import dataclass
 from pathlib import Path
 from typing import Any
+
+from desk_tools.setup import whole_file
 
 FIRST = "0" * 64
 # How nginx begins each line, and how this tool begins that of driving times.
@@ -94,7 +97,7 @@ def raw_lines(file: File) -> Iterator[bytes]:
     try:
         with gzip.open(file.path, "rb") if file.is_packed else file.path.open("rb") as content:
             yield from content
-    except (EOFError, gzip.BadGzipFile, OSError, ValueError) as error:
+    except (EOFError, OSError, ValueError, zlib.error) as error:
         raise Broken(f"{file.path.name} can't be read: {error}") from None
 
 
@@ -148,15 +151,6 @@ def safe(line: bytes) -> bytes:
 def noted(kind: str, **fields: Any) -> bytes:
     """The line of a note."""
     return json.dumps({"note": kind, **fields}).encode()
-
-
-def synced(folder: Path) -> None:
-    """Puts on the disk which names a folder has."""
-    number = os.open(folder, os.O_RDONLY | os.O_DIRECTORY)
-    try:
-        os.fsync(number)
-    finally:
-        os.close(number)
 
 
 class Writer:
@@ -224,7 +218,7 @@ class Writer:
         number = self.file.number + 1 if self.file else 1
         path = self.folder / f"{number:06}-{day}.jsonl"
         os.close(os.open(path, os.O_WRONLY | os.O_CREAT | os.O_EXCL, 0o640))
-        synced(self.folder)
+        whole_file.folder_synced(self.folder)
         before, self.file, self.day, self.count = self.chain, File(number, day, path), day, 0
         self.add(
             noted("opened", file=number, day=day, site=site, at=at, before=before, part=self.part)
@@ -247,6 +241,6 @@ def pack(file: File) -> File:
         os.fsync(there.fileno())
     os.chmod(new, 0o640)
     os.replace(new, packed)
-    synced(packed.parent)
+    whole_file.folder_synced(packed.parent)
     file.path.unlink()
     return File(file.number, file.day, packed)

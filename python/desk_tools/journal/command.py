@@ -7,7 +7,7 @@ from collections.abc import Callable
 from datetime import date, datetime
 from pathlib import Path
 
-from desk_tools import ending
+from desk_tools import agencies, ending, installed
 from desk_tools.journal import (
     answering,
     chain,
@@ -20,16 +20,17 @@ from desk_tools.journal import (
     retention,
 )
 from desk_tools.journal import sheets, signing, taking, travelling, verifying
-from desk_tools.journal.places import AGENCY, FOLDER, Places, Wrong, agency_of, zone_of
+from desk_tools.journal.places import AGENCY, FOLDER, MAIN, Places, Wrong, agency_of, zone_of
 from desk_tools.journal.words import LANGUAGES, Words
+from desk_tools.town.cells import HIGHEST_NUMBER
 
 DONE, NOT_DONE, WRONG_WORDS, ENDS_EARLY, UNEXPLAINED = 0, 1, 2, 3, 4
 ROSTER, KEY, PUBLIC = (
-    Path("/etc/desk/roster.csv"),
-    Path("/etc/desk/keys/record"),
-    Path("/etc/desk/record.pub"),
+    Path(MAIN.own("roster.csv")),
+    agencies.RECORD_KEY,
+    agencies.RECORD_PUBLIC,
 )
-CORRECTIONS = Path("/var/lib/desk-site/staff/corrections.csv")
+CORRECTIONS = Path(MAIN.corrections)
 EPILOG = """The exit status is 0 done, 1 the record does not hold or something could not be done, 2 wrong words, 3 the record ends
 too early, 4 the file has rows that no line explains. docs/RECORDS.md says what is kept, how long, and who may see it."""
 
@@ -42,16 +43,28 @@ def day(text: str) -> date:
         raise argparse.ArgumentTypeError(f"{text!r} is no day such as 2026-11-29") from None
 
 
+def record_number(text: str) -> int:
+    """The number of a rider, a trip or a caller. Lines that name none have 0, so no question is about that."""
+    if not (text.isascii() and text.isdecimal() and 0 < int(text) <= HIGHEST_NUMBER):
+        raise argparse.ArgumentTypeError(f"{text!r} is no number from 1 to {HIGHEST_NUMBER}")
+    return int(text)
+
+
 def places_of(words: argparse.Namespace) -> Places:
     """The record's folder, the site's name and the zone."""
     agency = agency_of(words.agency)
     return Places(words.folder, words.site, zone_of(agency))
 
 
+def has_record(places: Places) -> bool:
+    """Whether the folder has lines of a record, taken or still to be taken."""
+    return places.requests.exists() or bool(places.parts() or chain.files_in(places.record))
+
+
 def asked_of(words: argparse.Namespace) -> questions.Asked:
     """All that a question needs."""
     places = places_of(words)
-    if not places.folder.is_dir():
+    if not has_record(places):
         raise Wrong(f"there is no record in {places.folder}")
     riders = names.riders_of_trips(words.copy) if words.copy else {}
     known = names.of_agency(agency_of(words.agency), words.roster, Words(words.language))
@@ -92,8 +105,12 @@ def take(words: argparse.Namespace) -> int:
         if said := verifying.close(places, file, words.key):
             broken.append(said)
 
-    added = taking.take(places, words.nginx_pid, finish)
-    added += corrections.take(places, words.corrections)
+    added, unread = taking.take(places, words.nginx_pid, finish), ""
+    try:
+        added += corrections.take(places, words.corrections)
+    except Wrong as error:
+        # (a table that can't be read keeps nothing from being sent elsewhere)
+        unread = str(error)
     with places.locked():
         head = signing.head_of(chain.files_in(places.record)[-1])
         if words.offsite:
@@ -105,7 +122,9 @@ def take(words: argparse.Namespace) -> int:
     print(f"{added} lines taken; the record ends with entry {head.last}")
     for said in broken:
         logging.error("the record does not hold, and this day is not signed: %s", said)
-    return NOT_DONE if broken else DONE
+    if unread:
+        logging.error("%s", unread)
+    return NOT_DONE if broken or unread else DONE
 
 
 def verify(words: argparse.Namespace) -> int:
@@ -203,7 +222,7 @@ def question(
     """The parser of a question."""
     parser = parsers.add_parser(name, help=about, description=about)
     if number:
-        parser.add_argument("number", type=int, metavar=number)
+        parser.add_argument("number", type=record_number, metavar=number)
     parser.add_argument("--from", dest="first", type=day, metavar="DAY", help="from this day on")
     parser.add_argument("--to", dest="last", type=day, metavar="DAY", help="up to this day")
     parser.add_argument(
@@ -336,7 +355,7 @@ def add_check(parsers: "argparse._SubParsersAction[argparse.ArgumentParser]") ->
     one.set_defaults(do=check)
     one.add_argument("before", type=Path, metavar="BEFORE.db")
     one.add_argument("after", type=Path, metavar="AFTER.db")
-    one.add_argument("--program", type=Path, default=Path("/usr/bin/desk"), help="the desk")
+    one.add_argument("--program", type=Path, default=installed.program(), help="the desk")
     one.add_argument(
         "--zone",
         required=True,
@@ -387,9 +406,11 @@ def add_keeping(parsers: "argparse._SubParsersAction[argparse.ArgumentParser]") 
     one.add_argument(
         "--plan", action="store_true", help="says what would be removed, and removes nothing"
     )
-    one.add_argument("--tally", type=Path, default=Path("/var/log/desk"))
+    one.add_argument(
+        "--tally", type=Path, default=Path(MAIN.tally), help=f"the site's log ({MAIN.tally})"
+    )
     one.add_argument("--exports", type=Path, default=Path("/var/lib/desk-exports"))
-    one.add_argument("--backups", type=Path, default=Path("/var/backups/desk"))
+    one.add_argument("--backups", type=Path, default=Path(MAIN.backups))
 
 
 def add_travel(parsers: "argparse._SubParsersAction[argparse.ArgumentParser]") -> None:
@@ -406,7 +427,7 @@ def add_travel(parsers: "argparse._SubParsersAction[argparse.ArgumentParser]") -
     one.add_argument("number", type=int, metavar="NUMBER", help="the caller's next number")
     one.add_argument("day", metavar="DAY", help="from which day on")
     one.add_argument("table", type=Path, metavar="TIMES.csv")
-    one.add_argument("--program", type=Path, default=Path("/usr/bin/desk"), help="the desk")
+    one.add_argument("--program", type=Path, default=installed.program(), help="the desk")
 
 
 def parser_of() -> argparse.ArgumentParser:
@@ -443,11 +464,9 @@ def main(arguments: list[str]) -> int:
         sys.stdout.flush()
         return status
     except people.Damaged as error:
-        print(f"bin/journal: {error}", file=sys.stderr)
-        return WRONG_WORDS
+        return ending.told("bin/journal", error, WRONG_WORDS)
     except (Wrong, chain.Broken, OSError) as error:
-        print(f"bin/journal: {error}", file=sys.stderr)
-        return NOT_DONE
+        return ending.told("bin/journal", error, NOT_DONE, "the record")
 
 
 if __name__ == "__main__":

@@ -7,6 +7,7 @@ there are the first digits of its digest alone.
 
 import contextlib
 import hashlib
+import re
 import sqlite3
 from collections.abc import Iterable
 from dataclasses import dataclass, replace
@@ -26,6 +27,10 @@ from desk_tools.town import sheets as tables
 COLUMNS = ("number", "name", "role", "subject", "from", "to", "digits", "alike")
 DIGITS = 12
 UPTO = "up to entry "
+IS_DIGITS = re.compile(r"[0-9a-fA-F]{12}")
+# A moment as lines have it, or a day by hand.
+IS_MOMENT = re.compile(r"\d{4}-\d\d-\d\d(T\d\d:\d\d:\d\d\.\d{3}Z)?", re.ASCII)
+A_MOMENT = "2026-11-29T12:00:00.000Z"
 # Bytes that no name has and that an older version let by.
 CONTROLS = bytes([*range(0x09), *range(0x0E, 0x20), 0x7F])
 
@@ -212,6 +217,15 @@ def row_of(fields: dict[str, str]) -> Person:
         raise ValueError("it has no number")
     if got["role"] not in ROLES:
         raise ValueError(f"its role is none of {', '.join(ROLES)}")
+    # (a spreadsheet takes digits such as 123456789012 or 12e456789012 for a number, and a day for its own)
+    if got["digits"] and not IS_DIGITS.fullmatch(got["digits"]):
+        raise ValueError(
+            f"its digits {got['digits'][:20]!r} are not {DIGITS} of 0 to 9 and a to f: did a spreadsheet change them? "
+            f"Import that column as text"
+        )
+    for name in ("from", "to"):
+        if got[name] and not IS_MOMENT.fullmatch(got[name]):
+            raise ValueError(f"{name} is {got[name][:30]!r}, which is no moment such as {A_MOMENT}")
     subject = int(got["subject"]) if got["subject"].isdecimal() else 0
     name = shown.plain(got["name"].removeprefix("'"))
     moments = got["from"], got["to"]

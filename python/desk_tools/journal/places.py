@@ -10,7 +10,10 @@ from datetime import datetime, timezone, tzinfo
 from pathlib import Path
 from zoneinfo import ZoneInfo, ZoneInfoNotFoundError
 
-FOLDER, AGENCY = Path("/var/log/desk/journal"), Path("/etc/desk/agency.json")
+from desk_tools import agencies
+
+MAIN = agencies.Agency()
+FOLDER, AGENCY = Path(MAIN.record), Path(MAIN.names)
 # The line that nginx writes to, and what it wrote before it was told to begin anew.
 REQUESTS, PART = "requests", "part-"
 

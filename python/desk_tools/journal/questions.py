@@ -240,12 +240,11 @@ def of_keys(asked: Asked) -> Answer:
         for it in asked.events(reader, history, lambda raw: borrowing.CALLERS in raw)
         if it.kind == "key" and not (it.was_done and not history.is_change(it.turn))
     ]
-    rows = [
-        (*row_of(asked, it, history), "; ".join(found_of(asked, it, history)))
-        for it in found
-        if asked.is_of_days(it.line)
-    ]
-    notes = notes_of(asked, reader, asked.people.rows)
+    found = [it for it in found if asked.is_of_days(it.line)]
+    rows = [(*row_of(asked, it, history), "; ".join(found_of(asked, it, history))) for it in found]
+    notes = notes_of(asked, reader, asked.people.rows) + far_of(asked, found)
+    if any(it.was_done and not it.people for it in found):
+        notes.append(asked.words.said("note-keys-nobody"))
     return Answer(
         asked.titled("title-keys"), (*COLUMNS, "note"), rows, notes, asked.warning(reader)
     )
@@ -304,7 +303,8 @@ def of_own(asked: Asked, rider: int) -> Answer:
         who = own_who(words, event, rider, history)
         rows.append((asked.when(event.line), who, what, event.outcome, details))
     title = asked.titled("title-own", rider=asked.names.rider(rider))
-    return Answer(title, OWN_COLUMNS, rows, far_of(asked, found), asked.warning(reader))
+    notes = [*far_of(asked, found), words.said("note-own")]
+    return Answer(title, OWN_COLUMNS, rows, notes, asked.warning(reader))
 
 
 def own_who(words: Words, event: Event, rider: int, history: History) -> str:

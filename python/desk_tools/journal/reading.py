@@ -2,6 +2,7 @@
 
 import logging
 from collections.abc import Callable, Iterator
+from contextlib import suppress
 from datetime import date, timedelta
 from pathlib import Path
 from typing import Any
@@ -79,15 +80,21 @@ class Reader:
             self.broken = str(broken)
 
     def checked(self, file: chain.File, is_last: bool) -> Iterator[chain.Entry]:
-        """The entries of a file, each looked at. The unit may just write the last line of all."""
+        """The entries of a file, each looked at. The unit may just write the last line of all.
+
+        A file that can't be read to its end keeps no answer from the other files: it is what does not hold.
+        """
         checker = verifying.Checker(self.seen, file)
-        for raw in chain.raw_lines(file):
-            if is_last and not raw.endswith(b"\n"):
-                break
-            self.tries(lambda line=raw: checker.line(line))  # type: ignore[misc]
-            entry = chain.entry_of(raw)
-            if entry and raw.endswith(b"\n"):
-                yield entry
+        try:
+            for raw in chain.raw_lines(file):
+                if is_last and not raw.endswith(b"\n"):
+                    break
+                self.tries(lambda line=raw: checker.line(line))  # type: ignore[misc]
+                entry = chain.entry_of(raw)
+                if entry and raw.endswith(b"\n"):
+                    yield entry
+        except chain.Broken as broken:
+            self.broken = self.broken or str(broken)
         self.tries(lambda: checker.end(is_last))
 
     def raw(self) -> Iterator[tuple[int, bytes]]:
@@ -120,11 +127,12 @@ class Reader:
 
 
 def notes_of(places: Places, kind: str) -> Iterator[dict[str, Any]]:
-    """The notes of this tool of one kind."""
+    """The notes of this tool of one kind. A file is left out from where it can't be read: a reader that checks names it."""
     for file in chain.files_in(places.record):
-        for entry in chain.entries_of(file):
-            if entry.note == kind:
-                yield entry.fields
+        with suppress(chain.Broken):
+            for entry in chain.entries_of(file):
+                if entry.note == kind:
+                    yield entry.fields
 
 
 def waiting(path: Path, taken: int) -> Iterator[tuple[int, bytes]]:

@@ -10,12 +10,10 @@ import heapq
 import http.client
 import json
 import os
-import random
 import re
 import secrets
 import shlex
 import shutil
-import socket
 import sqlite3
 import subprocess
 import tempfile
@@ -25,13 +23,14 @@ from datetime import date, datetime, timedelta, timezone
 from pathlib import Path
 from typing import Any
 
+from desk_tools.ports import free_port
 from desk_tools.journal import lines, reading
 from desk_tools.journal.lines import Line, object_of
 from desk_tools.journal.people import People
 from desk_tools.journal.places import Places, Wrong
 from desk_tools.tables import KEYS
 
-FIRST_PORT, LAST_PORT, SECONDS, TRIES = 10_000, 32_767, 60, 3
+SECONDS, TRIES = 60, 3
 WRAPPER = """#!/bin/sh
 export LD_PRELOAD={library} FAKETIME_TIMESTAMP_FILE={moment} FAKETIME_NO_CACHE=1 FAKETIME_DONT_FAKE_MONOTONIC=1 TZ=UTC0
 exec {program} "$@"
@@ -328,15 +327,6 @@ class Replay:
             same += alike if table not in ("kept", "desk") else 0
             other += len(keys) - alike
         return same, other
-
-
-def free_port() -> int:
-    """A port that nobody listens on, below those that connections are given."""
-    while True:
-        number = random.randint(FIRST_PORT, LAST_PORT)
-        with contextlib.suppress(OSError), socket.socket() as tried:
-            tried.bind(("127.0.0.1", number))
-            return number
 
 
 def lines_of_all(sites: Sequence[Places], first: date | None) -> Iterator[Line]:

@@ -9,6 +9,7 @@ from pathlib import Path
 from desk_tools.journal import chain, lines, taking
 from desk_tools.journal.lengths import DEFAULTS, HOLD, days_of, hold_of
 from desk_tools.journal.places import Places, Wrong
+from desk_tools.setup import whole_file
 
 LOG = logging.getLogger("journal")
 # However wrong a clock is, one night removes no more days of the record than this.
@@ -109,7 +110,7 @@ def keep_journal(places: Places, rule: Rule, today: date, is_plan: bool) -> list
     )
     for file in old:
         file.path.unlink()
-    chain.synced(places.record)
+    whole_file.folder_synced(places.record)
     return [it.path.name for it in old]
 
 
@@ -138,9 +139,14 @@ def keep(
     is_plan: bool,
     hold: str = "",
 ) -> list[str]:
-    """Keeps to the rules; returns a sentence for each kind. Where there is a hold, nothing is removed."""
+    """Keeps to the rules; returns a sentence for each kind. Where there is a hold, nothing is removed.
+
+    `folders` has the folder of each kind; of the tally it is the log, beside which are those rotated out of it.
+    """
+    log = folders.get("tally")
+    folders = {**folders, "tally": log.parent} if log else folders
     patterns = {
-        "tally": ["tally*.log-*"],
+        "tally": [f"{log.name}-*" if log else ""],
         "exports": ["*"],
         "backups": ["desk-*.db", "machine-*.tar.gz", "before-*.db"],
     }

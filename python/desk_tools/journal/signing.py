@@ -11,6 +11,7 @@ from pathlib import Path
 
 from desk_tools.journal import chain
 from desk_tools.journal.places import Wrong
+from desk_tools.setup import whole_file
 
 SIGNER, PURPOSE, HOUR = "desk", "desk-record", 3300
 LOG = logging.getLogger("journal")
@@ -55,7 +56,7 @@ def written(path: Path, content: bytes, mode: int = 0o640) -> None:
         file.flush()
         os.fsync(file.fileno())
     os.replace(new, path)
-    chain.synced(path.parent)
+    whole_file.folder_synced(path.parent)
 
 
 def ran(*words: str, text: bytes = b"") -> subprocess.CompletedProcess[bytes]:
@@ -139,4 +140,4 @@ def copied(path: Path, folder: Path) -> None:
     with new.open("rb") as file:
         os.fsync(file.fileno())
     os.rename(new, there)
-    chain.synced(folder)
+    whole_file.folder_synced(folder)

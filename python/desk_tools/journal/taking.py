@@ -12,6 +12,7 @@ from pathlib import Path
 
 from desk_tools.journal import chain, lines
 from desk_tools.journal.places import PART, Places
+from desk_tools.setup import whole_file
 
 SECONDS, STEP = 10.0, 0.05
 LOG = logging.getLogger("journal")
@@ -65,7 +66,7 @@ def rotate(places: Places, last: int, pid_file: Path) -> None:
         return
     number = max([last, *(it for it, _ in places.parts())]) + 1
     os.rename(places.requests, places.folder / f"{PART}{number:06}")
-    chain.synced(places.folder)
+    whole_file.folder_synced(places.folder)
     reopen(pid_file)
 
 

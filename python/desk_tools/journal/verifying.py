@@ -28,6 +28,8 @@ class Seen:
     torn: list[int] = field(default_factory=list)
     last: str = ""
     begins: str = ""
+    # Whether the last file that was read is closed.
+    is_closed: bool = False
     removed: dict[int, str] = field(default_factory=dict)
     marks: dict[int, str] = field(default_factory=dict)
     # Where the clock was set back: the entry, the moment there and the one before.
@@ -76,6 +78,7 @@ class Checker:
         if not self.is_closed and not is_last:
             raise chain.Broken(f"{self.file.name} has no end, and another file follows")
         self.seen.files += 1
+        self.seen.is_closed = self.is_closed
 
 
 def read_file(seen: Seen, file: chain.File, is_last: bool) -> None:
@@ -248,5 +251,11 @@ def verify(
         return (
             ENDS_EARLY,
             f"the record ends too early: {told}; the days from then to {today} are not there",
+        )
+    if seen.is_closed:
+        # (a day is closed when the next one's file is opened)
+        return (
+            ENDS_EARLY,
+            f"the record ends too early: {told}; that day is closed, and the file that was opened then is not there",
         )
     return HOLDS, f"the record holds: {told}"

@@ -127,6 +127,7 @@ EN = {
     "title-own": "The record of {rider}",
     "note-unreadable": "{count} lines of the record could not be read.",
     "note-lists": "Files, sheets and manifests have several riders: this rider may be one of them.",
+    "note-own": "Day sheets, manifests and files of several riders may have this rider too. Who read them is not in this copy.",
     "note-alike": "The keys of {people} begin with the same 12 digits, so their lines cannot be told apart. Give each "
     "of them a new key, and ask who made the later one.",
     "note-borrowed": "A BORROWED key stood between two times of the caller's own key, so somebody else may have used it. "
@@ -140,6 +141,8 @@ EN = {
     "note-begins": "The record begins on {day}. What was done before is not in it.",
     "note-no-caller": 'callers.csv has no caller {number}, so what was done by that key stands under "unknown key". '
     "If the caller is older than the record, run bin/journal callers with a backup and ask again.",
+    "note-keys-nobody": "callers.csv doesn't say whose key the unknown one is. If it is older than the record, run bin/journal callers "
+    "with a backup and ask again. If it stays unknown, somebody has a key that nobody gave.",
     "corrected": "corrected the outcome",
     "in-corrections": "in corrections.csv",
     "keys-nobody": "put by a key of nobody whom callers.csv names",
@@ -293,6 +296,7 @@ ES = {
     "title-own": "El registro de {rider}",
     "note-unreadable": "No se pudieron leer {count} líneas del registro.",
     "note-lists": "Los archivos, las hojas del día y las hojas de ruta tienen varios pasajeros: este puede ser uno de ellos.",
+    "note-own": "Las hojas del día, las hojas de ruta y los archivos de varios pasajeros pueden incluir a este. Quién los leyó no está en esta copia.",
     "note-alike": "Las claves de {people} empiezan con los mismos 12 dígitos, así que no se pueden distinguir sus líneas. "
     "Dé a cada uno una clave nueva y pregunte quién hizo la segunda.",
     "note-borrowed": "Una clave PRESTADA reemplazó por un tiempo la clave propia del usuario; quizá la usó otra persona. "
@@ -306,6 +310,8 @@ ES = {
     "note-begins": "El registro empieza el {day}. Lo que se hizo antes no está en él.",
     "note-no-caller": "callers.csv no tiene al usuario {number}, así que lo hecho con su clave aparece como «clave desconocida». "
     "Si el usuario es anterior al registro, ejecute bin/journal callers con una copia y pregunte otra vez.",
+    "note-keys-nobody": "callers.csv no dice de quién es la clave desconocida. Si es anterior al registro, ejecute bin/journal callers "
+    "con una copia y pregunte otra vez. Si sigue desconocida, alguien tiene una clave que nadie le dio.",
     "corrected": "corrigió el resultado",
     "in-corrections": "en corrections.csv",
     "keys-nobody": "la puso una clave que no es de nadie que nombre callers.csv",

@@ -12,9 +12,10 @@ import argparse
 import sys
 from pathlib import Path
 
-from desk_tools import ending, whole_file
+from desk_tools import ending
 from desk_tools.letters import asking, forms
 from desk_tools.letters.forms import NoForm
+from desk_tools.setup import whole_file
 
 FORMS = ("text", "large", "audio", "braille")
 LARGEST = 200_000
@@ -81,13 +82,11 @@ def main(arguments: list[str]) -> int:
     try:
         whole_file.written(words.output, content_of(words))
         return 0
-    except NoForm as error:
-        print(f"bin/letters: {error}", file=sys.stderr)
     except UnicodeDecodeError:
         print(f"bin/letters: {words.key} is no key", file=sys.stderr)
-    except OSError as error:
-        print(f"bin/letters: {error.filename or words.output}: {error.strerror}", file=sys.stderr)
-    return 1
+        return 1
+    except (NoForm, OSError) as error:
+        return ending.told("bin/letters", error, 1, words.output)
 
 
 if __name__ == "__main__":

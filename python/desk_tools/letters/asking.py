@@ -133,11 +133,9 @@ def rider_in(path: Path, rider: int) -> Rider:
     """
     try:
         sheet = sheets.read(path, {it: () for it in ROSTER_COLUMNS})
+        sheets.require(sheet, ("rider", "name"), {it: () for it in ROSTER_COLUMNS})
     except sheets.Unreadable as error:
         raise NoForm(str(error)) from None
-    missing = [it for it in ("rider", "name") if it not in sheet.header]
-    if missing:
-        raise NoForm(f"{path} has no column {missing[0]} in its first row")
     for row in sheet.rows:
         if _is_number(row.fields.get("rider", ""), rider):
             texts = [row.fields.get(it, "") for it in ("name", "language", "home")]

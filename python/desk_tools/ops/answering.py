@@ -2,10 +2,14 @@
 
 A desk serves where it answers a key of nobody with 401, and the same process does so once more a moment later.
 """
+
+from __future__ import annotations
+
 import http.client
 import os
 import subprocess
 import time
+from typing import Any
 
 from .ending import Failure
 
@@ -21,7 +25,7 @@ class NotServing(Failure):
     """The desk was started, and does not serve."""
 
 
-def status_at(port, patience=10):
+def status_at(port: Any, patience: int = 10) -> Any:
     """The status of the answer to a key of nobody, or None."""
     line = http.client.HTTPConnection("127.0.0.1", port, timeout=patience)
     try:
@@ -33,14 +37,20 @@ def status_at(port, patience=10):
         line.close()
 
 
-def shown(unit):
+def shown(unit: Any) -> Any:
     """The state of the unit, and the number of its process. SHOW may be another command, which gets the unit's name."""
     command = os.environ.get("SHOW") or f"systemctl show --property={SHOWN}"
-    told = subprocess.run([*command.split(), unit], capture_output=True, text=True, stdin=subprocess.DEVNULL, check=False)
+    told = subprocess.run(
+        [*command.split(), unit],
+        capture_output=True,
+        text=True,
+        stdin=subprocess.DEVNULL,
+        check=False,
+    )
     return dict(line.split("=", 1) for line in told.stdout.splitlines() if "=" in line)
 
 
-def wait_until_it_serves(unit, port, longest=LONGEST_OPENING):
+def wait_until_it_serves(unit: Any, port: Any, longest: Any = LONGEST_OPENING) -> None:
     """Until the desk serves; where it does not, a failure that says what is so."""
     end, before = time.monotonic() + longest, None
     why = f"did not answer on port {port} within {longest} seconds"

@@ -1,11 +1,17 @@
 """Copies of files whose every step is looked at: read, written, synced, and read back."""
+
+from __future__ import annotations
+
 import contextlib
 import fcntl
 import os
+import pathlib
 import shutil
 import tempfile
 import time
 import zlib
+from collections.abc import Iterator
+from typing import Any
 
 from .ending import WRONG_WORDS, Failure
 
@@ -16,9 +22,11 @@ LEFT_FOR = 60
 FICLONE = 0x40049409
 
 
-def copied(source, target):
+def copied(source: str, target: str) -> tuple[int, int | None]:
     """Copies a file into a new one, and tells the length and the checksum of what was read."""
-    with open(source, "rb", buffering=0) as from_file, open(target, "xb", buffering=0, opener=only_owners) as to_file:
+    with open(source, "rb", buffering=0) as from_file, open(
+        target, "xb", buffering=0, opener=only_owners
+    ) as to_file:
         length = os.fstat(from_file.fileno()).st_size
         if is_cloned(from_file, to_file):
             return length, None
@@ -31,11 +39,11 @@ def copied(source, target):
         return length, checksum
 
 
-def only_owners(path, flags):
+def only_owners(path: str, flags: int) -> int:
     return os.open(path, flags, 0o600)
 
 
-def is_cloned(from_file, to_file):
+def is_cloned(from_file: Any, to_file: Any) -> bool:
     try:
         fcntl.ioctl(to_file.fileno(), FICLONE, from_file.fileno())
     except OSError:
@@ -43,7 +51,7 @@ def is_cloned(from_file, to_file):
     return True
 
 
-def written_whole(file, piece, name):
+def written_whole(file: Any, piece: bytes, name: str) -> int:
     """Writes all of the bytes: a write may take fewer, and says so."""
     rest = memoryview(piece)
     while rest:
@@ -56,7 +64,7 @@ def written_whole(file, piece, name):
 
 
 @contextlib.contextmanager
-def naming(path):
+def naming(path: str) -> Iterator[None]:
     """A fault of the disk meanwhile names the file: the system itself tells it without."""
     try:
         yield
@@ -66,7 +74,7 @@ def naming(path):
         raise
 
 
-def summed(path):
+def summed(path: str) -> tuple[int, int]:
     """The length and the checksum of a file."""
     length = checksum = 0
     with open(path, "rb", buffering=0) as file:
@@ -76,7 +84,7 @@ def summed(path):
     return length, checksum
 
 
-def synced(path):
+def synced(path: str) -> None:
     """What the file or folder holds is on the disk."""
     file = os.open(path, os.O_RDONLY)
     try:
@@ -86,35 +94,41 @@ def synced(path):
         os.close(file)
 
 
-def check_copy(path, said):
+def check_copy(path: str, said: tuple[int, int | None]) -> None:
     """Syncs a copy and reads it back: it has the length and the checksum of what was read from its source."""
     synced(path)
     length, checksum = said
     found = summed(path)
     if found[0] != length or checksum not in (None, found[1]):
-        raise Failure(f"{path} does not hold what was read: {found[0]} bytes for {length}, or other bytes")
+        raise Failure(
+            f"{path} does not hold what was read: {found[0]} bytes for {length}, or other bytes"
+        )
 
 
-def size_of(path):
+def size_of(path: pathlib.Path | str) -> int:
     return os.stat(path).st_size if os.path.exists(path) else 0
 
 
-def check_folder_of(path):
+def check_folder_of(path: Any) -> None:
     """The folder of a file that is to be made is there."""
     folder = os.path.dirname(os.path.abspath(path))
     if not os.path.isdir(folder):
-        raise Failure(f"there is no folder {folder}: make it by install -d -m 700 {folder}", WRONG_WORDS)
+        raise Failure(
+            f"there is no folder {folder}: make it by install -d -m 700 {folder}", WRONG_WORDS
+        )
 
 
-def check_room(folder, needed, what):
+def check_room(folder: str, needed: int, what: str) -> None:
     """There is so much room in the folder for whoever asks."""
     found = os.statvfs(folder)
     free = found.f_frsize * (found.f_bfree if os.geteuid() == 0 else found.f_bavail)
     if free < needed:
-        raise Failure(f"{folder} has {free // 1024} KiB free, and {what} takes {needed // 1024} KiB")
+        raise Failure(
+            f"{folder} has {free // 1024} KiB free, and {what} takes {needed // 1024} KiB"
+        )
 
 
-def give_name(part, name):
+def give_name(part: str, name: Any) -> None:
     """Gives a file its name, where nothing has that name, and syncs the folder."""
     try:
         os.link(part, name)
@@ -127,7 +141,7 @@ def give_name(part, name):
     synced(os.path.dirname(os.path.abspath(name)))
 
 
-def remove_left(folder, prefix, left_for=None):
+def remove_left(folder: str, prefix: str, left_for: int | None = None) -> None:
     """Removes folders of this user with that prefix that a killed script left there, and that no script holds."""
     least = LEFT_FOR if left_for is None else left_for
     for entry in os.scandir(folder):
@@ -140,7 +154,7 @@ def remove_left(folder, prefix, left_for=None):
 
 
 @contextlib.contextmanager
-def held(path):
+def held(path: str) -> Iterator[None]:
     """The folder is this script's, or there is an error where it is another one's."""
     folder = os.open(path, os.O_RDONLY | os.O_DIRECTORY)
     try:
@@ -151,7 +165,7 @@ def held(path):
 
 
 @contextlib.contextmanager
-def folder_within(folder, prefix, left_for=None):
+def folder_within(folder: Any, prefix: str, left_for: int | None = None) -> Iterator[str]:
     """A folder for files that are thrown away, on the disk of the given one."""
     remove_left(folder, prefix, left_for)
     path = tempfile.mkdtemp(prefix=prefix, dir=folder)

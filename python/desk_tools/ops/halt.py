@@ -1,17 +1,21 @@
 """A desk that does not run for as long as its files are copied, and goes on in any case."""
+
+from __future__ import annotations
+
 import contextlib
 import glob
 import os
 import select
 import signal
 import time
+from collections.abc import Iterator
 
 from .ending import Failure
 
 PATIENCE = 5
 
 
-def is_stopped(process):
+def is_stopped(process: int) -> bool:
     """Each thread of the process is stopped."""
     states = []
     for path in glob.glob(f"/proc/{process}/task/*/stat"):
@@ -20,7 +24,7 @@ def is_stopped(process):
     return bool(states) and all(it == "T" for it in states)
 
 
-def guarded(process, seconds):
+def guarded(process: int, seconds: int) -> tuple[int, int]:
     """Starts a guard, which lets the process go on after so many seconds, or as soon as this process ends."""
     reads, writes = os.pipe()
     guard = os.fork()
@@ -44,12 +48,13 @@ def guarded(process, seconds):
 class Halt:
     """From `begin` to `end` the process does nothing. Then `milliseconds` and `since` tell how long, from when on."""
 
-    def __init__(self, process, most):
+    def __init__(self, process: int, most: int) -> None:
         self.process, self.most = process, most
-        self.guard = self.line = None
-        self.since = self.milliseconds = 0
+        self.guard: int | None = None
+        self.line: int | None = None
+        self.since, self.milliseconds = 0.0, 0
 
-    def begin(self):
+    def begin(self) -> None:
         self.since = time.time()
         self.guard, self.line = guarded(self.process, self.most)
         os.kill(self.process, signal.SIGSTOP)
@@ -59,9 +64,9 @@ class Halt:
             time.sleep(0.001)
         raise Failure(f"process {self.process} cannot be halted")
 
-    def end(self):
+    def end(self) -> bool:
         """Lets the process go on. True where it did nothing until now."""
-        if self.guard is None:
+        if self.guard is None or self.line is None:
             return True
         with contextlib.suppress(ProcessLookupError):
             os.kill(self.process, signal.SIGCONT)
@@ -73,7 +78,7 @@ class Halt:
 
 
 @contextlib.contextmanager
-def halted(process, most):
+def halted(process: int, most: int) -> Iterator[Halt]:
     """Halts the process for the block, which has to end before the guard lets the process go on."""
     halt = Halt(process, most)
     try:

@@ -1,4 +1,7 @@
 """The desk itself as the judge of a copy: it opens it, looks at each row, and says what it found."""
+
+from __future__ import annotations
+
 import os
 import re
 import secrets
@@ -18,15 +21,17 @@ MEMORY, OTHER_TABLES, UNSOUND, STORE = 0, 30, 31, 32
 class Refused(Failure):
     """The desk does not open a file; with the code of its fault."""
 
-    def __init__(self, sentence, code):
+    def __init__(self, sentence: str, code: int) -> None:
         super().__init__(sentence)
         self.code = code
 
 
-def sentence_of(code, row):
+def sentence_of(code: int, row: int) -> str:
     """What a fault says, in words."""
     if code == UNSOUND and 1 <= row <= len(TABLES):
-        return f"the rows of table {TABLES[row - 1]} are those of no sound state (fault 31 row {row})"
+        return (
+            f"the rows of table {TABLES[row - 1]} are those of no sound state (fault 31 row {row})"
+        )
     return {
         MEMORY: "the machine has too little memory free (fault 0)",
         OTHER_TABLES: "its tables are not the desk's, or of another version (fault 30)",
@@ -34,21 +39,26 @@ def sentence_of(code, row):
     }.get(code, f"fault {code} row {row}")
 
 
-def ask(program, file):
+def ask(program: str, file: str) -> None:
     """Has the desk open a throw-away file. The key is nobody's, so it is denied once the file is open."""
-    told = subprocess.run([program, "trips", file, ANY_ZONE, secrets.token_hex(16), ANY_DAY], capture_output=True,
-                          text=True,
-                          stdin=subprocess.DEVNULL)
+    told = subprocess.run(
+        [program, "trips", file, ANY_ZONE, secrets.token_hex(16), ANY_DAY],
+        capture_output=True,
+        text=True,
+        stdin=subprocess.DEVNULL,
+    )
     if told.returncode == DENIED and told.stdout == "desk.key\n":
         return
     fault = FAULT.search(told.stderr)
     if told.returncode == NO_STORE and fault:
         code, row = int(fault[1]), int(fault[2])
         raise Refused(f"the desk does not open the copy: {sentence_of(code, row)}", code)
-    raise Failure(f"the desk ended with status {told.returncode} where it should open the copy: {told.stderr.strip()}")
+    raise Failure(
+        f"the desk ended with status {told.returncode} where it should open the copy: {told.stderr.strip()}"
+    )
 
 
-def judge(program, file):
+def judge(program: str, file: str) -> None:
     """The desk opens a copy of the file. Nothing is left beside the file, and it is not touched."""
     with folder_within(os.path.dirname(os.path.abspath(file)), ".judged-") as folder:
         throw_away = f"{folder}/desk.db"
@@ -56,7 +66,7 @@ def judge(program, file):
         ask(program, throw_away)
 
 
-def judge_or_migrate(program, file):
+def judge_or_migrate(program: str, file: str) -> bool:
     """The same; a file of an older version is judged as what `desk migrate` makes of it. Whether it was migrated."""
     try:
         judge(program, file)
@@ -74,7 +84,9 @@ def judge_or_migrate(program, file):
     return True
 
 
-def migrated(program, file):
+def migrated(program: str, file: str) -> bool:
     """Whether `desk migrate` takes the file."""
-    told = subprocess.run([program, "migrate", file], capture_output=True, text=True, stdin=subprocess.DEVNULL)
+    told = subprocess.run(
+        [program, "migrate", file], capture_output=True, text=True, stdin=subprocess.DEVNULL
+    )
     return told.returncode == 0

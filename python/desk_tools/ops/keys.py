@@ -1,31 +1,30 @@
 """Keys of callers: how they are made, kept in files, and put into a file of a desk that does not run."""
+
+from __future__ import annotations
+
 import contextlib
 import hashlib
 import os
 import sqlite3
 import stat
-import sys
 import tempfile
+from collections.abc import Iterator
+from typing import Any
 
-from . import typed  # noqa: F401  (it leads to the package `desk_tools`)
+from desk_tools.setup import keys as moving_keys
+from desk_tools.tables import ROLES
 from .copying import check_folder_of, synced
 from .ending import WRONG_WORDS, Failure
-
-ABOVE = os.path.dirname(os.path.dirname(os.path.realpath(__file__)))
-# The package `moving` is in bin/: of the sources, or of the folder in which the scripts are installed.
-sys.path += [os.path.join(it, "bin") for it in (os.path.dirname(ABOVE), ABOVE)]
-from desk_tools.tables import ROLES  # noqa: E402
-from moving import keys as moving_keys  # noqa: E402
 
 SHORTEST = 16
 ADMIN = ROLES.index("admin")
 
 
-def digest_of(key):
+def digest_of(key: str) -> bytes:
     return hashlib.sha256(key.encode()).digest()
 
 
-def fault_of(key):
+def fault_of(key: str) -> str | None:
     """Why a key is none to give to anybody; or None."""
     if not key:
         return "is empty"
@@ -36,7 +35,7 @@ def fault_of(key):
     return None
 
 
-def key_in(path):
+def key_in(path: str) -> str:
     """The key that a file holds, as the desk knows it. Nobody else may read the file."""
     with open(path, encoding="utf-8", errors="replace") as file:
         key = moving_keys.normalized(file.read().rstrip("\n"))
@@ -49,7 +48,7 @@ def key_in(path):
     return key
 
 
-def key_made_or_in(path):
+def key_made_or_in(path: str) -> str:
     """The key of a file, which is made where it is not there, and is on the disk before anybody is given the key."""
     if not os.path.exists(path):
         check_folder_of(path)
@@ -57,7 +56,7 @@ def key_made_or_in(path):
     return key_in(path)
 
 
-def make_key(path):
+def make_key(path: str) -> None:
     """A new key in a file, which has its name only once it is whole. Where another one was made meanwhile, that one counts."""
     folder = os.path.dirname(os.path.abspath(path))
     descriptor, part = tempfile.mkstemp(prefix=".key-", dir=folder)
@@ -74,7 +73,7 @@ def make_key(path):
 
 
 @contextlib.contextmanager
-def as_owner_of(path):
+def as_owner_of(path: str) -> Iterator[None]:
     """What is done meanwhile is done as the owner of a file or folder, so that the owner has what is made there."""
     owner = os.stat(path)
     if os.geteuid() != 0 or owner.st_uid == 0:
@@ -90,9 +89,11 @@ def as_owner_of(path):
 
 
 @contextlib.contextmanager
-def changing(path):
+def changing(path: str) -> Iterator[sqlite3.Connection]:
     """The tables of a file that no desk has open, in one transaction."""
-    with as_owner_of(path), contextlib.closing(sqlite3.connect(path, timeout=0, isolation_level=None)) as tables:
+    with as_owner_of(path), contextlib.closing(
+        sqlite3.connect(path, timeout=0, isolation_level=None)
+    ) as tables:
         try:
             tables.execute("BEGIN EXCLUSIVE")
         except sqlite3.OperationalError as error:
@@ -101,7 +102,7 @@ def changing(path):
         tables.execute("COMMIT")
 
 
-def role_of(tables, caller):
+def role_of(tables: sqlite3.Connection, caller: int) -> str | None:
     """The role of a caller who is there."""
     row = tables.execute("SELECT role FROM callers WHERE id = ?", (caller,)).fetchone()
     if row is None:
@@ -109,7 +110,7 @@ def role_of(tables, caller):
     return ROLES[row[0]]
 
 
-def put_key(tables, caller, key):
+def put_key(tables: sqlite3.Connection, caller: int, key: Any) -> str | None:
     role = role_of(tables, caller)
     query = "SELECT id FROM callers WHERE digest = ? AND id <> ?"
     other = tables.execute(query, (digest_of(key), caller)).fetchone()
@@ -119,18 +120,18 @@ def put_key(tables, caller, key):
     return role
 
 
-def add_admin(tables, caller, key):
+def add_admin(tables: sqlite3.Connection, caller: int, key: str) -> None:
     row = caller, ADMIN, digest_of(key)
     tables.execute("INSERT INTO callers (id, role, subject, digest) VALUES (?, ?, 0, ?)", row)
 
 
-def make_admin(tables, caller):
+def make_admin(tables: sqlite3.Connection, caller: int) -> str | None:
     role = role_of(tables, caller)
     tables.execute("UPDATE callers SET role = ?, subject = 0 WHERE id = ?", (ADMIN, caller))
     return role
 
 
-def forget_number(tables, caller):
+def forget_number(tables: sqlite3.Connection, caller: int) -> int | None:
     """The last write is forgotten, so that the numbers begin anew. The desk takes no kept write with the number 0."""
     role_of(tables, caller)
     row = tables.execute("SELECT number FROM kept WHERE caller = ?", (caller,)).fetchone()

@@ -1,9 +1,13 @@
-"""Locks: that of a database, as the desk and SQLite take it, and that of a folder, which one script alone works in."""
+"""Locks: that of a database, as the desk and SQLite take it, and that of a folder, in which one script at a time works."""
+
+from __future__ import annotations
+
 import contextlib
 import fcntl
 import os
 import struct
 import time
+from collections.abc import Iterator
 
 from .ending import Failure
 
@@ -12,19 +16,19 @@ BEGIN, LENGTH = 1 << 30, 512
 FLOCK = "hhqqi4x"
 
 
-def lock_of(kind):
+def lock_of(kind: int) -> bytes:
     return struct.pack(FLOCK, kind, os.SEEK_SET, BEGIN, LENGTH, 0)
 
 
-def is_locked(path):
+def is_locked(path: str) -> bool:
     """Whether a process has the file's lock."""
     with open(path, "rb") as file:
         found = fcntl.fcntl(file.fileno(), fcntl.F_OFD_GETLK, lock_of(fcntl.F_WRLCK))
-    return struct.unpack(FLOCK, found)[0] != fcntl.F_UNLCK
+    return bool(struct.unpack(FLOCK, found)[0] != fcntl.F_UNLCK)
 
 
 @contextlib.contextmanager
-def locked(path):
+def locked(path: str) -> Iterator[None]:
     """No desk opens the file meanwhile."""
     with open(path, "r+b") as file:
         try:
@@ -35,9 +39,9 @@ def locked(path):
 
 
 @contextlib.contextmanager
-def alone(folder, patience, why):
-    """Only one process at a time has the folder's lock; one waits so many seconds for it."""
-    line, end = os.open(folder, os.O_RDONLY | os.O_DIRECTORY), time.monotonic() + patience
+def alone(path: str, patience: int, why: str) -> Iterator[None]:
+    """Only one process at a time has the lock of this folder or file; one waits so many seconds for it."""
+    line, end = os.open(path, os.O_RDONLY), time.monotonic() + patience
     try:
         while True:
             try:
@@ -52,7 +56,7 @@ def alone(folder, patience, why):
         os.close(line)
 
 
-def is_held(folder):
+def is_held(folder: str) -> bool:
     """Whether a process has the folder's lock."""
     line = os.open(folder, os.O_RDONLY | os.O_DIRECTORY)
     try:

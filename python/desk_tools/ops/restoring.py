@@ -2,6 +2,9 @@
 
 All that can be tried is tried while the desk still runs. Where a later step fails, all is put back.
 """
+
+from __future__ import annotations
+
 import contextlib
 import os
 import secrets
@@ -9,6 +12,9 @@ import shutil
 import sqlite3
 import subprocess
 import time
+from collections.abc import Callable
+from typing import Any
+from typing import TYPE_CHECKING
 
 from . import interrupted, keys_of_then
 from .content import check_whole, content_of
@@ -18,22 +24,31 @@ from .judge import judge_or_migrate, migrated
 from .places import program_to_start
 from .zones import check_zone
 
+if TYPE_CHECKING:
+    from desk_tools.ops.content import Content
+    from desk_tools.ops.places import Desk
+
 EMPTY_LOG = 41
 # The new file, what the desk opens and throws away, and what SQLite writes as it goes.
 COPIES = 3
-SERVES, SILENT = "the desk serves the file of before again", "the file of before is in its place again, and the desk does not serve it"
+SERVES, SILENT = (
+    "the desk serves the file of before again",
+    "the file of before is in its place again, and the desk does not serve it",
+)
 
 
-def check_backup(copy):
+def check_backup(copy: str) -> None:
     """The backup is one file, whose log has nothing."""
     if not os.path.isfile(copy):
         raise Failure(f"there is no backup {copy}", WRONG_WORDS)
     if size_of(f"{copy}-wal") > EMPTY_LOG:
-        raise Failure(f"{copy} has a log beside it, {copy}-wal: make one file of both first, as BACKUPS.md says of a "
-                      f"snapshot")
+        raise Failure(
+            f"{copy} has a log beside it, {copy}-wal: make one file of both first, as BACKUPS.md says of a "
+            f"snapshot"
+        )
 
 
-def prepared(copy, folder, program, migrate):
+def prepared(copy: str, folder: str, program: str, migrate: bool) -> tuple[str, Content]:
     """A checked copy of the backup in a folder: its path and content."""
     file = f"{folder}/desk.db"
     said = copied(copy, file)
@@ -46,14 +61,16 @@ def prepared(copy, folder, program, migrate):
         raise type(failure)(str(failure).replace(file, copy), failure.status) from None
     if judge_or_migrate(program, file):
         if not migrate:
-            raise Failure(f"{copy} is of version {content.version}, and the program of a later one: say --migrate")
+            raise Failure(
+                f"{copy} is of version {content.version}, and the program of a later one: say --migrate"
+            )
         if not migrated(program, file):
             raise Failure(f"{copy} could not be migrated")
         file, content = settled(file)
     return file, content
 
 
-def settled(file):
+def settled(file: str) -> tuple[str, Content]:
     """A file whose log is put into it."""
     with contextlib.closing(sqlite3.connect(file)) as connection:
         connection.execute("PRAGMA wal_checkpoint(TRUNCATE)").fetchone()
@@ -72,27 +89,47 @@ class Restore:
     time.monotonic() from which on the office is without the desk, where that is before this one stops it.
     """
 
-    def __init__(self, desk, copy, migrate=False, another=False, starts_old=True, is_placed=lambda: None, since=None):
+    def __init__(
+        self,
+        desk: Desk,
+        copy: str,
+        migrate: bool = False,
+        another: bool = False,
+        starts_old: bool = True,
+        is_placed: Callable[..., Any] = lambda: None,
+        since: float | None = None,
+    ) -> None:
         self.desk, self.copy = desk, os.path.abspath(copy)
-        self.migrate, self.another, self.starts_old, self.is_placed = migrate, another, starts_old, is_placed
-        self.since, self.kept, self.note = since, None, None
-        self.moved = []
+        self.migrate, self.another, self.starts_old, self.is_placed = (
+            migrate,
+            another,
+            starts_old,
+            is_placed,
+        )
+        self.since = since
+        self.kept: Any = None
+        self.note: Any = None
+        self.moved: list[str] = []
         self.placed = self.stopped = False
         self.is_compared = True
-        self.content = self.callers_before = self.callers_then = None
-        self.seconds = 0
+        self.content: Any = None
+        self.callers_before: Any = None
+        self.callers_then: Any = None
+        self.seconds = 0.0
 
-    def make(self):
+    def make(self) -> Restore:
         check_backup(self.copy)
         if not os.path.isdir(self.desk.folder):
-            raise Failure(f"there is no folder {self.desk.folder}: set the machine up first, as README.md says")
+            raise Failure(
+                f"there is no folder {self.desk.folder}: set the machine up first, as README.md says"
+            )
         check_zone(self.desk)
         with interrupted.one_at_a_time(self.desk):
             interrupted.put_right(self.desk)
             self.prepare_and_replace()
         return self
 
-    def prepare_and_replace(self):
+    def prepare_and_replace(self) -> None:
         check_room(self.desk.folder, COPIES * size_of(self.copy), "restoring this backup")
         program = program_to_start(self.desk.process())
         before = os.umask(0o077)
@@ -105,11 +142,13 @@ class Restore:
         finally:
             os.umask(before)
 
-    def replace(self, file):
+    def replace(self, file: str) -> None:
         """The part in which the office is without the desk."""
         begun = time.monotonic() if self.since is None else self.since
         try:
-            kept = f"{self.desk.folder}/before-{time.strftime('%Y%m%d-%H%M%S')}-{secrets.token_hex(4)}"
+            kept = (
+                f"{self.desk.folder}/before-{time.strftime('%Y%m%d-%H%M%S')}-{secrets.token_hex(4)}"
+            )
             self.note = interrupted.Note(self.desk, "a restore", kept, self.starts_old)
             self.stopped = True
             self.desk.stop()
@@ -128,7 +167,7 @@ class Restore:
             raise kind(f"{sentence_of(error)}; {who_serves}", getattr(error, "status", 1)) from None
         self.seconds = time.monotonic() - begun
 
-    def check_agency(self):
+    def check_agency(self) -> None:
         """The backup is of the agency whose database is there."""
         if self.desk.is_served():
             raise Failure("the desk did not stop")
@@ -138,12 +177,18 @@ class Restore:
         self.is_compared = self.callers_before is not None
         digests = {it.digest for it in (self.callers_before or {}).values()}
         if digests and not digests & self.content.callers and not self.another:
-            raise Failure(f"{self.copy} is another agency's: no caller of it is one of {self.desk.file}; "
-                          "if that is meant, say --another")
+            raise Failure(
+                f"{self.copy} is another agency's: no caller of it is one of {self.desk.file}; "
+                "if that is meant, say --another"
+            )
 
-    def put_aside(self, kept):
+    def put_aside(self, kept: str) -> None:
         """What is there goes into a folder of its own, the log with it: it would be taken for the new file's."""
-        there = [it for it in (self.desk.file, self.desk.log, f"{self.desk.file}-shm") if os.path.exists(it)]
+        there = [
+            it
+            for it in (self.desk.file, self.desk.log, f"{self.desk.file}-shm")
+            if os.path.exists(it)
+        ]
         if not there:
             return
         os.mkdir(kept, 0o700)
@@ -154,7 +199,7 @@ class Restore:
         self.give_owner(self.kept, *(f"{self.kept}/{os.path.basename(it)}" for it in there))
         synced(self.kept)
 
-    def put_in_place(self, file):
+    def put_in_place(self, file: str) -> None:
         os.chmod(file, 0o600)
         self.give_owner(file)
         os.rename(file, self.desk.file)
@@ -163,13 +208,13 @@ class Restore:
         if summed(self.desk.file)[0] == 0:
             raise Failure(f"{self.desk.file} is empty")
 
-    def give_owner(self, *paths):
+    def give_owner(self, *paths: str) -> None:
         owner = os.stat(self.desk.folder)
         if os.geteuid() == 0:
             for path in paths:
                 os.chown(path, owner.st_uid, owner.st_gid)
 
-    def put_back(self):
+    def put_back(self) -> str:
         """The old file is there again, and the desk runs as before."""
         pass_over_signals()
         if self.placed:
@@ -185,7 +230,7 @@ class Restore:
             shutil.rmtree(self.kept, ignore_errors=True)
         return self.served_again()
 
-    def served_again(self):
+    def served_again(self) -> str:
         """The old file is served again, where it may be; who serves, in words, or nothing where the caller says it."""
         try:
             if not self.stopped or not self.starts_old:
@@ -201,13 +246,27 @@ class Restore:
             if self.note:
                 self.note.remove()
 
-    def told(self):
+    def told(self) -> str:
         kept = f"; what was there is in {self.kept}" if self.kept else ""
-        kept += "" if self.is_compared else ", and could not be read, so whether it is the same agency's is not known"
+        kept += (
+            ""
+            if self.is_compared
+            else ", and could not be read, so whether it is the same agency's is not known"
+        )
         opening = ", until it answered" if self.desk.is_asked() else ", beside its opening"
-        return "\n".join([f"{self.copy} has {self.content.told()}", f"{self.desk.file} is that backup now{kept}; the office was "
-                          f"without the desk for {self.seconds:.1f} seconds{opening}", *self.keys_of_then()])
+        return "\n".join(
+            [
+                f"{self.copy} has {self.content.told()}",
+                f"{self.desk.file} is that backup now{kept}; the office was "
+                f"without the desk for {self.seconds:.1f} seconds{opening}",
+                *self.keys_of_then(),
+            ]
+        )
 
-    def keys_of_then(self):
+    def keys_of_then(self) -> list[str]:
         """The keys that hold again, or no longer, since the restore; a line each, and what to do."""
         return keys_of_then.told(self.callers_before, self.callers_then) if self.kept else []
+
+    def keys_not_known(self) -> list[str]:
+        """What to say of keys where no file was there to compare: it may have been lost after a stolen key was replaced."""
+        return [] if self.kept else keys_of_then.told(None, self.callers_then)

@@ -2,27 +2,33 @@
 import errno
 import gzip
 import hashlib
-import importlib
 import json
 import os
 import pathlib
 import re
 import shutil
 import stat
-import sys
+from collections.abc import Collection
+from dataclasses import dataclass
 
-from desk_parts import sources
-from making import completion, licences, manual, receipt
+from desk_tools import page_packing
+from desk_tools.build import sources
+from desk_tools.packaging import completion, licences, manual, receipt
 
 # What of bin/ only the sources have a use for.
-OF_SOURCES = {"apt-repository", "check", "desk", "desk_parts", "gate", "look.program", "meter", "package", "rehearsal", "test"}
-# Where the tree is installed by hand, and where the package has it. The tools of bin/ come first.
-PLACES = [
-    ("/usr/local/lib/desk/bin/", "/usr/lib/desk/bin/"),
-    ("/usr/local/lib/desk/", "/usr/lib/desk/deploy/"),
-    ("/usr/local/bin/desk", "/usr/bin/desk"),
-    ("/usr/local/share/desk/pages", "/usr/share/desk/pages"),
-]
+OF_SOURCES = {
+    "apt-repository",
+    "check",
+    "desk",
+    "gate",
+    "look.program",
+    "meter",
+    "package",
+    "rehearsal",
+    "test",
+}
+# And what of the Python package: beside those commands, what builds the program and the package, and what tries machines.
+PYTHON_OF_SOURCES = {"booted", "build", "packaging", *(f"commands/{it}.py" for it in OF_SOURCES)}
 # Documents lie beside each other in the package.
 DOCUMENTS = [
     (re.compile(r"(?<![\w/.-])deploy/README\.md"), "RUNNING.md"),
@@ -30,7 +36,9 @@ DOCUMENTS = [
     (re.compile("`bin/office`"), "`desk-demo`"),
 ]
 # The tools of bin/ have names of their own there, but where a line copies them from the sources.
-TOOL, COPIES = re.compile(r"(?<![\w/.-])bin/([a-z][\w-]*)(?![\w/.-]*/)"), re.compile(r"\s*(cp|install) ")
+TOOL, COPIES = re.compile(r"(?<![\w/.-])bin/([a-z][\w-]*)(?![\w/.-]*/)"), re.compile(
+    r"\s*(cp|install) "
+)
 OF_PROOF = """ Every function of the program is proved to meet its contract. The receipt of
  the proof is in /usr/share/doc/desk/receipt.json."""
 OF_TRIAL = """ This package is for trial: its program need not be proved. Do not use it for
@@ -40,13 +48,17 @@ OF_TOOLS = ("bin/", "python/desk_tools/")
 SCRIPTS = ["config", "preinst", "postinst", "prerm", "postrm"]
 
 
-def commands_of(top):
+def commands_of(top: str) -> list[str]:
     """The tools of bin/ that the package has, but for the demonstration office."""
     names = sorted(os.listdir(f"{top}/bin"))
-    return [it for it in names if it not in OF_SOURCES and it != "office" and os.path.isfile(f"{top}/bin/{it}")]
+    return [
+        it
+        for it in names
+        if it not in OF_SOURCES and it != "office" and os.path.isfile(f"{top}/bin/{it}")
+    ]
 
 
-def as_packed(text, commands):
+def as_packed(text: str, commands: list[str]) -> str:
     """A document's text with the names of the package. `commands` are the tools of bin/ that it has."""
     for pattern, new in DOCUMENTS:
         text = pattern.sub(new, text)
@@ -54,45 +66,57 @@ def as_packed(text, commands):
     return "".join(it if COPIES.match(it) else with_tools(it, commands) for it in lines)
 
 
-def with_tools(text, commands):
+def with_tools(text: str, commands: list[str]) -> str:
     """A text that calls the tools of bin/ by their installed names, as in what a tool says of itself."""
     return TOOL.sub(lambda it: f"desk-{it[1]}" if it[1] in commands else it[0], text)
 
 
+# The help of a command, and of each of its words.
+Help = tuple[str, dict[str, str]]
+# Each by the command's name and the section of its manual page.
+Helps = dict[tuple[str, int], Help]
+
+
+@dataclass(frozen=True)
+class Texts:
+    """What bin/package writes: the list of changes, the receipt of the proof, the bill of what is linked."""
+
+    changes: str
+    proof: receipt.Proof
+    bill: receipt.Proof
+
+
 class Layout:
-    def __init__(self, top, root, kit):
+    def __init__(self, top: str, root: str, kit: str) -> None:
         self.top, self.root, self.kit = top, root, kit
 
-    def path(self, name):
+    def path(self, name: str) -> str:
         path = f"{self.root}/{name}"
         os.makedirs(os.path.dirname(path), exist_ok=True)
         return path
 
-    def copy(self, source, name, mode=0o644):
-        """A file of the tree, in which what is installed by hand has the package's places."""
+    def copy(self, source: str, name: str, mode: int = 0o644) -> None:
+        """A file of the tree, in which the tools have the names that the package gives them."""
         with open(f"{self.top}/{source}", "rb") as file:
             content = file.read()
-        if b"\0" not in content:
-            for old, new in PLACES:
-                content = content.replace(old.encode(), new.encode())
-            if source.startswith(OF_TOOLS):
-                content = with_tools(content.decode(), commands_of(self.top)).encode()
+        if b"\0" not in content and source.startswith(OF_TOOLS):
+            content = with_tools(content.decode(), commands_of(self.top)).encode()
         self.write(name, content, mode)
 
-    def document(self, source, name):
+    def document(self, source: str, name: str) -> None:
         """A document, in which others and the tools have the names that they have in the package."""
         self.copy(source, name)
         with open(f"{self.root}/{name}", encoding="utf-8") as file:
             text = file.read()
         self.write(name, as_packed(text, commands_of(self.top)))
 
-    def write(self, name, content, mode=0o644):
+    def write(self, name: str, content: str | bytes, mode: int = 0o644) -> None:
         content = content.encode() if isinstance(content, str) else content
         with open(self.path(name), "wb") as file:
             file.write(content)
         os.chmod(f"{self.root}/{name}", mode)
 
-    def copy_unit(self, source, name):
+    def copy_unit(self, source: str, name: str) -> None:
         """A unit of systemd, which names where the documents are: those of the package."""
         self.copy(source, name)
         with open(f"{self.root}/{name}", encoding="utf-8") as file:
@@ -100,62 +124,62 @@ class Layout:
         said = "Documentation=file:///usr/share/doc/desk/RUNNING.md\n"
         self.write(name, re.sub(r"(?m)^Description=.*\n", lambda it: it[0] + said, text, count=1))
 
-    def pack(self, name, text):
+    def pack(self, name: str, text: str) -> None:
         self.write(f"{name}.gz", gzip.compress(text.encode(), 9, mtime=0))
 
-    def copy_tree(self, source, name, without=None):
-        """A folder of the tree, without its inner folders of one name."""
+    def copy_tree(self, source: str, name: str, without: Collection[str] = ()) -> None:
+        """A folder of the tree, without some of its inner folders and files."""
         for place, folders, files in os.walk(f"{self.top}/{source}"):
-            folders[:] = [it for it in folders if it not in ("__pycache__", without)]
+            inside = os.path.relpath(place, f"{self.top}/{source}")
+            folders[:] = [
+                it
+                for it in folders
+                if it != "__pycache__" and os.path.normpath(f"{inside}/{it}") not in without
+            ]
             for file in sorted(files):
-                inner = os.path.relpath(f"{place}/{file}", f"{self.top}/{source}")
+                inner = os.path.normpath(f"{inside}/{file}")
+                if inner in without:
+                    continue
                 is_run = os.stat(f"{place}/{file}").st_mode & stat.S_IXUSR
                 self.copy(f"{source}/{inner}", f"{name}/{inner}", 0o755 if is_run else 0o644)
 
-    def pack_pages(self, name):
+    def pack_pages(self, name: str) -> None:
         """The pages as a site has them: few and small files."""
-        sys.path.insert(0, f"{self.top}/python")
-        try:
-            page_packing = importlib.import_module("desk_tools.page_packing")
-        finally:
-            sys.path.remove(f"{self.top}/python")
         if not page_packing.pack(pathlib.Path(f"{self.top}/pages"), pathlib.Path(self.path(name))):
-            raise FileNotFoundError(errno.ENOENT, "is not installed, and packs the pages", "esbuild")
+            raise FileNotFoundError(
+                errno.ENOENT, "is not installed, and packs the pages", "esbuild"
+            )
 
-    def link(self, name, to):
+    def link(self, name: str, to: str) -> None:
         os.symlink(to, self.path(name))
 
 
-def put_program(layout, program):
+def put_program(layout: Layout, program: str) -> None:
     shutil.copy(program, layout.path("usr/bin/desk"))
     os.chmod(layout.path("usr/bin/desk"), 0o755)
 
 
-def put_tools(layout):
+def put_tools(layout: Layout) -> None:
     """The tools of bin/ and deploy/, and a name for each that somebody calls."""
     for name in sorted(os.listdir(f"{layout.top}/bin")):
         if name in OF_SOURCES or name == "__pycache__":
             continue
-        if os.path.isdir(f"{layout.top}/bin/{name}"):
-            layout.copy_tree(f"bin/{name}", f"usr/lib/desk/bin/{name}")
-        else:
-            layout.copy(f"bin/{name}", f"usr/lib/desk/bin/{name}", 0o755)
-            command = "desk-demo" if name == "office" else f"desk-{name}"
-            layout.link(f"usr/bin/{command}", f"../lib/desk/bin/{name}")
+        layout.copy(f"bin/{name}", f"usr/lib/desk/bin/{name}", 0o755)
+        command = "desk-demo" if name == "office" else f"desk-{name}"
+        layout.link(f"usr/bin/{command}", f"../lib/desk/bin/{name}")
     for name in sorted(os.listdir(f"{layout.top}/deploy")):
-        if name == "desk_ops":
-            layout.copy_tree("deploy/desk_ops", "usr/lib/desk/deploy/desk_ops")
-        elif name.endswith((".service", ".timer")):
+        if name.endswith((".service", ".timer")):
             layout.copy_unit(f"deploy/{name}", f"lib/systemd/system/{name}")
         elif name == "desk.logrotate":
             layout.copy("deploy/desk.logrotate", "etc/logrotate.d/desk")
         elif not name.startswith(("try", "__")) and not name.endswith(".md"):
             is_run = os.access(f"{layout.top}/deploy/{name}", os.X_OK)
             layout.copy(f"deploy/{name}", f"usr/lib/desk/deploy/{name}", 0o755 if is_run else 0o644)
-    for name in "desk-setup", "take-over":
+    for name in "desk-setup", "take-over", "to-main":
         layout.copy(f"packaging/{name}", f"usr/lib/desk/packaging/{name}", 0o755)
-    layout.copy_tree("packaging/setting_up", "usr/lib/desk/packaging/setting_up")
-    layout.copy_tree("python/desk_tools", "usr/lib/desk/python/desk_tools", without="booted")
+    layout.copy_tree(
+        "python/desk_tools", "usr/lib/desk/python/desk_tools", without=PYTHON_OF_SOURCES
+    )
     layout.link("usr/sbin/desk-setup", "../lib/desk/packaging/desk-setup")
     layout.pack_pages("usr/share/desk/pages")
     layout.link("usr/lib/desk/pages", "../../share/desk/pages")
@@ -163,7 +187,7 @@ def put_tools(layout):
     layout.copy("packaging/lintian-overrides", "usr/share/lintian/overrides/desk")
 
 
-def put_completion(layout, helps):
+def put_completion(layout: Layout, helps: dict[str, Help]) -> None:
     """One script, by the name of each command that it completes."""
     folder, first = "usr/share/bash-completion/completions", "desk"
     layout.write(f"{folder}/{first}", completion.script(helps))
@@ -171,7 +195,7 @@ def put_completion(layout, helps):
         layout.link(f"{folder}/{name}", first)
 
 
-def put_documents(layout, version, day, changes, helps, proof, bill):
+def put_documents(layout: Layout, version: str, day: str, helps: Helps, texts: Texts) -> None:
     """Documents, examples, manual pages, licences, the receipt and the bill of what is linked."""
     shared = "usr/share/doc/desk"
     for name in sorted(os.listdir(f"{layout.top}/docs")):
@@ -185,24 +209,26 @@ def put_documents(layout, version, day, changes, helps, proof, bill):
     layout.copy_tree("examples", f"{shared}/examples")
     crates = receipt.kits_crates(layout.kit, sources.crates_of(layout.top)[1])
     layout.write(f"{shared}/copyright", licences.copyright_text(layout.kit, crates))
-    layout.write(f"{shared}/receipt.json", json.dumps(proof, indent=1) + "\n")
-    layout.write(f"{shared}/sbom.spdx.json", json.dumps(bill, indent=1) + "\n")
-    layout.pack(f"{shared}/changelog", changes)
+    layout.write(f"{shared}/receipt.json", json.dumps(texts.proof, indent=1) + "\n")
+    layout.write(f"{shared}/sbom.spdx.json", json.dumps(texts.bill, indent=1) + "\n")
+    layout.pack(f"{shared}/changelog", texts.changes)
     put_manuals(layout, version, day, helps)
     put_completion(layout, {name: said for (name, _), said in helps.items()})
 
 
-def put_manuals(layout, version, day, helps):
+def put_manuals(layout: Layout, version: str, day: str, helps: Helps) -> None:
     also = "desk(1), desk-formats(5), desk-setup(8), desk-demo(1)"
     for (name, section), (text, inner) in helps.items():
-        page = manual.of_help(name, section, manual.purpose_of(text), text, inner, day, version, also)
+        page = manual.of_help(name, section, text, inner, day, version, also)
         layout.pack(f"usr/share/man/man{section}/{name}.{section}", page)
     with open(f"{layout.top}/docs/FORMATS.md", encoding="utf-8") as file:
-        page = manual.of_markdown("desk-formats", 5, "what the desk reads and writes", file.read(), day, version)
+        page = manual.of_markdown(
+            "desk-formats", 5, "what the desk reads and writes", file.read(), day, version
+        )
     layout.pack("usr/share/man/man5/desk-formats.5", page)
 
 
-def put_control(layout, version, is_proved):
+def put_control(layout: Layout, version: str, is_proved: bool) -> None:
     """What dpkg reads: the control file, the conffiles, the scripts, and the checksums."""
     size = sum(
         os.path.getsize(f"{place}/{it}")
@@ -216,7 +242,9 @@ def put_control(layout, version, is_proved):
     text = text.replace("@NOTE@", note).replace("@PROOF@", paragraph)
     layout.write("DEBIAN/control", text)
     configured = sorted(
-        f"{place}/{it}"[len(layout.root) :] for place, _, files in os.walk(f"{layout.root}/etc") for it in files
+        f"{place}/{it}"[len(layout.root) :]
+        for place, _, files in os.walk(f"{layout.root}/etc")
+        for it in files
     )
     layout.write("DEBIAN/conffiles", "".join(f"{it}\n" for it in configured))
     for name in SCRIPTS:
@@ -226,11 +254,17 @@ def put_control(layout, version, is_proved):
     for place, _, files in os.walk(layout.root):
         for it in files:
             path = f"{place}/{it}"
-            if not os.path.islink(path) and "/DEBIAN" not in path and path[len(layout.root) :] not in configured:
+            if (
+                not os.path.islink(path)
+                and "/DEBIAN" not in path
+                and path[len(layout.root) :] not in configured
+            ):
                 sums.append((path[len(layout.root) + 1 :], path))
-    layout.write("DEBIAN/md5sums", "".join(f"{md5_of(path)}  {name}\n" for name, path in sorted(sums)))
+    layout.write(
+        "DEBIAN/md5sums", "".join(f"{md5_of(path)}  {name}\n" for name, path in sorted(sums))
+    )
 
 
-def md5_of(path):
+def md5_of(path: str) -> str:
     with open(path, "rb") as file:
         return hashlib.md5(file.read()).hexdigest()

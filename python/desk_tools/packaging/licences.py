@@ -11,22 +11,22 @@ SIGNS = [
 ]
 
 
-def files_of(kit, crate):
+def files_of(kit: str, crate: str) -> list[str]:
     return sorted(glob.glob(f"{kit}/rattle/{crate}/LICENSE*"))
 
 
-def text_of(path):
+def text_of(path: str) -> str:
     with open(path, encoding="utf-8", errors="replace") as file:
         return file.read()
 
 
-def identifier(path):
+def identifier(path: str) -> str | None:
     """The SPDX name of a licence's text, or nothing."""
     text = text_of(path)
     return next((name for sign, name in SIGNS if sign.lower() in text.lower()), None)
 
 
-def of_crate(kit, crate):
+def of_crate(kit: str, crate: str) -> str:
     """The SPDX expression of a crate. Of MIT and Apache together one may choose; all others hold together."""
     names = sorted({identifier(it) or "NOASSERTION" for it in files_of(kit, crate)})
     if not names or "NOASSERTION" in names:
@@ -36,7 +36,7 @@ def of_crate(kit, crate):
     return " AND ".join(names)
 
 
-def copyright_text(kit, crates):
+def copyright_text(kit: str, crates: list[str]) -> str:
     """debian/copyright: what stands over all, and each part of the kit with its licence's own text."""
     lines = [
         "This package has the program `desk` of Chervilnook, under the Apache License 2.0, which is in",
@@ -45,7 +45,7 @@ def copyright_text(kit, crates):
         "The parts below are linked into the program /usr/bin/desk. They come from the Rattle kit.",
         "",
     ]
-    seen = {}
+    seen: dict[str, str] = {}
     for crate in crates:
         paths = files_of(kit, crate)
         if not paths:
@@ -54,7 +54,9 @@ def copyright_text(kit, crates):
             text = text_of(path).strip()
             label = f"{crate}, {os.path.basename(path)}"
             if "apache license" in text.lower()[:400] and "version 2.0" in text.lower()[:400]:
-                lines += [f"{label}: the Apache License 2.0, in /usr/share/common-licenses/Apache-2.0."]
+                lines += [
+                    f"{label}: the Apache License 2.0, in /usr/share/common-licenses/Apache-2.0."
+                ]
             elif text in seen:
                 lines += [f"{label}: the same text as of {seen[text]}."]
             else:

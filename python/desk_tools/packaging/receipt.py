@@ -2,14 +2,20 @@
 import os
 import re
 import subprocess
+from collections.abc import Callable
+from typing import Any
 
-from desk_parts import built, sources
-from office_parts import mark
+from desk_tools.build import built, sources
+from desk_tools.demo import mark
 
 
-def kits_crates(kit, named):
+Proof = dict[str, Any]
+
+
+def kits_crates(kit: str, named: set[str]) -> list[str]:
     """The kit's crates below those that are named, with std, by what the kit says of each."""
-    found, waiting = set(), [*named, "std"]
+    found: set[str] = set()
+    waiting = [*named, "std"]
     while waiting:
         crate = waiting.pop()
         path = f"{kit}/rlibs/{crate}.rlib/format"
@@ -20,16 +26,22 @@ def kits_crates(kit, named):
     return sorted(found)
 
 
-def commit_of(top):
-    ran = subprocess.run(["git", "-C", top, "rev-parse", "HEAD"], capture_output=True, text=True, check=False)
+def commit_of(top: str) -> str | None:
+    ran = subprocess.run(
+        ["git", "-C", top, "rev-parse", "HEAD"], capture_output=True, text=True, check=False
+    )
     return ran.stdout.strip() or None
 
 
-def receipt(top, program, kits_line):
+def receipt(top: str, program: str, kits_line: str | None) -> Proof:
     """What the package says of its program. `kits_line` is None where bin/desk built it; else the program is for trial."""
     is_proved = kits_line is None
-    line = built.note(top)["kit"] if is_proved else kits_line
-    of_sources = {"sha256": sources.digest(top), "files": len(sources.files(top)), "commit": commit_of(top)}
+    line = built.note(top)["kit"] if kits_line is None else kits_line
+    of_sources = {
+        "sha256": sources.digest(top),
+        "files": len(sources.files(top)),
+        "commit": commit_of(top),
+    }
     return {
         "program": {"sha256": sources.digest_of(program), "bytes": os.path.getsize(program)},
         "proved": is_proved,
@@ -42,7 +54,7 @@ def receipt(top, program, kits_line):
     }
 
 
-def spdx_of(name, license_of, kind):
+def spdx_of(name: str, license_of: str, kind: str) -> dict[str, Any]:
     return {
         "SPDXID": f"SPDXRef-{kind}-{name.replace('_', '-')}",
         "name": name,
@@ -54,7 +66,9 @@ def spdx_of(name, license_of, kind):
     }
 
 
-def bill(top, kit, version, made, licences, proof):
+def bill(
+    top: str, kit: str, version: str, made: str, licences: Callable[[str], str], proof: Proof
+) -> Proof:
     """The SPDX document of what is linked into the program."""
     own, named = sources.crates_of(top)
     packages = [

@@ -248,6 +248,8 @@ def keep_answer(words: argparse.Namespace) -> int:
 
 def run(words: argparse.Namespace) -> int:
     """Does what the words say."""
+    if not words.folder.is_dir():
+        raise Wrong(f"there is no folder {words.folder}")
     if words.answer is not None:
         return keep_answer(words)
     return plan(words) if words.plan else send(words)
@@ -268,7 +270,7 @@ def main(arguments: list[str]) -> int:
     except Terminated:
         return TERMINATED
     except OSError as error:
-        LOG.error("%s: %s", error.filename or words.folder, error.strerror or error)
+        LOG.error("%s", ending.of_file(error, words.folder))
         return WRONG
 
 

@@ -15,6 +15,7 @@ from pathlib import Path
 from typing import Any
 
 from desk_tools.reminders.settings import Wrong
+from desk_tools.setup import whole_file
 
 NAME, ANSWERS = "reminders.jsonl", "answers.jsonl"
 # For so long a line stays: it has numbers and addresses of riders.
@@ -145,7 +146,7 @@ class State(Kept):
             file.flush()
             os.fsync(file.fileno())
         if is_new:
-            _sync_folder(self.path.parent)
+            whole_file.folder_synced(self.path.parent)
         self.take(entry)
 
     def begin(self, reminder: Reminder) -> None:
@@ -189,7 +190,7 @@ class State(Kept):
             file.flush()
             os.fsync(file.fileno())
         new.replace(self.path)
-        _sync_folder(self.path.parent)
+        whole_file.folder_synced(self.path.parent)
 
 
 def _spelled(reminder: Reminder) -> dict[str, Any]:
@@ -204,14 +205,6 @@ def _cut_half_line(number: int) -> None:
         at -= 1
     if at != end:
         os.ftruncate(number, at)
-
-
-def _sync_folder(folder: Path) -> None:
-    number = os.open(folder, os.O_RDONLY | os.O_DIRECTORY)
-    try:
-        os.fsync(number)
-    finally:
-        os.close(number)
 
 
 @contextlib.contextmanager

@@ -59,10 +59,9 @@ def read(path: Path) -> tuple[dict[int, Rider], list[str]]:
     riders: dict[int, Rider] = {}
     try:
         sheet = sheets.read(path, {it: () for it in COLUMNS})
+        sheets.require(sheet, ("rider", "name"), {it: () for it in COLUMNS})
     except sheets.Unreadable as error:
         raise Wrong(str(error)) from None
-    if not {"rider", "name"} <= set(sheet.header):
-        raise Wrong(f"{path} is no roster: its first row has no columns rider and name")
     faults = [f"row {it.number}: {it.reason}" for it in sheet.refused]
     for row in sheet.rows:
         _take(riders, faults, row.number, row.fields)

@@ -1,31 +1,62 @@
 """The figures of months, as a table and as a page that prints. docs/WORKLIST.md, "Reports", says what each means."""
+
+from __future__ import annotations
+
 import collections
 import datetime
+from collections import Counter
+from collections.abc import Callable, Iterator
+from typing import Any, NamedTuple, TYPE_CHECKING
 
-from moving.rules import NO_VEHICLE, RULES
-from moving.tally_log import RIDER
-from paperwork.lists import Listed, Number
+from desk_tools.reports.lists import Listed, Number
+from desk_tools.setup.rules import NO_VEHICLE, RULES
+from desk_tools.setup.tally_log import RIDER
+
+if TYPE_CHECKING:
+    from desk_tools.setup.tally_log import Log
 
 # So many columns fit on paper beside the one of names.
 COLUMNS_OF_A_TABLE, NO_BREAK = 7, "\u00a0"
-# A figure: its name in the CSV, its label on the page, how it comes from a month's counts, and whether a log has to
-# say it.
-Figure = collections.namedtuple("Figure", "name label of needs_log", defaults=(False,))
 
 
-def counted(name, label, needs_log=False):
+class Figure(NamedTuple):
+    """A figure: its name in the CSV, its label on the page, how it comes from a month's counts, and
+    whether a log has to say it."""
+
+    name: str
+    label: str
+    of: Callable[[Any], Any]
+    needs_log: bool = False
+
+
+def counted(name: str, label: str, needs_log: bool = False) -> Figure:
     return Figure(name, label, lambda it: it[name], needs_log)
 
 
-def share(name, label, part, whole, digits, needs_log=False):
+def share(
+    name: str,
+    label: str,
+    part: Callable[..., Any],
+    whole: Callable[..., Any],
+    digits: int,
+    needs_log: bool = False,
+) -> Figure:
     """A figure that is a quotient; it is empty where there is nothing to divide by."""
-    return Figure(name, label, lambda it: round(part(it) / whole(it), digits) if whole(it) else "", needs_log)
+    return Figure(
+        name, label, lambda it: round(part(it) / whole(it), digits) if whole(it) else "", needs_log
+    )
 
 
-DENIED = [counted(f"denied {rule}", f"Denied, {rule}: {said}", True) for rule, said in RULES.items()]
+DENIED = [
+    counted(f"denied {rule}", f"Denied, {rule}: {said}", True) for rule, said in RULES.items()
+]
 FIGURES = [
-    Figure("asked", "Trips asked for: booked and denied", lambda it: it["trips"] + sum(it[of.name] for of in DENIED),
-           True),
+    Figure(
+        "asked",
+        "Trips asked for: booked and denied",
+        lambda it: it["trips"] + sum(it[of.name] for of in DENIED),
+        True,
+    ),
     Figure("booked", "Booked, cancelled ones too", lambda it: it["trips"]),
     *DENIED,
     counted("cancelled", "Cancelled"),
@@ -42,24 +73,52 @@ FIGURES = [
     counted("pickups_on_time", "Pickups in the promised window", True),
     counted("pickups_late", "Pickups late", True),
     counted("pickups_untold", "Pickups whose time no driver tapped", True),
-    share("on_time_percent", "On time, in percent", lambda it: 100 * it["pickups_on_time"],
-          lambda it: it["pickups_early"] + it["pickups_on_time"] + it["pickups_late"], 1, True),
+    share(
+        "on_time_percent",
+        "On time, in percent",
+        lambda it: 100 * it["pickups_on_time"],
+        lambda it: it["pickups_early"] + it["pickups_on_time"] + it["pickups_late"],
+        1,
+        True,
+    ),
     counted("appointments_on_time", "Drops by the minute that the rider had named", True),
     counted("appointments_late", "Drops after the minute that the rider had named", True),
     counted("appointments_untold", "Drops to a named minute whose time no driver tapped", True),
-    share("minutes_aboard_planned", "Minutes aboard a ride, as planned", lambda it: it["planned_minutes"],
-          lambda it: it["ridden"], 1),
-    share("minutes_aboard_driven", "Minutes aboard a ride, as driven", lambda it: it["driven_seconds"] / 60,
-          lambda it: it["rides_timed"], 1, True),
+    share(
+        "minutes_aboard_planned",
+        "Minutes aboard a ride, as planned",
+        lambda it: it["planned_minutes"],
+        lambda it: it["ridden"],
+        1,
+    ),
+    share(
+        "minutes_aboard_driven",
+        "Minutes aboard a ride, as driven",
+        lambda it: it["driven_seconds"] / 60,
+        lambda it: it["rides_timed"],
+        1,
+        True,
+    ),
     counted("rides_timed", "Rides of which a driver tapped both ends", True),
     counted("rides_over_limit", "Of these, longer than the trip's limit", True),
-    Figure("vehicle_hours", "Vehicle hours, as planned", lambda it: round(it["vehicle_minutes"] / 60, 2)),
-    share("trips_per_vehicle_hour", "Trips ridden per vehicle hour", lambda it: 60 * it["ridden"],
-          lambda it: it["vehicle_minutes"], 2),
+    Figure(
+        "vehicle_hours",
+        "Vehicle hours, as planned",
+        lambda it: round(it["vehicle_minutes"] / 60, 2),
+    ),
+    share(
+        "trips_per_vehicle_hour",
+        "Trips ridden per vehicle hour",
+        lambda it: 60 * it["ridden"],
+        lambda it: it["vehicle_minutes"],
+        2,
+    ),
 ]
 NOTHING = "The copy has no trip in this period, and the log no denial."
-WITHOUT_LOG = ("Without the site's log (--tally) nothing says what was denied, when trips were cancelled, whether "
-               "pickups were on time, or how long riders were aboard.")
+WITHOUT_LOG = (
+    "Without the site's log (--tally) nothing says what was denied, when trips were cancelled, whether "
+    "pickups were on time, or how long riders were aboard."
+)
 MEANINGS = [
     "A trip counts in the month of its day, and a denial in the month for which it was asked.",
     "Without an outcome are trips that nobody ended, of days before the copy was made. Those of its day and later are "
@@ -79,19 +138,23 @@ MEANINGS_OF_LOG = [
 ]
 
 
-def values_of(figure, counts, has_log):
+def values_of(figure: Figure, counts: dict[str, Counter[str]], has_log: bool) -> list[str | float]:
     """A figure of each month and of all. What a log would say is empty without one."""
-    found = [*counts.values(), sum(counts.values(), collections.Counter())]
+    found = [*counts.values(), sum(counts.values(), collections.Counter[str]())]
     return [figure.of(it) if has_log or not figure.needs_log else "" for it in found]
 
 
-def table_of(counts, has_log):
+def table_of(
+    counts: dict[str, Counter[str]], has_log: bool
+) -> tuple[list[str], list[tuple[float | str, ...]]]:
     """The columns, and a row for each month and for all."""
     columns = [values_of(it, counts, has_log) for it in FIGURES]
-    return ["month", *(it.name for it in FIGURES)], [*zip([*counts, "all"], *columns)] if counts else []
+    return ["month", *(it.name for it in FIGURES)], [
+        *zip([*counts, "all"], *columns)
+    ] if counts else []
 
 
-def lists_of(counts, has_log):
+def lists_of(counts: dict[str, Counter[str]], has_log: bool) -> Iterator[Listed]:
     """The figures as tables for a page, each with so many months as fit on paper."""
     heads, shown = [*map(month_named, counts), "All"], []
     for it in FIGURES:
@@ -106,39 +169,44 @@ def lists_of(counts, has_log):
         yield Listed(f"months-{at}", title, "", "", ("Figure", *map(Number, heads[some])), rows)
 
 
-def month_named(month):
+def month_named(month: str) -> str:
     return f"{datetime.date.fromisoformat(f'{month}-01'):%b}{NO_BREAK}{month[:4]}"
 
 
-def is_shown(figure, values):
+def is_shown(figure: Figure, values: list[str | float]) -> bool:
     """Rules by which nothing was denied are left out; want of a vehicle is always said."""
     return any(values) or figure not in DENIED or figure.name == f"denied {NO_VEHICLE}"
 
 
-def told(value):
-    return Number(value if value == "" else f"{value:,}")
+def told(value: str | float) -> Number:
+    return Number("" if value == "" else f"{value:,}")
 
 
-def sentences_of(counts, log):
+def sentences_of(counts: dict[str, Counter[str]], log: Log | None) -> list[str]:
     """What no source holds."""
     if not counts:
         return [NOTHING]
     return [*sentences_of_log(log)] if log else [WITHOUT_LOG]
 
 
-def sentences_of_log(log):
+def sentences_of_log(log: Log) -> Iterator[str]:
     hits = [*log.denials, *log.stops, *log.cancellations]
     if not hits:
         yield "The log is empty."
     else:
         yield f"The log begins on {min(it.received.date() for it in hits)}, and says nothing of what came before."
     if not any(it.by == RIDER for it in log.cancellations):
-        yield ("The log has no cancellation by a rider, and the desk's file does not say when a trip was cancelled: so "
-               "early and late ones are not told apart.")
+        yield (
+            "The log has no cancellation by a rider, and the desk's file does not say when a trip was cancelled: so "
+            "early and late ones are not told apart."
+        )
     if log.broken:
         yield f"{len(log.broken)} lines of the log could not be read, and are not counted."
 
 
-def meanings_of(log, late_minutes):
+def meanings_of(log: Log | None, late_minutes: int) -> list[str]:
     """What the figures mean."""
-    return [*MEANINGS, *(it.format(late_minutes=late_minutes) for it in (MEANINGS_OF_LOG if log else ()))]
+    return [
+        *MEANINGS,
+        *(it.format(late_minutes=late_minutes) for it in (MEANINGS_OF_LOG if log else ())),
+    ]

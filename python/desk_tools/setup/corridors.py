@@ -5,16 +5,38 @@ first, turns into each branch where it begins, and comes back. Nothing that any 
 reaches farther by a few feet alone: where lines are simplified to the points that the desk takes, and where the walk
 crosses a gap between two lines.
 """
+
+from __future__ import annotations
+
 import collections
 import math
+from collections.abc import Iterator
+from typing import Any, NamedTuple
 
-from moving import plane as geometry
-from moving.limits import LEAST_WIDTH, MOST_POINTS
+from desk_tools.setup import plane as geometry
+from desk_tools.setup.limits import LEAST_WIDTH, MOST_POINTS
 
-# A walk, in how many feet each line lies from it, and by how many feet its corridor reaches farther than theirs.
-Walk = collections.namedtuple("Walk", "points moved reach")
-# A point of a walk that is near to another point: in how many feet, behind which of its places, and where.
-Foot = collections.namedtuple("Foot", "feet place point")
+Point = tuple[int, int]
+
+
+class Walk(NamedTuple):
+    """A walk, in how many feet each line lies from it, and by how many feet its corridor reaches
+    farther than theirs."""
+
+    points: list[tuple[int, int]]
+    moved: int
+    reach: int
+
+
+class Foot(NamedTuple):
+    """A point of a walk that is near to another point: in how many feet, behind which of its
+    places, and where."""
+
+    feet: float
+    place: int
+    point: tuple[int, int]
+
+
 # How near a shorter form of a line stays to it; how long the parts are by which lines are compared; and the side of the
 # cells by which what is near is found.
 LIGHTER, PART, CELL = 10, 200, 2_000
@@ -22,7 +44,11 @@ LIGHTER, PART, CELL = 10, 200, 2_000
 NEAR, STEPS, MOST_GAP = (30, 120, 400), (10, 20, 30, 40, 60, 80, 120, 180, 250, 350, 500, 1000), 500
 
 
-def walked(parts, light, most_reach):
+def walked(
+    parts: list[list[tuple[int, int]]],
+    light: list[tuple[list[tuple[int, int]], int]],
+    most_reach: int,
+) -> Walk | None:
     """The walk along all of these parts, or None where none is right within so many feet.
 
     `light` are all lines that the walk stands for, each in a shorter form, with the feet by which that lies aside. The
@@ -45,7 +71,9 @@ def walked(parts, light, most_reach):
     return best
 
 
-def walk_along(lines, near):
+def walk_along(
+    lines: list[list[tuple[int, int]]], near: int
+) -> tuple[list[tuple[int, int]], float] | None:
     """A walk along the lines, and the longest gap that it crosses; None where a line is too far from all others."""
     walk, gap, waiting, turns = lines[0], 0.0, collections.deque(lines[1:]), 0
     while waiting:
@@ -62,7 +90,7 @@ def walk_along(lines, near):
     return walk, gap
 
 
-def with_pieces(walk, gap, line, near):
+def with_pieces(walk: Any, gap: Any, line: Any, near: Any) -> Any:
     """The walk along a line too, with the longest gap, or None where a piece of it does not meet the walk."""
     for piece in pieces_beside(line, walk, near):
         joined = joined_to(walk, piece)
@@ -72,7 +100,7 @@ def with_pieces(walk, gap, line, near):
     return walk, gap
 
 
-def pieces_beside(line, walk, near):
+def pieces_beside(line: Any, walk: Any, near: Any) -> Iterator[Any]:
     """The parts of a line that lie farther from the walk, with the point before and after each."""
     points, cells = in_parts(line), cells_of(walk, near)
     is_far = [not has_near(cells, it, near) for it in points]
@@ -89,7 +117,9 @@ def pieces_beside(line, walk, near):
         at += 1
 
 
-def cells_of(walk, near):
+def cells_of(
+    walk: list[tuple[int, int]], near: int
+) -> dict[tuple[int, int], list[tuple[tuple[int, int], tuple[int, int]]]]:
     """The segments of the walk by the square cells through which a point so near to them may lie."""
     cells = collections.defaultdict(list)
     for segment in geometry.segments(walk):
@@ -100,21 +130,28 @@ def cells_of(walk, near):
     return cells
 
 
-def has_near(cells, point, near):
+def has_near(
+    cells: dict[tuple[int, int], list[tuple[tuple[int, int], tuple[int, int]]]],
+    point: tuple[int, int],
+    near: int,
+) -> bool:
     there = cells.get((point[0] // CELL, point[1] // CELL), ())
     return any(geometry.distance(point, *it) <= near for it in there)
 
 
-def in_parts(line):
+def in_parts(line: Any) -> Any:
     """The line's points, and others between them, so that no part is long."""
     points = []
     for (ax, ay), (bx, by) in geometry.segments(line):
         count = max(1, math.ceil(math.dist((ax, ay), (bx, by)) / PART))
-        points += [(round(ax + (bx - ax) * at / count), round(ay + (by - ay) * at / count)) for at in range(count)]
+        points += [
+            (round(ax + (bx - ax) * at / count), round(ay + (by - ay) * at / count))
+            for at in range(count)
+        ]
     return [*points, line[-1]]
 
 
-def foot(walk, point):
+def foot(walk: Any, point: Any) -> Any:
     """The point of the walk that is nearest."""
     px, py = point
     best = Foot(math.inf, 0, walk[0])
@@ -132,7 +169,7 @@ def foot(walk, point):
     return best
 
 
-def joined_to(walk, piece):
+def joined_to(walk: Any, piece: Any) -> Any:
     """The walk that goes along the piece too, with the fewest points, and the gap that it crosses."""
     found = []
     for part in (piece, piece[::-1]):
@@ -152,12 +189,14 @@ def joined_to(walk, piece):
     return geometry.without_repeats(made), gap
 
 
-def notch(gap):
+def notch(gap: float) -> int:
     """How far a corridor reaches into the notch between two others whose lines end so many feet from each other."""
     return math.ceil(LEAST_WIDTH - math.sqrt(LEAST_WIDTH**2 - (gap / 2) ** 2))
 
 
-def feet_beside(light, points, most):
+def feet_beside(
+    light: list[tuple[list[tuple[int, int]], int]], points: list[tuple[int, int]], most: int
+) -> int | None:
     """In how many feet of the points each line surely lies, or None where those are too many."""
     aside, left = max(it for _, it in light), [line for line, _ in light]
     for feet in (it for it in STEPS if it <= most):
@@ -167,11 +206,15 @@ def feet_beside(light, points, most):
     return None
 
 
-def is_near(line, other, gap=MOST_GAP):
+def is_near(line: list[tuple[int, int]], other: list[tuple[int, int]], gap: int = MOST_GAP) -> bool:
     """Whether two lines cross, or come so near to each other."""
     boxes = [geometry.boxed(it, gap) for it in geometry.segments(other)]
     low_x, low_y, high_x, high_y = box_of(line)
-    boxes = [it for it in boxes if it[0] <= high_x and it[1] <= high_y and it[2] >= low_x and it[3] >= low_y]
+    boxes = [
+        it
+        for it in boxes
+        if it[0] <= high_x and it[1] <= high_y and it[2] >= low_x and it[3] >= low_y
+    ]
     for start, end in geometry.segments(line) if boxes else ():
         low_x, low_y, high_x, high_y, _ = geometry.boxed((start, end), 0)
         for it in boxes:
@@ -181,23 +224,25 @@ def is_near(line, other, gap=MOST_GAP):
     return False
 
 
-def box_of(line):
+def box_of(line: list[tuple[int, int]]) -> tuple[int, int, int, int]:
     xs, ys = zip(*line)
     return min(xs), min(ys), max(xs), max(ys)
 
 
-def do_cross(one, two):
-    def side(a, b, c):
+def do_cross(one: tuple[Point, Point], two: tuple[Point, Point]) -> bool:
+    def side(a: Point, b: Point, c: Point) -> int:
         return (b[0] - a[0]) * (c[1] - a[1]) - (b[1] - a[1]) * (c[0] - a[0])
 
     (a, b), (c, d) = one, two
     return side(a, b, c) * side(a, b, d) < 0 and side(c, d, a) * side(c, d, b) < 0
 
 
-def ends_feet(one, two):
-    return min(*(geometry.distance(it, *two) for it in one), *(geometry.distance(it, *one) for it in two))
+def ends_feet(one: Any, two: Any) -> Any:
+    return min(
+        *(geometry.distance(it, *two) for it in one), *(geometry.distance(it, *one) for it in two)
+    )
 
 
-def area_of(length, width):
+def area_of(length: float, width: int) -> float:
     """The area of a corridor so wide round a line so long, where it does not overlap itself."""
     return 2 * length * width + math.pi * width * width

@@ -2,6 +2,9 @@
 
 Such a key is the same with hyphens, blanks and capital letters. Any other key is used exactly as it is.
 """
+
+from __future__ import annotations
+
 import re
 import secrets
 
@@ -9,12 +12,12 @@ ALPHABET, SIGNS = "0123456789abcdefghjkmnpqrstvwxyz", 26
 BETWEEN = re.compile(r"[\s-]+")
 
 
-def made():
+def made() -> str:
     """A new key, of 130 bits."""
     return "".join(secrets.choice(ALPHABET) for _ in range(SIGNS))
 
 
-def normalized(key):
+def normalized(key: str) -> str:
     """The key as the desk knows it."""
     plain = BETWEEN.sub("", key).lower()
     return plain if len(plain) == SIGNS and {*plain} <= {*ALPHABET} else key

@@ -1,11 +1,14 @@
-"""What the desk takes, and what ends a command."""
-from moving.typed import law
+"""What the desk takes, and what ends a command. tests/unit/test_law.py holds the numbers against the core's specs."""
+
+from desk_tools import law
 
 LEAST_WIDTH, GREATEST_WIDTH = 3_960, 7_920
 GREATEST_COORDINATE, HIGHEST_NUMBER, LAST_MINUTE = 1_000_000, 4_294_967_295, 1_439
 MOST_ROUTES, MOST_POINTS, MOST_PLACES, MOST_SEATS, MOST_CHAIRS = 50, 200, 100, 30, 10
 # A vehicle has room for so many versions, for good; from the second number on that is said.
 MOST_VERSIONS, MANY_VERSIONS = 20, 15
+# The most of a no-show policy: so many trips within so many days.
+MOST_MISSED, MOST_SPAN_DAYS = 1_000, 366
 # Days: how long a decision may be appealed, and how far ahead a trip may be booked.
 DAYS_TO_APPEAL, DAYS_AHEAD = law.DAYS_TO_APPEAL, law.DAYS_AHEAD
 

@@ -1,21 +1,35 @@
 """Riders who are certified already: their records, and for residents a grant to the last day of their certification."""
+
+from __future__ import annotations
+
+import argparse
 import collections
 import datetime
 import json
 import sys
+from collections.abc import Callable
+from typing import Any, TYPE_CHECKING
 
-from moving import carry, commands, tables
-from moving.carry import CannotBe, Task, accepted
-from moving.desk import label_of
-from moving.limits import DONE, SOME_REFUSED, Wrong
+from desk_tools import law
+from desk_tools.counting import counted
+from desk_tools.setup import carry, commands, tables
+from desk_tools.setup.carry import accepted, CannotBe, Task
+from desk_tools.setup.desk import label_of
+from desk_tools.setup.limits import DONE, SOME_REFUSED, Wrong
+
+if TYPE_CHECKING:
+    from desk_tools.setup.desk import Caller
+    from desk_tools.setup.desk import Reply
 
 
-def riders(words):
+def riders(words: argparse.Namespace) -> int | None:
     """The riders of a table, or those of them whose certification ends soon."""
     today = datetime.date.today().isoformat()
     earliest = "" if words.as_of else today
     agency = carry.kept_agency(words.folder)
-    records, refused, notes, rows = tables.records_in(words.csv, "riders", lambda it: rider_fault(it, earliest, agency))
+    records, refused, notes, rows = tables.records_in(
+        words.csv, "riders", lambda it: rider_fault(it, earliest, agency)
+    )
     if words.as_of:
         return ending(records, refused, words.as_of, words.within)
     told_riders(records)
@@ -24,12 +38,14 @@ def riders(words):
         return commands.ended(refused)
     clerk, examiner = (commands.caller_of(words, it) for it in ("clerk", "examiner"))
     tasks = [Task(f"rider {it['number']}", put_rider(it, clerk, examiner)) for it in records]
-    stands, status = carry.carried_out("riders", tasks, [clerk, examiner], words.folder, refused, rows)
+    stands, status = carry.carried_out(
+        "riders", tasks, [clerk, examiner], words.folder, refused, rows
+    )
     keep_homes(words.folder, agency, [records[at] for at in stands])
     return status
 
 
-def keep_homes(folder, agency, records):
+def keep_homes(folder: str, agency: dict[str, Any], records: list[dict[str, Any]]) -> None:
     """Makes the riders' homes private, where places.csv does not say of a place whose it is."""
     homes = collections.defaultdict(set)
     for record in records:
@@ -38,18 +54,26 @@ def keep_homes(folder, agency, records):
     changed = {}
     for number, riders in homes.items():
         known = agency["places"][number].get("private")
-        riders |= set() if known is None or isinstance(known, bool) else {*(known if isinstance(known, list) else [known])}
-        wanted = known if isinstance(known, bool) else sorted(riders) if len(riders) > 1 else min(riders)
+        riders |= (
+            set()
+            if known is None or isinstance(known, bool)
+            else {*(known if isinstance(known, list) else [known])}
+        )
+        wanted = (
+            known if isinstance(known, bool) else sorted(riders) if len(riders) > 1 else min(riders)
+        )
         if wanted != known:
             changed[number] = agency["places"][number]["private"] = wanted
     if changed:
         carry.keep_agency(folder, agency)
         shared = sum(isinstance(it, list) for it in changed.values())
-        print(f"homes: {len(changed)} places are private to their riders now"
-              + (f", {shared} of them to more than one" if shared else ""))
+        print(
+            f"homes: {counted(len(changed), 'place is', 'places are')} private to their riders now"
+            + (f", {shared} of them to more than one" if shared else "")
+        )
 
 
-def rider_fault(record, earliest, agency):
+def rider_fault(record: dict[str, Any], earliest: str, agency: dict[str, Any]) -> str | None:
     if record["home"] and str(record["home"]) not in agency["places"]:
         return f"the home, place {record['home']}, was not put yet"
     if record["kind"] == "visitor" and record["until"]:
@@ -59,31 +83,47 @@ def rider_fault(record, earliest, agency):
     return None
 
 
-def told_riders(records):
+def told_riders(records: list[dict[str, Any]]) -> None:
     residents = [it for it in records if it["kind"] == "resident"]
     granted = [it for it in residents if it["until"]]
-    print(f"{len(records)} riders: {len(records) - len(residents)} visitors, {len(residents)} residents")
-    print(f"  {len(granted)} residents get an application and its grant, to the day in the table")
+    print(
+        f"{counted(len(records), 'rider')}: {counted(len(records) - len(residents), 'visitor')}, "
+        f"{counted(len(residents), 'resident')}"
+    )
+    print(
+        f"  {counted(len(granted), 'resident gets', 'residents get')} an application and its grant, to the day in the table"
+    )
     without = len(residents) - len(granted)
     if without:
-        print(f"  {without} residents have no last day in the table, and get a record alone: they may not ride yet")
+        print(
+            f"  {counted(without, 'resident has', 'residents have')} no last day in the table: a record alone, "
+            "and no ride yet"
+        )
     marked = sum(it["wheelchair"] for it in records)
     if marked:
-        print(f"  {marked} riders come in a wheelchair: their vehicles need a wheelchair place")
+        print(
+            f"  {counted(marked, 'rider comes', 'riders come')} in a wheelchair: their vehicles need a wheelchair place"
+        )
 
 
-def put_rider(record, clerk, examiner):
+def put_rider(record: dict[str, Any], clerk: Caller, examiner: Caller) -> Callable[..., Any]:
     """The record, then the application and its grant, unless the rider has that grant already."""
-    def do():
-        body = {"id": record["number"], "kind": record["kind"], "attendant": record["attendant"],
-                "wheelchair": record["wheelchair"]}
+
+    def do() -> None:
+        body = {
+            "id": record["number"],
+            "kind": record["kind"],
+            "attendant": record["attendant"],
+            "wheelchair": record["wheelchair"],
+        }
         accepted(clerk.post("/riders", body))
         if record["until"]:
             grant(record, clerk, examiner)
+
     return do
 
 
-def grant(record, clerk, examiner):
+def grant(record: dict[str, Any], clerk: Caller, examiner: Caller) -> None:
     """The grant to the record's day. No grant that reaches so far is replaced by another one."""
     path = f"/riders/{record['number']}/entries"
     wanted = {"entry": "grant", "until": record["until"], "conditions": record["conditions"]}
@@ -99,10 +139,13 @@ def grant(record, clerk, examiner):
         accepted(reply)
     reply = examiner.post(path, wanted, purpose)
     if reply.status != 200 and not has_grant(record, clerk):
-        raise CannotBe(f"{carry.reason_of(reply)}; ITS APPLICATION WAITS, and has to be decided within 21 days")
+        raise CannotBe(
+            f"{carry.reason_of(reply)}; ITS APPLICATION WAITS, and has to be decided within "
+            f"{law.DAYS_UNTIL_PRESUMED} days"
+        )
 
 
-def has_grant(record, clerk):
+def has_grant(record: dict[str, Any], clerk: Caller) -> bool:
     """Whether the rider has this very grant. Another one that holds on its last day is left to the examiner."""
     told = clerk.get(f"/riders/{record['number']}/standing/{record['until']}").body
     if not isinstance(told, dict) or told.get("standing") != "granted":
@@ -113,10 +156,16 @@ def has_grant(record, clerk):
     return True
 
 
-def ending(records, refused, as_of, within):
+def ending(
+    records: list[dict[str, Any]], refused: list[Any], as_of: datetime.date, within: int
+) -> int:
     """Prints the riders whose certification ends within so many days of a day, the next one first."""
     first, last = (it.isoformat() for it in (as_of, as_of + datetime.timedelta(days=within)))
-    soon = sorted((it["until"], it["number"]) for it in records if it["until"] and first <= it["until"] <= last)
+    soon = sorted(
+        (it["until"], it["number"])
+        for it in records
+        if it["until"] and first <= it["until"] <= last
+    )
     print("until,number")
     for until, number in soon:
         print(f"{until},{number}")
@@ -128,7 +177,7 @@ def ending(records, refused, as_of, within):
 # One write or read of one's own.
 
 
-def write(words):
+def write(words: argparse.Namespace) -> int:
     """One write, whose fields a file holds."""
     try:
         with open(words.json, encoding="utf-8") as file:
@@ -148,20 +197,22 @@ def write(words):
     return DONE if reply.status == 200 else SOME_REFUSED
 
 
-def read(words):
+def read(words: argparse.Namespace) -> int:
     """One read."""
     reply = own_caller(words).get(words.path)
     print(told(reply))
     return DONE if reply.status == 200 else SOME_REFUSED
 
 
-def own_caller(words):
+def own_caller(words: argparse.Namespace) -> Caller:
     """The caller of the one key that is named."""
     named = [it for it in commands.ROLES if getattr(words, it)]
     if len(named) != 1:
-        raise Wrong(f"this takes the file of one key: {', '.join('--' + it for it in commands.ROLES)}")
+        raise Wrong(
+            f"this takes the file of one key: {', '.join('--' + it for it in commands.ROLES)}"
+        )
     return commands.caller_of(words, named[0])
 
 
-def told(reply):
+def told(reply: Reply) -> str:
     return reply.body.rstrip("\n") if isinstance(reply.body, str) else json.dumps(reply.body)

@@ -1,14 +1,19 @@
 """Files and folders that are written whole or not at all: another name first, on the disk, and then the name."""
+
+from __future__ import annotations
+
 import contextlib
 import fcntl
 import os
 import shutil
 import tempfile
+from collections.abc import Iterator
+from pathlib import Path
 
-from moving.limits import Wrong
+from desk_tools.setup.limits import Wrong
 
 
-def folder_synced(folder):
+def folder_synced(folder: str | Path) -> None:
     """Puts on the disk which names the folder has."""
     number = os.open(folder or ".", os.O_RDONLY | os.O_DIRECTORY)
     try:
@@ -17,17 +22,19 @@ def folder_synced(folder):
         os.close(number)
 
 
-def written(path, text, mode=0o600, group=None):
-    """Gives the file this text. It has the old text until the new one is on the disk."""
+def written(
+    path: str | Path, content: str | bytes, mode: int = 0o600, group: int | None = None
+) -> None:
+    """Gives the file this content. It has the old one until the new one is on the disk."""
     new = f"{path}.new"
     with contextlib.suppress(FileNotFoundError):
         os.remove(new)
     try:
-        with open(os.open(new, os.O_WRONLY | os.O_CREAT | os.O_EXCL, mode), "w", encoding="utf-8", newline="") as file:
+        with open(os.open(new, os.O_WRONLY | os.O_CREAT | os.O_EXCL, mode), "wb") as file:
             if group is not None:
                 os.fchown(file.fileno(), -1, group)
             os.fchmod(file.fileno(), mode)
-            file.write(text)
+            file.write(content.encode() if isinstance(content, str) else content)
             file.flush()
             os.fsync(file.fileno())
         os.replace(new, path)
@@ -35,13 +42,13 @@ def written(path, text, mode=0o600, group=None):
         with contextlib.suppress(OSError):
             os.remove(new)
         # (a full disk names no file)
-        error.filename = error.filename or path
+        error.filename = error.filename or str(path)
         raise
     folder_synced(os.path.dirname(path))
 
 
 @contextlib.contextmanager
-def folder_written(path):
+def folder_written(path: str) -> Iterator[str]:
     """A folder beside `path`, which gets this name once all is in it. Where that fails, `path` is as it was.
 
     Raises Wrong where `path` is there and is no empty folder.
@@ -70,11 +77,37 @@ def folder_written(path):
 
 
 @contextlib.contextmanager
-def alone(path):
+def turn_in(folder: str) -> Iterator[None]:
+    """One run at a time works in a folder, and another waits for its turn; nothing is left in it."""
+    number = os.open(folder, os.O_RDONLY | os.O_DIRECTORY)
+    try:
+        fcntl.flock(number, fcntl.LOCK_EX)
+        yield
+    finally:
+        os.close(number)
+
+
+@contextlib.contextmanager
+def alone_in(folder: str) -> Iterator[None]:
+    """One run at a time works in a folder; nothing is left in it. Raises Wrong where another run does."""
+    number = os.open(folder, os.O_RDONLY | os.O_DIRECTORY | os.O_CLOEXEC)
+    try:
+        fcntl.flock(number, fcntl.LOCK_EX | fcntl.LOCK_NB)
+        yield
+    except BlockingIOError:
+        raise Wrong(f"another run is under way in {folder}: run the same again") from None
+    finally:
+        os.close(number)
+
+
+@contextlib.contextmanager
+def alone(path: str) -> Iterator[None]:
     """One run at a time has a file that is read and then written whole. Raises Wrong where another run has it."""
     folder, name = os.path.split(os.path.realpath(path))
     try:
-        number = os.open(f"{folder}/.{name}.lock", os.O_RDWR | os.O_CREAT | os.O_NOFOLLOW | os.O_CLOEXEC, 0o600)
+        number = os.open(
+            f"{folder}/.{name}.lock", os.O_RDWR | os.O_CREAT | os.O_NOFOLLOW | os.O_CLOEXEC, 0o600
+        )
     except OSError as error:
         raise Wrong(f"{path}: {error.strerror}") from None
     try:

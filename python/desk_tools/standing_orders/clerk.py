@@ -1,6 +1,16 @@
 """Bookings over the desk's API, each done once, though the line breaks or this program is killed."""
-from moving.desk import Caller
-from moving.limits import Wrong
+
+from __future__ import annotations
+
+from collections.abc import Callable
+from typing import Any, TYPE_CHECKING
+
+from desk_tools.setup.desk import Caller
+from desk_tools.setup.limits import Wrong
+
+if TYPE_CHECKING:
+    from desk_tools.setup.desk import Line, Reply
+    from desk_tools.standing_orders.state import Sent, State
 
 STANDING = ("booked", "ridden", "missed-rider", "missed-operator")
 
@@ -8,11 +18,12 @@ STANDING = ("booked", "ridden", "missed-rider", "missed-operator")
 class Clerk(Caller):
     """The caller whose key books. What it has sent stands in the state."""
 
-    def __init__(self, line, state, path):
+    def __init__(self, line: Line, state: State, path: str) -> None:
         super().__init__(line, state, path)
-        self.state, self.trips, self.low = state, {}, 0
+        self.state, self.low = state, 0
+        self.trips: dict[int, dict[int, dict[str, Any]]] = {}
 
-    def settle(self):
+    def settle(self) -> bool:
         """Whether the state tells of this very desk; else it forgets what it tells."""
         self.low = self.state.last.get(self.name, 0)
         if not self.low or self.is_used(self.low):
@@ -21,22 +32,26 @@ class Clerk(Caller):
         self.low = 0
         return False
 
-    def next_number(self):
+    def next_number(self) -> int:
         """A number above that of the last accepted write."""
         if self.last is None:
             self.last = self.last_number(self.low)
         return self.last + 1
 
-    def trips_of(self, rider, anew=False):
+    def trips_of(self, rider: int, anew: bool = False) -> dict[int, dict[str, Any]]:
         """The trips of a rider by their numbers; none where there is no such rider."""
         if anew or rider not in self.trips:
             reply = self.get(f"/riders/{rider}/trips")
             if reply.status not in (200, 404):
-                raise Wrong(f"the desk does not tell the trips of rider {rider}: status {reply.status}")
-            self.trips[rider] = {it["trip"]: it for it in reply.body["trips"]} if reply.status == 200 else {}
+                raise Wrong(
+                    f"the desk does not tell the trips of rider {rider}: status {reply.status}"
+                )
+            self.trips[rider] = (
+                {it["trip"]: it for it in reply.body["trips"]} if reply.status == 200 else {}
+            )
         return self.trips[rider]
 
-    def book(self, key, body, sent=None):
+    def book(self, key: str, body: dict[str, Any], sent: int | None = None) -> Reply | None:
         """The reply to a booking; `sent` is the number that a killed run sent it with. None where the number was
         overtaken, so that the rider's trips have to say whether it was done."""
         number = sent or self.next_number()
@@ -59,16 +74,24 @@ class Clerk(Caller):
         self.state.closed(self.name, number if reply.status == 200 else None)
         return self.taken(reply)
 
-    def resumed(self, sent):
+    def resumed(self, sent: Sent) -> Reply | None:
         """The reply to the write whose reply a killed run did not see, sent again as it was with its number."""
         return self.book(sent.key, sent.body, sent.number)
 
-    def left(self, sent):
+    def left(self, sent: Any) -> None:
         """The open write is not sent again, since its number is not used."""
         self.last = sent.number - 1
         self.state.closed(self.name)
 
-    def trip_like(self, rider, fields, is_free):
+    def trip_like(
+        self, rider: int, fields: dict[str, Any], is_free: Callable[..., Any]
+    ) -> int | None:
         """The number of a trip of the rider that has these fields and is free, or None."""
-        return next((number for number, it in self.trips_of(rider).items()
-                     if all(it[name] == value for name, value in fields.items()) and is_free(number, it)), None)
+        return next(
+            (
+                number
+                for number, it in self.trips_of(rider).items()
+                if all(it[name] == value for name, value in fields.items()) and is_free(number, it)
+            ),
+            None,
+        )

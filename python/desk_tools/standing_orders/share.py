@@ -4,26 +4,36 @@ A time of day is an hour of the clock: of an order by its wish, of a trip by the
 trips that stood in that hour on the day itself, or on the same weekday of one of the last four weeks. The agency may
 say more, in a table of its own.
 """
+
+from __future__ import annotations
+
 import collections
 import csv
 import datetime
 import io
+from collections import Counter
+from typing import TYPE_CHECKING
 
-from moving import tables
-from moving.limits import Wrong
+from desk_tools.setup import tables
+from desk_tools.setup.limits import Wrong
+
+if TYPE_CHECKING:
+    from desk_tools.setup.desk import Caller
 
 WEEKS = 4
 NUMBER = tables.whole(0, 100_000)
-CAPACITY = {"weekday": tables.Column(tables.weekdays, tables.REQUIRED),
-            "hour": tables.Column(tables.whole(0, 23), tables.REQUIRED),
-            "trips": tables.Column(NUMBER, tables.REQUIRED)}
+CAPACITY = {
+    "weekday": tables.Column(tables.weekdays, tables.REQUIRED),
+    "hour": tables.Column(tables.whole(0, 23), tables.REQUIRED),
+    "trips": tables.Column(NUMBER, tables.REQUIRED),
+}
 
 
-def hour_of(minute):
+def hour_of(minute: int) -> int:
     return minute // 60
 
 
-def capacity_in(path):
+def capacity_in(path: str) -> dict[tuple[int, int], int]:
     """What the agency says is available, by weekday and hour."""
     found = {}
     sheet = tables.sheet_of(path, CAPACITY)
@@ -31,7 +41,10 @@ def capacity_in(path):
         raise Wrong(f"line {sheet.refused[0].number} of {path}: {sheet.refused[0].reason}")
     for line in sheet.rows:
         try:
-            row = {name: tables.value_of(name, column, line.fields) for name, column in CAPACITY.items()}
+            row = {
+                name: tables.value_of(name, column, line.fields)
+                for name, column in CAPACITY.items()
+            }
         except ValueError as error:
             raise Wrong(f"line {line.number} of {path}: {error}") from None
         found.update({(weekday, row["hour"]): row["trips"] for weekday in row["weekday"]})
@@ -41,11 +54,18 @@ def capacity_in(path):
 class Share:
     """The share of standing orders; without a percentage nothing is counted."""
 
-    def __init__(self, percent, today, reader=None, capacity=None):
+    def __init__(
+        self,
+        percent: int | None,
+        today: datetime.date,
+        reader: Caller | None = None,
+        capacity: dict[tuple[int, int], int] | None = None,
+    ) -> None:
         self.percent, self.today, self.reader, self.capacity = percent, today, reader, capacity
-        self.exports, self.booked = {}, collections.Counter()
+        self.exports: dict[datetime.date, Counter[int]] = {}
+        self.booked: Counter[tuple[datetime.date, int]] = collections.Counter()
 
-    def trips_on(self, day):
+    def trips_on(self, day: datetime.date) -> Counter[int]:
         """How many trips stand on a day, by the hour in which the window ends, as the desk's export tells it."""
         if self.reader is None:
             return collections.Counter()
@@ -55,10 +75,12 @@ class Share:
                 raise Wrong(f"the desk does not tell the trips of {day}: status {reply.status}")
             rows = csv.DictReader(io.StringIO(reply.body))
             standing = [it for it in rows if it["status"] != "cancelled"]
-            self.exports[day] = collections.Counter(hour_of(int(it["window_to"])) for it in standing)
+            self.exports[day] = collections.Counter(
+                hour_of(int(it["window_to"])) for it in standing
+            )
         return self.exports[day]
 
-    def available(self, day, hour):
+    def available(self, day: datetime.date, hour: int) -> int:
         """What is surely available in an hour of a day, with one trip more booked there."""
         now = self.trips_on(day)[hour] + self.booked[day, hour] + 1
         # (the last four of this weekday that are not after today)
@@ -67,16 +89,18 @@ class Share:
         said = (self.capacity or {}).get((day.isoweekday(), hour), 0)
         return max(now, said, *(self.trips_on(it)[hour] for it in weeks))
 
-    def fault(self, day, minute, standing):
+    def fault(self, day: datetime.date, minute: int, standing: int) -> str | None:
         """Why no standing order more may be booked there, or None; `standing` are those that are there."""
         if self.percent is None:
             return None
         available = self.available(day, hour_of(minute))
         if (standing + 1) * 100 <= self.percent * available:
             return None
-        return (f"{standing} standing orders are in the hour from {hour_of(minute):02}:00 already, of {available} "
-                f"trips that are available, and {self.percent} % is the most")
+        return (
+            f"{standing} standing orders are in the hour from {hour_of(minute):02}:00 already, of {available} "
+            f"trips that are available, and {self.percent} % is the most"
+        )
 
-    def took(self, day, hour):
+    def took(self, day: datetime.date, hour: int) -> None:
         """A standing order was booked."""
         self.booked[day, hour] += 1

@@ -6,6 +6,7 @@ Columns: id, street, place, latitude and longitude or x and y in feet, note, rid
 
 import csv
 import io
+import re
 from collections.abc import Callable, Iterable, Mapping, Sequence
 from dataclasses import dataclass, field, replace
 from pathlib import Path
@@ -17,17 +18,17 @@ from desk_tools.town.corridor import Point
 from desk_tools.town.sheets import Refusal, Row, Sheet
 
 T = TypeVar("T")
-MOST_ADDRESSES = 100_000
+MOST_ADDRESSES, SHOWN_EACH = 100_000, 1_000
 COLUMNS = {
-    "id": ("number", "no", "address_id"),
+    "id": ("number", "no", "address_id", "address_number", "id_number"),
     "street": ("address", "street_address"),
     "place": ("place_id", "place_number"),
     "latitude": ("lat",),
     "longitude": ("lon", "lng", "long"),
     "x": (),
     "y": (),
-    "note": ("notes",),
-    "rider": ("riders", "home_of"),
+    "note": ("notes", "comment", "comments"),
+    "rider": ("riders", "home_of", "rider_id", "rider_number", "client", "client_id"),
     "core": (),
 }
 # What the file that the tools write has.
@@ -57,8 +58,18 @@ class Others:
     cells: Mapping[int, Mapping[str, str]] = field(default_factory=dict)
 
 
+def plain(street: str) -> str:
+    """A street as it is compared: without case, commas and points."""
+    return " ".join(re.sub(r"[.,#]", " ", street).lower().split())
+
+
+def same(address: Address) -> tuple[str, Point | None]:
+    """What two rows of one address have in common: the street and the point."""
+    return plain(address.street), address.point
+
+
 class Plane(Protocol):
-    """The agency's plane (bin/moving/plane.py)."""
+    """The agency's plane (desk_tools/setup/plane.py)."""
 
     def point(self, latitude: float, longitude: float) -> Point:
         """The point of a position, in whole feet; an exception where it is too far away."""
@@ -67,17 +78,17 @@ class Plane(Protocol):
         """The latitude and longitude of a point."""
 
 
-def read(path: Path, plane: Plane | None) -> tuple[list[Address], Sheet]:
+def read(
+    path: Path, plane: Plane | None, show: Callable[[int, int, str], None] | None = None
+) -> tuple[list[Address], Sheet]:
     """The addresses of a file, and the sheet with the rows that are refused."""
     sheet = sheets.read(path, COLUMNS, MOST_ADDRESSES)
-    for name in ("id", "street"):
-        if name not in sheet.header:
-            raise sheets.Unreadable(
-                f"{path} has no column {name} in row 1, which names the columns"
-            )
+    sheets.require(sheet, ("id", "street"), COLUMNS)
     found: dict[int, Address] = {}
 
     def take(row: Row) -> None:
+        if show and row.number % SHOWN_EACH == 0:
+            show(row.number, len(sheet.rows), "addresses read")
         address = address_of(row, plane)
         there = found.setdefault(address.number, address)
         if there is not address:

@@ -1,5 +1,6 @@
 """What a cell says: numbers with leading zeros, days as Excel saves them, words in any case."""
 
+import calendar
 import datetime
 import re
 
@@ -13,6 +14,10 @@ WHOLE = re.compile(r"([+-]?)0*(\d{1,10})(?:\.0+)?", re.ASCII)
 YES = {"yes": True, "y": True, "true": True, "1": True, "x": True}
 NO = {"no": False, "n": False, "false": False, "0": False}
 ISO, MONTH_FIRST, COUNTED = "YYYY-MM-DD", "M/D/YYYY", "Excel's count of days"
+NAMED = "a day with the month's name"
+MONTHS = {it.lower(): at for at, it in enumerate(calendar.month_name) if it}
+NAMED_FIRST = re.compile(r"([a-z]{3,9})\.? (\d{1,2}),? (\d{4})", re.ASCII)
+NAMED_SECOND = re.compile(r"(\d{1,2})[- ]([a-z]{3,9})\.?[- ](\d{4}|\d{2})", re.ASCII)
 
 
 class WrongCell(ValueError):
@@ -52,6 +57,25 @@ def numbers(text: str) -> list[int]:
     return sorted({number(it) for it in re.split(r"[\s;]+", text) if it})
 
 
+def named_day(text: str) -> datetime.date | None:
+    """A day such as June 30, 2027 or 30-Jun-27, or None; a ValueError where there is no such day."""
+    first, second = NAMED_FIRST.fullmatch(text), NAMED_SECOND.fullmatch(text)
+    if not first and not second:
+        return None
+    name, of_month, year = (
+        first.groups() if first else (second[2], second[1], second[3]) if second else ("", "", "")
+    )
+    month = next(
+        (
+            at
+            for it, at in MONTHS.items()
+            if it == name or it[:3] == name or name == "sept" == it[:4]
+        ),
+        0,
+    )
+    return datetime.date(int(year) + 2000 * (len(year) == 2), month, int(of_month))
+
+
 def day(text: str) -> tuple[str, str]:
     """A day as YYYY-MM-DD, and the form in which it stood."""
     plain = text.strip()
@@ -62,6 +86,8 @@ def day(text: str) -> tuple[str, str]:
             found, form = datetime.date(year + 2000 * (year < 100), month, of_month), MONTH_FIRST
         elif serial := SERIAL.fullmatch(plain):
             found, form = EXCEL_BEGINS + datetime.timedelta(days=int(serial[1])), COUNTED
+        elif by_name := named_day(plain.lower()):
+            found, form = by_name, NAMED
         elif re.fullmatch(r"\d{4}-\d\d-\d\d(?:[T ]00:00(?::00)?)?", plain, re.ASCII):
             found = datetime.date.fromisoformat(plain[:10])
     except ValueError:

@@ -6,6 +6,7 @@ no nearer to a line than the grant says, where the home is not.
 """
 
 import re
+from collections import Counter
 from collections.abc import Mapping, Sequence
 
 from desk_tools.town.corridor import Line, Point, feet_from_line, feet_missing
@@ -19,12 +20,17 @@ Grants = Mapping[int, Sequence[str]]
 
 def grant_in(text: str) -> list[str]:
     """One to four conditions of a grant, with a semicolon between two; a ValueError says what is wrong."""
-    found = [it.strip() for it in text.lower().split(";")]
+    found = parts_of(text)
     if not all(map(is_condition, found)):
         raise ValueError("are none such as always, nolift, months:1,2,12 (rising) or farther:5280")
     if len(found) > MOST_CONDITIONS:
         raise ValueError("are more than four conditions")
     return found
+
+
+def parts_of(text: str) -> list[str]:
+    """What stands between semicolons, as the desk spells it: `No Lift` is nolift, and `farther: 5280` is farther:5280."""
+    return [re.sub(r"[\s_-]+", "", it) for it in text.lower().split(";")]
 
 
 def is_condition(text: str) -> bool:
@@ -46,13 +52,30 @@ def matters(conditions: Sequence[str]) -> bool:
 
 def conditions_in(text: str) -> tuple[str, ...]:
     """The conditions of a cell, with ; between two."""
-    return tuple(it.strip() for it in text.lower().split(";") if it.strip())
+    return tuple(it for it in parts_of(text) if it)
 
 
 def conditions_of(riders: Sequence[int], grants: Grants) -> tuple[str, ...]:
     """All conditions of those who live at an address for which the place matters."""
     found = {it for rider in riders if matters(grants.get(rider, ())) for it in grants[rider]}
     return tuple(sorted(found))
+
+
+def feet_in(condition: str) -> int:
+    """The feet of a condition such as farther:5280."""
+    return int(condition.rpartition(":")[2])
+
+
+def kinds_of(grants: Grants) -> list[str]:
+    """The conditions of all grants for which the place matters, those of most riders first."""
+    often = Counter(
+        it
+        for conditions in grants.values()
+        if matters(conditions)
+        for it in conditions
+        if it == NO_LIFT or FARTHER.fullmatch(it)
+    )
+    return [it for it, _ in often.most_common()]
 
 
 def line_that_denies(

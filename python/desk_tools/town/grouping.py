@@ -12,7 +12,7 @@ from numpy.typing import NDArray
 
 from desk_tools.town import medoids
 from desk_tools.town.corridor import Line
-from desk_tools.town.many_points import masks_of
+from desk_tools.town.many_points import counted_of, masks_of
 from desk_tools.town.medoids import Floats, Indexes, Masks, Points, Show
 
 Flags = NDArray[np.bool_]
@@ -35,22 +35,24 @@ class Wanted:
     own: Points
     free: int
     minutes_a_foot: float
+    conditions: Sequence[str] = ()
 
 
 @dataclass
 class Grouped:
-    """The places, own ones first, and for each address the index of its place."""
+    """The places, own ones first, for each address the index of its place, and the sum of the minutes."""
 
     places: Points
     of: Indexes
-
-    def cost(self, wanted: Wanted) -> float:
-        """The sum of the minutes from the addresses to their places."""
-        return float(feet_of(wanted.addresses, self).sum() * wanted.minutes_a_foot)
+    cost: float
 
 
 def points_of(
-    at: NDArray[np.int64], is_core: Flags, lines: Sequence[Line], is_place: bool = False
+    at: NDArray[np.int64],
+    is_core: Flags,
+    lines: Sequence[Line],
+    is_place: bool = False,
+    conditions: Sequence[str] = (),
 ) -> Points:
     """Points with their masks. Of a place outside every corridor no address is in need."""
     masks = masks_of(at, np.zeros(len(at), dtype=bool), lines)
@@ -58,19 +60,13 @@ def points_of(
     kinds = np.where(is_core, every | CORE, masks | NOT_CORE)
     if is_place:
         kinds = np.where(kinds & LINES == 0, np.uint64(0), kinds)
-    return Points(at, kinds.astype(np.uint64))
-
-
-def feet_of(addresses: Points, grouped: Grouped) -> NDArray[np.float64]:
-    """How far each address is from its place."""
-    away = (addresses.at - grouped.places.at[grouped.of]).astype(np.float64)
-    found: NDArray[np.float64] = np.hypot(away[:, 0], away[:, 1])
-    return found
+    counted = counted_of(at, lines, conditions) if conditions else None
+    return Points(at, kinds.astype(np.uint64), counted)
 
 
 def grouped_at(wanted: Wanted, lines: Sequence[Line], show: Show) -> Grouped:
     """Addresses at places, with the least sum of minutes that was found."""
-    near = candidates_of(wanted.addresses, wanted.is_home, lines)
+    near = candidates_of(wanted, lines)
     kept, weights = cells_of(wanted.addresses)
     cells = wanted.addresses.some(kept)
     start, candidates = covered(cells, wanted, near.some(kept), lines)
@@ -101,9 +97,10 @@ def cells_of(addresses: Points) -> tuple[Indexes, Floats]:
     return order[first], counts.astype(np.float32)
 
 
-def candidates_of(addresses: Points, is_home: Flags, lines: Sequence[Line]) -> Points:
+def candidates_of(wanted: Wanted, lines: Sequence[Line]) -> Points:
     """Where places may be: at addresses, and near homes, whose own point nobody else may know."""
-    at, left = addresses.at.copy(), is_home.copy()
+    addresses = wanted.addresses
+    at, left = addresses.at.copy(), wanted.is_home.copy()
     masks = addresses.masks.copy()
     for step in ROUNDINGS:
         where = np.flatnonzero(left)
@@ -114,7 +111,8 @@ def candidates_of(addresses: Points, is_home: Flags, lines: Sequence[Line]) -> P
         is_right = (addresses.masks[where] & ~there) == 0
         at[where[is_right]], masks[where[is_right]] = moved[is_right], there[is_right]
         left[where[is_right]] = False
-    return Points(at, masks)
+    counted = counted_of(at, lines, wanted.conditions) if wanted.conditions else None
+    return Points(at, masks, counted)
 
 
 def covered(
@@ -128,29 +126,32 @@ def covered(
     try:
         return medoids.covering(needed, candidates.masks, wanted.free), candidates
     except medoids.TooFewPlaces:
-        more = medoids.joined(candidates, lattice(cells.at, lines))
+        more = medoids.joined(candidates, lattice(cells.at, lines, wanted.conditions))
         return medoids.covering(needed, more.masks, wanted.free), more
 
 
-def lattice(at: NDArray[np.int64], lines: Sequence[Line]) -> Points:
+def lattice(at: NDArray[np.int64], lines: Sequence[Line], conditions: Sequence[str]) -> Points:
     """Points of a net over the town, one for each group of lines that meets there."""
     low, high = at.min(axis=0), at.max(axis=0)
     step = max(660, int(np.ceil(np.sqrt(float(np.prod((high - low + 1).astype(float))) / 141))))
     axes = [np.arange(low[it], high[it] + step, step) for it in (0, 1)]
     net = np.stack(np.meshgrid(*axes), axis=-1).reshape(-1, 2)[:MOST_LATTICE]
-    found = points_of(net.astype(np.int64), np.zeros(len(net), dtype=bool), lines)
+    is_core = np.zeros(len(net), dtype=bool)
+    found = points_of(net.astype(np.int64), is_core, lines, conditions=conditions)
     _, first = np.unique(found.masks, return_index=True)
     return found.some(first)
 
 
-def nearest_of(addresses: Points, places: Points) -> Indexes:
-    """For each address the nearest place where it may be."""
-    parts = [
-        medoids.costs(addresses.some(np.arange(at, min(at + BLOCK, len(addresses)))), places, 1.0)
-        for at in range(0, len(addresses), BLOCK)
-    ]
-    found: Indexes = np.concatenate([it.argmin(axis=1) for it in parts])
-    return found
+def nearest_of(wanted: Wanted, places: Points) -> Grouped:
+    """Each address at the best place where it may be."""
+    of: list[Indexes] = []
+    cost = 0.0
+    for at in range(0, len(wanted.addresses), BLOCK):
+        block = wanted.addresses.some(np.arange(at, min(at + BLOCK, len(wanted.addresses))))
+        found = medoids.costs(block, places, wanted.minutes_a_foot)
+        of.append(found.argmin(axis=1))
+        cost += float(found.min(axis=1).sum(dtype=np.float64))
+    return Grouped(places, np.concatenate(of), cost)
 
 
 def refined(wanted: Wanted, near: Points, new: Points) -> Grouped:
@@ -158,45 +159,41 @@ def refined(wanted: Wanted, near: Points, new: Points) -> Grouped:
 
     `near` has for each address where a place for it may be.
     """
-    places = medoids.joined(wanted.own, new)
-    best = Grouped(places, nearest_of(wanted.addresses, places))
-    cost = best.cost(wanted)
+    best = nearest_of(wanted, medoids.joined(wanted.own, new))
     for _ in range(MOST_ROUNDS):
-        moved = moved_places(wanted, near, best)
-        tried = Grouped(moved, nearest_of(wanted.addresses, moved))
-        less = tried.cost(wanted)
-        if less >= cost * (1 - medoids.LEAST_GAIN):
+        tried = nearest_of(wanted, moved_places(wanted, near, best))
+        if tried.cost >= best.cost * (1 - medoids.LEAST_GAIN):
             break
-        best, cost = tried, less
+        best = tried
     return best
 
 
 def moved_places(wanted: Wanted, near: Points, grouped: Grouped) -> Points:
     """The places, each new one at the best of its own addresses."""
-    at, masks = grouped.places.at.copy(), grouped.places.masks.copy()
+    places, rest = grouped.places, np.arange(len(grouped.places))
     order = np.argsort(grouped.of, kind="stable")
-    edges = np.searchsorted(grouped.of[order], np.arange(len(at) + 1))
-    for place in range(len(wanted.own), len(at)):
+    edges = np.searchsorted(grouped.of[order], np.arange(len(places) + 1))
+    both = medoids.joined(places, near)
+    for place in range(len(wanted.own), len(places)):
         members = order[edges[place] : edges[place + 1]]
         if len(members) < 2:
             continue
-        best = middle_of(wanted.addresses.some(members), near.some(members))
+        best = middle_of(wanted, members, near)
         if best is not None:
-            at[place], masks[place] = best
-    return Points(at, masks)
+            rest[place] = len(places) + best
+    return both.some(rest)
 
 
-def middle_of(group: Points, candidates: Points) -> tuple[NDArray[np.int64], np.uint64] | None:
+def middle_of(wanted: Wanted, members: Indexes, candidates: Points) -> int | None:
     """The candidate of a group that is best for all of it, where one is allowed."""
+    group = wanted.addresses.some(members)
     away = group.at - group.at.mean(axis=0)
-    order = np.argsort(np.hypot(away[:, 0], away[:, 1]), kind="stable")[:MOST_TRIED]
-    tried = candidates.some(order)
-    tried = tried.some((np.bitwise_or.reduce(group.masks) & ~tried.masks) == 0)
+    tried = members[np.argsort(np.hypot(away[:, 0], away[:, 1]), kind="stable")[:MOST_TRIED]]
+    tried = tried[(np.bitwise_or.reduce(group.masks) & ~candidates.masks[tried]) == 0]
     if not len(tried):
         return None
-    sums = medoids.costs(group, tried, 1.0).sum(axis=0)
-    best = int(sums.argmin())
-    return tried.at[best], tried.masks[best]
+    sums = medoids.costs(group, candidates.some(tried), wanted.minutes_a_foot).sum(axis=0)
+    return int(tried[int(sums.argmin())])
 
 
 def is_allowed(addresses: Masks, places: Masks) -> Flags:

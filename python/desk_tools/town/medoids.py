@@ -5,8 +5,9 @@ allowed has the cost FORBIDDEN, more than all drives together; some choice witho
 first, so that none of the later steps takes it.
 """
 
-from collections.abc import Callable, Sequence
+from collections.abc import Sequence
 from dataclasses import dataclass
+from typing import Protocol
 
 import numpy as np
 from numpy.typing import NDArray
@@ -15,9 +16,17 @@ Floats = NDArray[np.float32]
 Indexes = NDArray[np.int64]
 Masks = NDArray[np.uint64]
 FORBIDDEN = np.float32(1e7)
+# A place where a grant may hold less than at the address costs as much as so many minutes of driving.
+MORE_COUNTED = np.float32(3)
 # An improvement of less than this share of the sum is none: floating numbers are no better.
 LEAST_GAIN = 1e-6
-Show = Callable[[int, int], None]
+
+
+class Show(Protocol):
+    """Shows how far the work is."""
+
+    def __call__(self, done: int, total: int, what: str = "places tried") -> None:
+        ...
 
 
 class TooFewPlaces(Exception):
@@ -30,28 +39,47 @@ class TooFewPlaces(Exception):
 
 @dataclass(frozen=True)
 class Points:
-    """Points with the lines that serve each."""
+    """Points with the lines that serve each.
+
+    `counted` has a column for each condition of some grant: the lines that count against it there.
+    """
 
     at: NDArray[np.int64]
     masks: Masks
+    counted: Masks | None = None
 
     def __len__(self) -> int:
         return len(self.at)
 
     def some(self, chosen: Indexes | NDArray[np.bool_]) -> "Points":
         """Some of the points."""
-        return Points(self.at[chosen], self.masks[chosen])
+        counted = None if self.counted is None else self.counted[chosen]
+        return Points(self.at[chosen], self.masks[chosen], counted)
 
 
 def joined(one: Points, other: Points) -> Points:
     """The points of both."""
-    return Points(np.vstack([one.at, other.at]), np.concatenate([one.masks, other.masks]))
+    counted = None
+    if one.counted is not None and other.counted is not None:
+        counted = np.vstack([one.counted, other.counted])
+    return Points(np.vstack([one.at, other.at]), np.concatenate([one.masks, other.masks]), counted)
+
+
+def is_more_counted(addresses: Points, places: Points) -> NDArray[np.bool_]:
+    """Whether more lines count against some condition at each place than at each address."""
+    found = np.zeros((len(addresses), len(places)), dtype=bool)
+    if addresses.counted is not None and places.counted is not None:
+        for here, there in zip(addresses.counted.T, places.counted.T):
+            found |= (there[None, :] & ~here[:, None]) != 0
+    return found
 
 
 def costs(addresses: Points, places: Points, minutes_a_foot: float) -> Floats:
-    """The minutes from each address to each place."""
+    """The minutes from each address to each place, and more where a grant may hold less."""
     away = addresses.at[:, None, :].astype(np.float32) - places.at[None, :, :].astype(np.float32)
     found: Floats = np.hypot(away[:, :, 0], away[:, :, 1]) * np.float32(minutes_a_foot)
+    if addresses.counted is not None:
+        found[is_more_counted(addresses, places)] += MORE_COUNTED
     found[(addresses.masks[:, None] & ~places.masks[None, :]) != 0] = FORBIDDEN
     return found
 

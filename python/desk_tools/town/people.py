@@ -3,27 +3,49 @@
 Columns: number, name, telephone, language, home_address, latitude, longitude, home, kind, attendant,
 wheelchair, until, conditions, usual, aid, note, reminder, mail. `home` is the number of the home's place. Without it the
 home's address is looked up in the table of addresses, or joins a place by its position.
+
+`move-in riders` makes the place in its column `home` private. So riders.csv has there what the table itself says, or a
+place that is private to riders already. A home that was grouped to another place leaves that open to all, since it may be
+a clinic: the address of a home is private by itself.
 """
 
 import csv
 import datetime
 import io
-import re
 from collections import Counter
-from collections.abc import Callable, Sequence
+from collections.abc import Callable, Collection, Sequence
 from dataclasses import dataclass, field, replace
 from pathlib import Path
 
+from desk_tools.counting import counted
 from desk_tools.reminders.riders import ADDRESS
 from desk_tools.reminders.settings import CHANNELS, NONE
+from desk_tools.setup import roster_file
 from desk_tools.town import cells, conditional, sheets
-from desk_tools.town.addresses import Address, Plane, named, refuse_wrong, with_point
+from desk_tools.town.addresses import (
+    Address,
+    Plane,
+    named,
+    plain,
+    refuse_wrong,
+    with_point,
+)
 from desk_tools.town.cells import WrongCell
 from desk_tools.town.joining import NoPlace
 from desk_tools.town.sheets import Row, Sheet
 
 COLUMNS = {
-    "number": ("rider", "id", "rider_id", "rider_number", "client_id"),
+    "number": (
+        "rider",
+        "id",
+        "rider_id",
+        "rider_number",
+        "rider_no",
+        "id_number",
+        "client",
+        "client_id",
+        "client_number",
+    ),
     "name": ("rider_name", "full_name", "client_name"),
     "telephone": ("phone", "telephone_number", "phone_number", "tel"),
     "language": ("lang",),
@@ -35,8 +57,16 @@ COLUMNS = {
     "home": ("place", "home_place"),
     "kind": ("type",),
     "attendant": ("pca", "personal_care_attendant"),
-    "wheelchair": (),
-    "until": ("certified_until", "expires", "expiration", "expiration_date"),
+    "wheelchair": ("wc", "wheelchair_user", "uses_wheelchair"),
+    "until": (
+        "certified_until",
+        "certified_through",
+        "certification_expires",
+        "cert_expires",
+        "expires",
+        "expiration",
+        "expiration_date",
+    ),
     "conditions": ("condition",),
     "usual": ("usual_places",),
     "aid": ("mobility_aid", "aids"),
@@ -45,22 +75,16 @@ COLUMNS = {
     "mail": ("email", "e_mail", "mail_address", "email_address"),
 }
 RIDERS = ("number", "kind", "attendant", "wheelchair", "until", "conditions", "home")
-ROSTER = (
-    "rider",
-    "name",
-    "telephone",
-    "language",
-    "home",
-    "usual",
-    "aid",
-    "note",
-    "reminder",
-    "mail",
-)
+ROSTER = tuple(it for it in roster_file.COLUMNS if it != "attendant")
 # What the roster takes as it stands, once it was looked at.
 KEPT = ("usual", "aid", "note", "reminder", "mail")
 LANGUAGES = {"english": "en", "inglés": "en", "spanish": "es", "español": "es"}
 KINDS = ("resident", "visitor")
+# What people write where there is no telephone.
+NOTHING = ("none", "no", "n/a", "na", "-", "--", "no phone")
+
+
+WITHOUT_HOME = "An empty home_address takes the rider without a home"
 
 
 @dataclass(frozen=True)
@@ -80,6 +104,7 @@ class Cut:
     sheet: Sheet
     forms: Counter[tuple[str, str]] = field(default_factory=Counter)
     without_home: int = 0
+    highest: int = 0
 
 
 # An address and a grant's conditions: the address at its place, or NoPlace.
@@ -95,23 +120,24 @@ def cut(
     join: Join,
     deny: Deny = lambda address, conditions: "",
     today: datetime.date | None = None,
+    show: Callable[[int, int, str], None] = lambda done, total, what: None,
+    private: Collection[str] = (),
 ) -> Cut:
     """The table's riders, and the addresses with their homes among them.
 
     `join` gives an address its place, or raises NoPlace; `deny` says why a place is not right for a grant. A
-    certification that ended before `today` is refused, as `move-in riders` refuses it.
+    certification that ended before `today` is refused, as `move-in riders` refuses it. `private` are the numbers of the
+    places that are private to riders.
     """
     sheet = sheets.read(path, COLUMNS, cells.HIGHEST_NUMBER)
-    for name in ("number", "name"):
-        if name not in sheet.header:
-            raise sheets.Unreadable(
-                f"{path} has no column {name} in row 1, which names the columns"
-            )
-    made = Cut([], list(known), sheet)
+    sheets.require(sheet, ("number", "name"), COLUMNS)
+    made = Cut([], list(known), sheet, highest=max((it.number for it in known), default=0))
     seen: dict[int, int] = {}
     streets = {plain(it.street): at for at, it in enumerate(made.addresses)}
 
     def take(row: Row) -> None:
+        # (of each row, since a home that joins a place takes long)
+        show(row.number - 1, len(sheet.rows), "riders read")
         number = named("number", row.fields, cells.number)
         if number is None or not row.fields.get("name"):
             raise WrongCell(f"{'name' if number else 'number'} is missing")
@@ -122,16 +148,14 @@ def cut(
         seen[number] = row.number
         made.without_home += home == ""
         made.people.append(
-            Person({**rider, "home": home}, {**roster_of(number, row.fields), "home": home})
+            Person(
+                {**rider, "home": home if row.fields.get("home") or home in private else ""},
+                {**roster_of(number, row.fields), "home": home},
+            )
         )
 
     refuse_wrong(sheet, take)
     return made
-
-
-def plain(street: str) -> str:
-    """A street as it is compared: without case, commas and points."""
-    return " ".join(re.sub(r"[.,#]", " ", street).lower().split())
 
 
 def rider_of(
@@ -153,9 +177,9 @@ def rider_of(
         name: "yes" if named(name, fields, cells.yes_or_no) else "no"
         for name in ("attendant", "wheelchair")
     }
-    conditions = fields.get("conditions", "").lower()
+    conditions = fields.get("conditions", "")
     try:
-        conditional.grant_in(conditions or conditional.ALWAYS)
+        conditions = "; ".join(conditional.grant_in(conditions)) if conditions else ""
     except ValueError as error:
         raise WrongCell(f"conditions {fields['conditions']!r} {error}") from None
     if until:
@@ -173,6 +197,7 @@ def roster_of(number: int, fields: dict[str, str]) -> dict[str, str]:
     """What the roster has of a rider."""
     language = fields.get("language", "").lower()
     telephone = fields.get("telephone", "")
+    telephone = "" if telephone.lower() in NOTHING else telephone
     if telephone and not any(it.isdigit() for it in telephone):
         raise WrongCell(f"telephone {telephone!r} has no digits")
     named("usual", fields, cells.numbers)
@@ -215,10 +240,12 @@ def home_of(
         riders = tuple(sorted({*there.riders, number}))
         made.addresses[at] = replace(there, riders=riders)
         return str(home or there.place or "")
-    new = max((it.number for it in made.addresses), default=0) + 1
-    address = with_point(Address(new, street, place=home, riders=(number,)), fields, plane)
+    address = with_point(
+        Address(made.highest + 1, street, place=home, riders=(number,)), fields, plane
+    )
     if home is None:
         address = joined(address, join, conditions)
+    made.highest += 1
     streets[plain(street)] = len(made.addresses)
     made.addresses.append(address)
     return str(address.place)
@@ -233,7 +260,7 @@ def joined(address: Address, join: Join, conditions: tuple[str, ...]) -> Address
     try:
         return join(address, conditions)
     except NoPlace as error:
-        raise WrongCell(str(error)) from None
+        raise WrongCell(f"{error}. {WITHOUT_HOME}") from None
 
 
 def table(columns: Sequence[str], rows: Sequence[dict[str, str]]) -> str:
@@ -264,6 +291,11 @@ def told(made: Cut) -> list[str]:
     homes = sum(bool(it.riders) for it in made.addresses)
     return [
         *(f"note: {it}" for it in [*unread, *made.sheet.notes, *forms]),
-        f"{len(made.people)} riders; {len(made.addresses)} addresses, {homes} of them homes",
-        *([f"{made.without_home} riders have no home"] if made.without_home else []),
+        f"{counted(len(made.people), 'rider')}; {counted(len(made.addresses), 'address', 'addresses')}, "
+        f"{homes} of them {'a home' if homes == 1 else 'homes'}",
+        *(
+            [f"{counted(made.without_home, 'rider has', 'riders have')} no home"]
+            if made.without_home
+            else []
+        ),
     ]

@@ -8,7 +8,7 @@ import csv
 import io
 import re
 from collections import Counter
-from collections.abc import Iterator
+from collections.abc import Iterator, Sequence
 from dataclasses import dataclass, field
 from pathlib import Path
 
@@ -16,6 +16,8 @@ MARKS = {b"\xff\xfe": "utf-16", b"\xfe\xff": "utf-16"}
 DELIMITERS = {",": "commas", ";": "semicolons", "\t": "tabs"}
 # What a cell has at most, and by how many bytes a file is no table of an agency.
 MOST_SIGNS, MOST_BYTES = 10_000, 400_000_000
+# So far down it is looked for a row that names the columns.
+MOST_ABOVE = 20
 LINE = re.compile(rb"[^\r\n]*(?:\r\n|\r|\n|$)")
 # Signs that no cell has; a line break in a cell is read as a blank.
 WRONG_SIGN = re.compile("[\x00-\x08\x0e-\x1f\x7f\ufffd]")
@@ -97,6 +99,29 @@ def of_bytes(
     return sheet
 
 
+def require(sheet: Sheet, names: Sequence[str], columns: dict[str, tuple[str, ...]]) -> None:
+    """Raises Unreadable where a column is missing. A later row that names the columns is named.
+
+    Every table that the tools read goes through here, so each says it in the same words.
+    """
+    missing = next((it for it in names if it not in sheet.header), None)
+    if missing is None:
+        return
+    early = [(it.number, it.cells) for it in sheet.rows]
+    early += [(it.number, it.cells) for it in sheet.refused]
+    later = [
+        number
+        for number, cells in early
+        if number <= MOST_ABOVE and {*names} <= {named(cell, columns) for cell in cells}
+    ]
+    said = f"{sheet.path} has no column {missing} in row 1, which names the columns"
+    raise Unreadable(
+        f"{said}: row {later[0]} names them, so take away the rows above it"
+        if later
+        else f"{said}: {', '.join(columns)}"
+    )
+
+
 def add(sheet: Sheet, number: int, cells: list[str], fault: str) -> None:
     """Adds a row, or refuses it."""
     if not fault and len(cells) > len(sheet.header) and any(cells[len(sheet.header) :]):
@@ -118,7 +143,7 @@ def add(sheet: Sheet, number: int, cells: list[str], fault: str) -> None:
 
 def named(cell: str, columns: dict[str, tuple[str, ...]]) -> str:
     """The name of a column, in whatever case and form the sheet has it."""
-    plain = re.sub(r"[\s_-]+", "_", cell.strip().lower())
+    plain = re.sub(r"[\W_]+", "_", cell.lower()).strip("_")
     return next((name for name, others in columns.items() if plain in (name, *others)), plain)
 
 

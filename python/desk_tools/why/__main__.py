@@ -16,8 +16,9 @@ import html
 import sys
 from pathlib import Path
 
-from desk_tools import ending, whole_file
+from desk_tools import ending
 from desk_tools.arguments import day_of
+from desk_tools.setup import whole_file
 from desk_tools.why import checking
 from desk_tools.why.checking import NoAudit, NotRight, Question
 from desk_tools.why.facts import NoFacts, facts_of

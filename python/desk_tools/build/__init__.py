@@ -1,0 +1,1 @@
+"""The program of the sources: how it is proved, built and tried."""

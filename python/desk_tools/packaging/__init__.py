@@ -1,0 +1,1 @@
+"""The Debian package: its files, manual pages, licences and receipt."""

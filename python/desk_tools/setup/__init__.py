@@ -1,0 +1,1 @@
+"""Moving an agency in: its files, its lists, its feed and its riders, read and sent to the desk."""

@@ -1,0 +1,1 @@
+"""Weekly trips of riders, booked each night."""
