@@ -1,7 +1,8 @@
-// The addresses of the town, each at a place of the desk, as the site serves them: staff read all of them, others those that are no homes, and a
-// rider the own ones. Which address a trip means is in parts/address-meant.js.
+// The addresses of the town, each at a place of the desk, as the site serves them: staff read all
+// of them, others those that are no homes, and a rider the own ones. Which address a trip means is
+// in parts/address-meant.js.
 
-import { mailingOf, meantOf, readBy } from "./address-meant.js";
+import { isGroup, mailingOf, meantOf, readBy } from "./address-meant.js";
 import { placeName, placeOf, placeWord } from "./agency.js";
 import * as desk from "./desk.js";
 import { whenSignedOut } from "./leaving.js";
@@ -16,25 +17,36 @@ let served = new Map();
 /** @type {Map<number, Address & { sought: string }>} */
 let own = new Map();
 
-const isNumber = (/** @type {any} */ it) => Number.isInteger(it) && it >= 1;
+const isNumber = (/** @type {unknown} */ it) => Number.isInteger(it) && Number(it) >= 1;
 
 /** The addresses of a file's text that are right.
  * @param {string | null} text
  */
 function addressesIn(text) {
     try {
-        const all = JSON.parse(text ?? "").addresses.filter((/** @type {any} */ it) => isNumber(it?.id) && isNumber(it.place) && typeof it.street === "string");
-        return new Map(all.map((/** @type {Address} */ it) => [it.id, { ...it, sought: ` ${searchable(`${it.street} ${it.note ?? ""}`)}` }]));
+        const all = JSON.parse(text ?? "").addresses.filter(
+            (/** @type {{ [name: string]: unknown } | null} */ it) =>
+                isNumber(it?.id) && isNumber(it?.place) && typeof it?.street === "string"
+        );
+        return new Map(
+            all.map((/** @type {Address} */ it) => [
+                it.id,
+                { ...it, sought: ` ${searchable(`${it.street} ${it.note ?? ""}`)}` }
+            ])
+        );
     } catch {
         return new Map();
     }
 }
 
-/** Reads what the caller's key may see; without a file there are no addresses, and places go by their names. Whether the site answered.
+/** Reads what the caller's key may see; without a file there are no addresses, and places go by
+ * their names. Whether the site answered.
  * @param {string} screen @returns {Promise<boolean>}
  */
 export async function loadAddresses(screen) {
-    const { status, text } = await desk.fetchFile(STAFF.includes(screen) ? "/staff/addresses.json" : "/addresses.json");
+    const { status, text } = await desk.fetchFile(
+        STAFF.includes(screen) ? "/staff/addresses.json" : "/addresses.json"
+    );
     if (status === 0 || status === 429 || status >= 500) return false;
     served = status === 200 ? addressesIn(text) : new Map();
     return true;
@@ -59,7 +71,8 @@ const all = () => [...served.values(), ...own.values()];
 /** @param {number} id */
 export const addressOf = (id) => own.get(id) ?? served.get(id) ?? null;
 
-/** The addresses that a rider may be offered: a home is offered to who lives there alone, who comes first.
+/** The addresses that a rider may be offered: a home is offered to who lives there alone, who comes
+ * first.
  * @param {number} [rider]
  */
 export const addressesFor = (rider) => {
@@ -73,26 +86,36 @@ export const addressesFor = (rider) => {
  */
 export const addressChoice = ({ id, street }) => t("fields.address-choice", { id, street });
 
-/** Where an end of a trip is, for staff: the street of the address that is meant, with its place, or the place alone.
- * @param {number} place @param {number | undefined} rider @param {number | null | undefined} named the address that the booking names
+/** Where an end of a trip is, for staff: the street of the address that is meant, with its place if
+ * that has a name of its own, or the place alone.
+ * @param {number} place
+ * @param {number | undefined} rider
+ * @param {number | null | undefined} named the address that the booking names
  */
 export function whereName(place, rider, named) {
     const address = meantOf(all(), place, rider, named), name = placeName(place);
-    return address && address.street !== name ? t("common.address-at", { street: address.street, place: name }) : name;
+    if (!address) return name;
+    return isGroup(all(), place, name)
+        ? address.street
+        : t("common.address-at", { street: address.street, place: name });
 }
 
-/** Where an end of a trip is, as its rider reads it: the street of a home, and never the name of the group of homes at whose place the desk has it.
+/** Where an end of a trip is, as its rider reads it: the street of a home, and never the name of
+ * the group of homes at whose place the desk has it.
  * @param {number} place @param {number | undefined} rider @param {number | null | undefined} named
  */
 export function whereForRider(place, rider, named) {
     const [first, own] = readBy(all(), { place, name: placeName(place) }, rider, named);
-    return own ? t("common.address-at", { street: first, place: own }) : first ?? `${placeWord()} ${place}`;
+    return own
+        ? t("common.address-at", { street: first, place: own })
+        : first ?? `${placeWord()} ${place}`;
 }
 
 /** The address to which a rider's letters go, or "" where it is not known.
  * @param {number} rider @param {number | null} home the place that the roster names
  */
-export const mailingAddress = (rider, home) => mailingOf(all(), { place: home, name: home === null ? "" : placeOf(home)?.name ?? "" }, rider);
+export const mailingAddress = (rider, home) =>
+    mailingOf(all(), { place: home, name: home === null ? "" : placeOf(home)?.name ?? "" }, rider);
 
 /** The note of the address that is meant, for staff.
  * @param {number} place @param {number | undefined} rider @param {number | null | undefined} named

@@ -1,4 +1,5 @@
-// The closed days of agency.json as an admin types them: on each line a day, and after a blank the word that people read.
+// The closed days of agency.json as an admin types them: on each line a day, and after a blank the
+// word that people read.
 
 /** @typedef {{ day: string, name?: string }} Closed */
 
@@ -20,9 +21,11 @@ function closedOf(line) {
 }
 
 /** @param {Closed[]} closed */
-export const closedText = (closed) => closed.map(({ day, name }) => (name ? `${day} ${name}` : day)).join("\n");
+export const closedText = (closed) =>
+    closed.map(({ day, name }) => (name ? `${day} ${name}` : day)).join("\n");
 
-/** The first line that begins with no day, or with one that stands above already; null where there is none.
+/** The first line that begins with no day, or with one that stands above already; null where there
+ * is none.
  * @param {string} text
  */
 export function wrongLine(text) {
@@ -30,15 +33,18 @@ export function wrongLine(text) {
     return lines.find((_, at) => !isDay(days[at]) || days.indexOf(days[at]) < at) ?? null;
 }
 
-/** The name of the closed day on which a trip is still booked, empty where the day has none; or null where nobody has to be warned.
+/** The name of the closed day on which a trip is still booked, empty where the day has none; or
+ * null where nobody has to be warned.
  * @param {{ day: string, status: string }} trip @param {Closed[]} closed @param {string} today
  */
 export function closedFor({ day, status }, closed, today) {
-    const found = status === "booked" && day >= today ? closed.find((it) => it.day === day) : undefined;
+    const found =
+        status === "booked" && day >= today ? closed.find((it) => it.day === day) : undefined;
     return found ? found.name ?? "" : null;
 }
 
 /** The closed days of a text without a wrong line, by rising day.
  * @param {string} text @returns {Closed[]}
  */
-export const closedIn = (text) => linesOf(text).map(closedOf).sort((a, b) => (a.day < b.day ? -1 : 1));
+export const closedIn = (text) =>
+    linesOf(text).map(closedOf).sort((a, b) => (a.day < b.day ? -1 : 1));

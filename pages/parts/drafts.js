@@ -1,5 +1,7 @@
-// Forms that are half filled. What was typed outlives another rider's call, another part, a reload and the sign-out of who did nothing for long.
-// It is kept for the key that typed it, in this window alone, and goes where somebody signs out by hand.
+// Forms that are half filled. What was typed outlives another rider's call, another part, a reload
+// and the sign-out of who did nothing for long.
+// It is kept for the key that typed it, in this window alone, and goes where somebody signs out by
+// hand.
 
 import { controlName } from "./control-name.js";
 import * as desk from "./desk.js";
@@ -35,31 +37,48 @@ function keep(name, values) {
     keepObject(nameOf(name), values, "session");
 }
 
-const isTicked = (/** @type {HTMLInputElement} */ { type }) => type === "checkbox" || type === "radio";
+const isTicked = (/** @type {HTMLInputElement} */ { type }) =>
+    type === "checkbox" || type === "radio";
 
 /** @param {HTMLElement} form @returns {HTMLInputElement[]} */
-const controlsOf = (form) => [...form.querySelectorAll("input:not([type=file], [type=password]), select, textarea")].map((it) => /** @type {HTMLInputElement} */ (it));
+const controlsOf = (form) =>
+    [...form.querySelectorAll("input:not([type=file], [type=password]), select, textarea")].map(
+        (it) => /** @type {HTMLInputElement} */ (it)
+    );
 
 /** @param {HTMLElement} form @returns {Typed} */
-const typedIn = (form) => Object.fromEntries(controlsOf(form).map((control) => [controlName(control), isTicked(control) ? control.checked : control.value]));
+const typedIn = (form) =>
+    Object.fromEntries(
+        controlsOf(form).map((control) => [
+            controlName(control),
+            isTicked(control) ? control.checked : control.value
+        ])
+    );
 
 /** Writes into a form what was typed. A list below a field stays closed.
  * @param {HTMLElement} form @param {Typed} values
  */
 function fill(form, values) {
     // (a choice may bring further controls with it)
-    for (let turn = 0; turn < 2; turn += 1) for (const control of controlsOf(form)) {
-        const value = values[controlName(control)];
-        if (value === undefined || value === (isTicked(control) ? control.checked : control.value)) continue;
-        if (typeof value === "boolean") control.checked = value;
-        else control.value = value;
-        if (control.getAttribute("role") !== "combobox") control.dispatchEvent(new Event("input", { bubbles: true }));
-        control.dispatchEvent(new Event("change", { bubbles: true }));
-    }
+    for (let turn = 0; turn < 2; turn += 1)
+        for (const control of controlsOf(form)) {
+            const value = values[controlName(control)];
+            if (
+                value === undefined ||
+                value === (isTicked(control) ? control.checked : control.value)
+            )
+                continue;
+            if (typeof value === "boolean") control.checked = value;
+            else control.value = value;
+            if (control.getAttribute("role") !== "combobox")
+                control.dispatchEvent(new Event("input", { bubbles: true }));
+            control.dispatchEvent(new Event("change", { bubbles: true }));
+        }
 }
 
-/** Keeps what is typed into a form under a name, such as that of its kind and its rider; first it writes what was kept. drop() is for what was
- * sent, clear() also takes it out of the form, and keep() is for what the page itself has written into it.
+/** Keeps what is typed into a form under a name, such as that of its kind and its rider; first it
+ * writes what was kept. drop() is for what was sent, clear() also takes it out of the form, keep()
+ * is for what the page itself has written into it, and found says whether something was kept.
  * @param {HTMLElement} form @param {string} name
  */
 export function draftIn(form, name) {
@@ -78,7 +97,7 @@ export function draftIn(form, name) {
         fill(form, JSON.parse(empty));
         keep(name, null);
     };
-    return { drop: () => keep(name, null), clear, keep: keepIt };
+    return { drop: () => keep(name, null), clear, keep: keepIt, found: before !== null };
 }
 
 // Whoever signs out by hand leaves nothing.

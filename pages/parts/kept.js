@@ -1,5 +1,6 @@
-// What the browser's two stores keep, under names: no other file touches them. A browser may refuse its stores, or have no room. Then what would
-// be kept lives as long as its page, nothing fails, and who asked for it is told.
+// What the browser's two stores keep, under names: no other file touches them. A browser may refuse
+// its stores, or have no room. Then what would be kept lives as long as its page, nothing fails,
+// and who asked for it is told.
 
 /** @typedef {"local" | "session"} Store local outlives the window, session does not */
 
@@ -57,7 +58,8 @@ export function dropText(store, name) {
     done(() => own(store).removeItem(name));
 }
 
-/** An object that is kept; an empty one where there is none, or something else is kept under its name.
+/** An object that is kept; an empty one where there is none, or something else is kept under its
+ * name.
  * @param {string} name @param {Store} [store] @returns {Record<string, any>}
  */
 export function keptObject(name, store = "local") {
@@ -70,7 +72,9 @@ export function keptObject(name, store = "local") {
 }
 
 /** Whether it is in the store now.
- * @param {string} name @param {Record<string, any> | null} value null drops it @param {Store} [store]
+ * @param {string} name
+ * @param {Record<string, unknown> | null} value null drops it
+ * @param {Store} [store]
  */
 export function keepObject(name, value, store = "local") {
     if (value !== null) return keepText(store, name, JSON.stringify(value));
@@ -84,23 +88,27 @@ export function keepObject(name, value, store = "local") {
 export function namesKept(store) {
     /** @type {string[]} */
     let names = [];
-    done(() => { names = Object.keys(own(store)); });
+    done(() => {
+        names = Object.keys(own(store));
+    });
     return [...new Set([...here[store].keys(), ...names])];
 }
 
 /** Drops what is kept under each name of which isOver says so.
  * @param {Store} store @param {(name: string) => boolean} isOver
  */
-export const dropNames = (store, isOver) => namesKept(store).filter(isOver).forEach((name) => dropText(store, name));
+export const dropNames = (store, isOver) =>
+    namesKept(store).filter(isOver).forEach((name) => dropText(store, name));
 
 /** Calls act where the browser refuses a store now, and whenever one does not take something.
  * @param {() => void} act
  */
 export function whenNotKept(act) {
     acts.add(act);
-    const takes = (/** @type {Store} */ store) => done(() => {
-        own(store).setItem(PROBE, "");
-        own(store).removeItem(PROBE);
-    });
+    const takes = (/** @type {Store} */ store) =>
+        done(() => {
+            own(store).setItem(PROBE, "");
+            own(store).removeItem(PROBE);
+        });
     if (!takes("local") || !takes("session")) act();
 }

@@ -1,5 +1,5 @@
-// What is forgotten where somebody signs out. A module that keeps something of who is signed in says so when it is loaded: then it is forgotten
-// without a line too.
+// What is forgotten where somebody signs out. A module that keeps something of who is signed in
+// says so when it is loaded: then it is forgotten without a line too.
 
 /** @typedef {{ byHand: boolean }} How byHand: the person signed out, and not the clock */
 

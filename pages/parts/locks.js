@@ -1,9 +1,12 @@
-// One at a time, over all windows of this browser. A browser that refuses its stores refuses these locks too: then it is one at a time in each
-// window, and a window that cannot ask knows of no other.
+// One at a time, over all windows of this browser. A browser that refuses its stores refuses these
+// locks too: then it is one at a time in each window, and a window that cannot ask knows of no
+// other.
 
 import { makeTurns } from "./turns.js";
 
-/** @typedef {{ only?: boolean }} Options only: not at all where somebody else is at it, and act is called with false then */
+/** @typedef {{ only?: boolean }} Options only: not at all where somebody else is at it, and act is
+ * called with false then
+ */
 
 /** @type {Map<string, ReturnType<typeof makeTurns>>} */
 const turns = new Map();
@@ -12,7 +15,12 @@ const turns = new Map();
  */
 const busy = new Set();
 
-/** @template Made @param {string} name @param {(has: boolean) => Promise<Made>} act @param {Options} options @returns {Promise<Made>} */
+/** @template Made
+ * @param {string} name
+ * @param {(has: boolean) => Promise<Made>} act
+ * @param {Options} options
+ * @returns {Promise<Made>}
+ */
 function here(name, act, { only = false }) {
     if (only && busy.has(name)) return act(false);
     const turn = turns.get(name) ?? makeTurns();
@@ -28,15 +36,23 @@ function here(name, act, { only = false }) {
 }
 
 /** Does something while nobody else does the same.
- * @template Made @param {string} name @param {(has: boolean) => Promise<Made>} act @param {Options} [options] @returns {Promise<Made>}
+ * @template Made
+ * @param {string} name
+ * @param {(has: boolean) => Promise<Made>} act
+ * @param {Options} [options]
+ * @returns {Promise<Made>}
  */
 export async function alone(name, act, options = {}) {
     let began = false;
     try {
-        return await navigator.locks.request(name, { ifAvailable: options.only === true }, (lock) => {
-            began = true;
-            return act(lock !== null);
-        });
+        return await navigator.locks.request(
+            name,
+            { ifAvailable: options.only === true },
+            (lock) => {
+                began = true;
+                return act(lock !== null);
+            }
+        );
     } catch (error) {
         if (began) throw error;
         return here(name, act, options);

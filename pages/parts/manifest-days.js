@@ -7,7 +7,10 @@ export const copyName = (vehicle, day) => `manifest ${vehicle} ${day}`;
 export const isManifest = (name) => name.startsWith("manifest ");
 
 /** Whether a copy is a manifest of a day before this one, of which nothing is open.
- * @param {string} name @param {string} first a day, as "2025-03-11" @param {string[]} [open] vehicles and days, as "1 2025-03-11" */
+ * @param {string} name
+ * @param {string} first a day, as "2025-03-11"
+ * @param {string[]} [open] vehicles and days, as "1 2025-03-11"
+ */
 export function isOver(name, first, open = []) {
     const [, vehicle, day] = /^manifest (\d+) (\S+)$/.exec(name) ?? [];
     return Boolean(day) && day < first && !open.includes(`${vehicle} ${day}`);

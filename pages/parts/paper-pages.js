@@ -1,7 +1,11 @@
-// Which rows of a list stand on which page of paper. It is decided here and not by the browser, so that each list has pages of its own numbers.
+// Which rows of a list stand on which page of paper. It is decided here and not by the browser, so
+// that each list has pages of its own numbers.
 
-/** The rows of each page as the first one and the one after the last: as many as there is room for, and one at least. A list without rows has one page.
- * @param {number[]} heights of the rows, one after another @param {number} first the room on the first page @param {number} other the room on each other page
+/** The rows of each page as the first one and the one after the last: as many as there is room for,
+ * and one at least. A list without rows has one page.
+ * @param {number[]} heights of the rows, one after another
+ * @param {number} first the room on the first page
+ * @param {number} other the room on each other page
  * @returns {[number, number][]}
  */
 export function pagesOf(heights, first, other) {

@@ -1,10 +1,61 @@
-// The desk takes plain signs, space to tilde. What people type or paste is turned into them where there is a plain sign for it.
+// The desk takes plain signs, space to tilde. What people type or paste is turned into them where
+// there is a plain sign for it.
 
 /** @type {Record<string, string>} */
-const SIGNS = { "‘": "'", "’": "'", "‚": "'", "‛": "'", "′": "'", "´": "'", "“": '"', "”": '"', "„": '"', "«": '"', "»": '"', "″": '"', "‐": "-", "‑": "-", "‒": "-",
-    "–": "-", "—": "-", "―": "-", "−": "-", "…": "...", "•": "-", "·": "-", "×": "x", "÷": "/", "ß": "ss", "æ": "ae", "Æ": "AE", "œ": "oe", "Œ": "OE", "ø": "o",
-    "Ø": "O", "ł": "l", "Ł": "L", "đ": "d", "Đ": "D", "¿": "", "¡": "", "½": "1/2", "¼": "1/4", "¾": "3/4", "°": " degrees", "€": "EUR", "£": "GBP", "§": "section ",
-    "©": "(c)", "®": "(R)", "™": "(TM)", "º": "o", "ª": "a", "\u00ad": "", "\u200b": "", "\ufeff": "" };
+const SIGNS = {
+    "‘": "'",
+    "’": "'",
+    "‚": "'",
+    "‛": "'",
+    "′": "'",
+    "´": "'",
+    "“": '"',
+    "”": '"',
+    "„": '"',
+    "«": '"',
+    "»": '"',
+    "″": '"',
+    "‐": "-",
+    "‑": "-",
+    "‒": "-",
+    "–": "-",
+    "—": "-",
+    "―": "-",
+    "−": "-",
+    "…": "...",
+    "•": "-",
+    "·": "-",
+    "×": "x",
+    "÷": "/",
+    "ß": "ss",
+    "æ": "ae",
+    "Æ": "AE",
+    "œ": "oe",
+    "Œ": "OE",
+    "ø": "o",
+    "Ø": "O",
+    "ł": "l",
+    "Ł": "L",
+    "đ": "d",
+    "Đ": "D",
+    "¿": "",
+    "¡": "",
+    "½": "1/2",
+    "¼": "1/4",
+    "¾": "3/4",
+    "°": " degrees",
+    "€": "EUR",
+    "£": "GBP",
+    "§": "section ",
+    "©": "(c)",
+    "®": "(R)",
+    "™": "(TM)",
+    "º": "o",
+    "ª": "a",
+    "\u00ad": "",
+    "\u200b": "",
+    "\ufeff": ""
+};
 
 /** The plain text, and the signs that have no plain one.
  * @param {string} typed @returns {{ text: string, lost: string[] }}

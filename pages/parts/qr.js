@@ -1,9 +1,17 @@
-// A key as a square that a phone's camera reads: QR code (ISO/IEC 18004) of version 2 with correction M, whose room is just the signs of a key.
+// A key as a square that a phone's camera reads: QR code (ISO/IEC 18004) of version 2 with
+// correction M, whose room is just the signs of a key.
 
 import { part } from "./element.js";
 import { LENGTH } from "./key.js";
 
-const SIZE = 25, DATA = 28, CORRECTION = 16, QUIET = 4, FIELD = 0x11d, ALIGNED = 18, TIMED = 6, FINDER = 7;
+const SIZE = 25,
+    DATA = 28,
+    CORRECTION = 16,
+    QUIET = 4,
+    FIELD = 0x11d,
+    ALIGNED = 18,
+    TIMED = 6,
+    FINDER = 7;
 const BYTE_MODE = 4n, FORMAT = 0x5412; // correction M with the first mask
 
 /** The product of two numbers of the field of 256.
@@ -11,7 +19,8 @@ const BYTE_MODE = 4n, FORMAT = 0x5412; // correction M with the first mask
  */
 function times(one, other) {
     let made = 0;
-    for (let bit = 7; bit >= 0; bit -= 1) made = (made << 1) ^ ((made >> 7) * FIELD) ^ (((other >> bit) & 1) * one);
+    for (let bit = 7; bit >= 0; bit -= 1)
+        made = (made << 1) ^ ((made >> 7) * FIELD) ^ (((other >> bit) & 1) * one);
     return made;
 }
 
@@ -34,18 +43,36 @@ function correctionOf(data) {
  * @param {string} key
  */
 function wordsOf(key) {
-    const whole = [...key].reduce((all, sign) => (all << 8n) | BigInt(sign.charCodeAt(0)), (BYTE_MODE << 8n) | BigInt(LENGTH)) << 4n;
-    const data = Array.from({ length: DATA }, (_, at) => Number((whole >> BigInt(8 * (DATA - 1 - at))) & 255n));
+    const whole =
+        [...key].reduce(
+            (all, sign) => (all << 8n) | BigInt(sign.charCodeAt(0)),
+            (BYTE_MODE << 8n) | BigInt(LENGTH)
+        ) <<
+        4n;
+    const data = Array.from({ length: DATA }, (_, at) =>
+        Number((whole >> BigInt(8 * (DATA - 1 - at))) & 255n)
+    );
     return [...data, ...correctionOf(data)];
 }
 
 /** The dark and light squares that are the same for every key, by row; null is left for the key. */
 function frame() {
-    const squares = Array.from({ length: SIZE }, () => /** @type {(boolean | null)[]} */ (Array(SIZE).fill(null)));
-    const ring = (/** @type {number} */ x, /** @type {number} */ y, /** @type {number} */ reach, /** @type {number[]} */ light) => {
-        for (let down = -reach; down <= reach; down += 1) for (let right = -reach; right <= reach; right += 1) {
-            if (squares[y + down]?.[x + right] !== undefined) squares[y + down][x + right] = !light.includes(Math.max(Math.abs(down), Math.abs(right)));
-        }
+    const squares = Array.from({ length: SIZE }, () => /** @type {(boolean | null)[]} */ (Array(
+        SIZE
+    ).fill(null)));
+    const ring = (
+        /** @type {number} */ x,
+        /** @type {number} */ y,
+        /** @type {number} */ reach,
+        /** @type {number[]} */ light
+    ) => {
+        for (let down = -reach; down <= reach; down += 1)
+            for (let right = -reach; right <= reach; right += 1) {
+                if (squares[y + down]?.[x + right] !== undefined)
+                    squares[y + down][x + right] = !light.includes(
+                        Math.max(Math.abs(down), Math.abs(right))
+                    );
+            }
     };
     for (let at = 0; at < SIZE; at += 1) squares[TIMED][at] = squares[at][TIMED] = at % 2 === 0;
     for (const [x, y] of [[3, 3], [SIZE - 4, 3], [3, SIZE - 4]]) ring(x, y, 4, [2, 4]);
@@ -62,15 +89,18 @@ function frame() {
 /** Which squares are dark, by row.
  * @param {string} key
  */
-export function squaresOf(key) {
-    const squares = frame(), bits = wordsOf(key).map((it) => it.toString(2).padStart(8, "0")).join("");
+function squaresOf(key) {
+    const squares = frame(),
+        bits = wordsOf(key).map((it) => it.toString(2).padStart(8, "0")).join("");
     let next = 0;
-    for (let right = SIZE - 1; right > 0; right -= right === TIMED + 2 ? 3 : 2) for (let step = 0; step < SIZE; step += 1) for (const x of [right, right - 1]) {
-        const y = ((right + 1) & 2) === 0 ? SIZE - 1 - step : step;
-        if (squares[y][x] !== null) continue;
-        squares[y][x] = (bits[next] === "1") !== ((x + y) % 2 === 0);
-        next += 1;
-    }
+    for (let right = SIZE - 1; right > 0; right -= right === TIMED + 2 ? 3 : 2)
+        for (let step = 0; step < SIZE; step += 1)
+            for (const x of [right, right - 1]) {
+                const y = ((right + 1) & 2) === 0 ? SIZE - 1 - step : step;
+                if (squares[y][x] !== null) continue;
+                squares[y][x] = (bits[next] === "1") !== ((x + y) % 2 === 0);
+                next += 1;
+            }
     return squares;
 }
 
@@ -79,7 +109,19 @@ export function squaresOf(key) {
  */
 export function squareOf(key, name) {
     const whole = SIZE + 2 * QUIET;
-    const dark = squaresOf(key).flatMap((row, y) => row.map((is, x) => (is ? `M${x + QUIET} ${y + QUIET}h1v1h-1z` : "")));
-    return part("svg", { class: "square", viewBox: `0 0 ${whole} ${whole}`, role: "img", "aria-label": name, "shape-rendering": "crispEdges" },
-        part("path", { class: "light", d: `M0 0h${whole}v${whole}h-${whole}z` }), part("path", { class: "dark", d: dark.join("") }));
+    const dark = squaresOf(key).flatMap((row, y) =>
+        row.map((is, x) => (is ? `M${x + QUIET} ${y + QUIET}h1v1h-1z` : ""))
+    );
+    return part(
+        "svg",
+        {
+            class: "square",
+            viewBox: `0 0 ${whole} ${whole}`,
+            role: "img",
+            "aria-label": name,
+            "shape-rendering": "crispEdges"
+        },
+        part("path", { class: "light", d: `M0 0h${whole}v${whole}h-${whole}z` }),
+        part("path", { class: "dark", d: dark.join("") })
+    );
 }

@@ -1,4 +1,5 @@
-// What a driver's phone reads before the screen that takes it is there (early.js): each reply is given once, and to the same key alone.
+// What a driver's phone reads before the screen that takes it is there (early.js): each reply is
+// given once, and to the same key alone.
 
 const LONGEST_READ = 30_000;
 /** @type {Map<string, { key: string, reply: Promise<Response> }>} */
@@ -6,7 +7,13 @@ const replies = new Map();
 
 /** @param {string} path @param {string} key */
 export function readAhead(path, key) {
-    const reply = fetch(path, { headers: { "Desk-Key": key }, cache: "no-store", credentials: "omit", redirect: "error", signal: /** @type {any} */ (AbortSignal).timeout(LONGEST_READ) });
+    const reply = fetch(path, {
+        headers: { "Desk-Key": key },
+        cache: "no-store",
+        credentials: "omit",
+        redirect: "error",
+        signal: /** @type {import("../types").Signals} */ (AbortSignal).timeout(LONGEST_READ)
+    });
     reply.catch(() => {});
     replies.set(path, { key, reply });
 }

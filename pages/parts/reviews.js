@@ -1,5 +1,6 @@
-// What dispatch looks at after a no-show or after entries that disagree: what speaks for it, and how a wrong outcome is put on record. The desk
-// keeps the first outcome; reports count the right one by a line of corrections.csv.
+// What dispatch looks at after a no-show or after entries that disagree: what speaks for it, and
+// how a wrong outcome is put on record. The desk keeps the first outcome; reports count the right
+// one by a line of corrections.csv.
 
 /** @typedef {import("./lateness.js").NoShow} NoShow */
 /** @typedef {import("./lateness.js").Disagreement} Disagreement */
@@ -13,10 +14,14 @@ const COLUMNS = ["trip", "outcome", "who", "why"];
 export const MOST = 200;
 
 /** What every phone tapped of a trip, in the order in which it was.
- * @param {Map<number, import("./lateness.js").Tap[]>} vehicles @param {number} trip @returns {Tapped[]}
+ * @param {Map<number, import("./lateness.js").Tap[]>} vehicles
+ * @param {number} trip
+ * @returns {Tapped[]}
  */
-export const tapsOn = (vehicles, trip) => [...vehicles].flatMap(([vehicle, taps]) => taps.filter((it) => it.trip === trip).map((it) => ({ ...it, vehicle })))
-    .sort((a, b) => a.minute - b.minute);
+export const tapsOn = (vehicles, trip) =>
+    [...vehicles].flatMap(([vehicle, taps]) =>
+        taps.filter((it) => it.trip === trip).map((it) => ({ ...it, vehicle }))
+    ).sort((a, b) => a.minute - b.minute);
 
 /** Whether somebody tapped that the rider is aboard, or was.
  * @param {Tapped[]} taps
@@ -24,21 +29,32 @@ export const tapsOn = (vehicles, trip) => [...vehicles].flatMap(([vehicle, taps]
 const wasAboard = (taps) => taps.some(({ kind }) => kind === "aboard" || kind === "dropped");
 
 /** A no-show with the arrival that another phone tapped, where the one that told it has none.
- * @template {Pick<NoShow, "from" | "arrived" | "wait" | "minute">} T @param {T} noShow @param {Tapped[]} taps @returns {T}
+ * @template {Pick<NoShow, "from" | "arrived" | "wait" | "minute">} T
+ * @param {T} noShow
+ * @param {Tapped[]} taps
+ * @returns {T}
  */
 export function withArrival(noShow, taps) {
     const arrived = taps.find(({ kind }) => kind === "arrived")?.minute;
     if (noShow.arrived !== null || arrived === undefined) return noShow;
-    return { ...noShow, arrived, wait: Math.max(0, noShow.minute - Math.max(arrived, noShow.from)) };
+    return {
+        ...noShow,
+        arrived,
+        wait: Math.max(0, noShow.minute - Math.max(arrived, noShow.from))
+    };
 }
 
-/** The outcomes in the order in which they are offered: a no-show is last where somebody tapped aboard.
+/** The outcomes in the order in which they are offered: a no-show is last where somebody tapped
+ * aboard.
  * @param {Tapped[]} taps @returns {readonly Outcome[]}
  */
 export const outcomesBy = (taps) => (wasAboard(taps) ? [...OUTCOMES].reverse() : OUTCOMES);
 
-/** What makes a no-show doubtful: somebody tapped aboard, the van came after the window, nobody tapped the arrival, it was told before the window began, or the wait was short.
- * @param {Pick<NoShow, "from" | "to" | "arrived" | "wait" | "minute">} noShow @param {number} minutes the agency's wait @param {Tapped[]} [taps]
+/** What makes a no-show doubtful: somebody tapped aboard, the van came after the window, nobody
+ * tapped the arrival, it was told before the window began, or the wait was short.
+ * @param {Pick<NoShow, "from" | "to" | "arrived" | "wait" | "minute">} noShow
+ * @param {number} minutes the agency's wait
+ * @param {Tapped[]} [taps]
  * @returns {Doubt | null}
  */
 export function doubtOf(noShow, minutes, taps = []) {
@@ -54,14 +70,16 @@ export function doubtOf(noShow, minutes, taps = []) {
  * @param {string} value
  */
 function cell(value) {
-    const line = value.replace(/[\r\n\t]+/g, " ").trim(), plain = /^[=+\-@]/.test(line) ? `'${line}` : line;
+    const line = value.replace(/[\r\n\t]+/g, " ").trim(),
+        plain = /^[=+\-@]/.test(line) ? `'${line}` : line;
     return /[",]/.test(plain) ? `"${plain.replaceAll('"', '""')}"` : plain;
 }
 
 /** The line of corrections.csv: trip, outcome, who, why.
  * @param {number} trip @param {Outcome} outcome @param {string} who @param {string} why
  */
-export const correctionLine = (trip, outcome, who, why) => [String(trip), outcome, cell(who), cell(why)].join(",");
+export const correctionLine = (trip, outcome, who, why) =>
+    [String(trip), outcome, cell(who), cell(why)].join(",");
 
 /** That line as a file of its own.
  * @param {string} line
@@ -74,15 +92,32 @@ export const correctionFile = (line) => `${COLUMNS.join(",")}\r\n${line}\r\n`;
 export const rowKey = ({ day, trip, minute, told = "" }) => `${day} ${trip} ${minute} ${told}`;
 
 /** What somebody else found right of a trip since a dispatcher opened it; null where nobody did.
- * @template {{ day: string, trip: number, outcome: string, minute: number }} T @param {T[]} before what was settled then @param {T[]} now @param {number} trip @returns {T | null}
+ * @template {{ day: string, trip: number, outcome: string, minute: number }} T
+ * @param {T[]} before what was settled then
+ * @param {T[]} now
+ * @param {number} trip
+ * @returns {T | null}
  */
 export function settledSince(before, now, trip) {
-    const of = (/** @type {T[]} */ all) => all.find((it) => it.trip === trip), last = of(now), first = of(before);
-    return last && !(first && first.day === last.day && first.minute === last.minute && first.outcome === last.outcome) ? last : null;
+    const of = (/** @type {T[]} */ all) => all.find((it) => it.trip === trip),
+        last = of(now),
+        first = of(before);
+    return last &&
+        !(
+            first &&
+            first.day === last.day &&
+            first.minute === last.minute &&
+            first.outcome === last.outcome
+        )
+        ? last
+        : null;
 }
 
-/** What is to be done once somebody has said which outcome is right: the desk has another one, or none, or this one.
- * @param {Outcome} right @param {string | null} record the status of the trip at the desk @returns {"enter" | "correct" | "confirm"}
+/** What is to be done once somebody has said which outcome is right: the desk has another one, or
+ * none, or this one.
+ * @param {Outcome} right
+ * @param {string | null} record the status of the trip at the desk
+ * @returns {"enter" | "correct" | "confirm"}
  */
 export function nextOf(right, record) {
     if (record === "booked") return "enter";

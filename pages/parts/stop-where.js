@@ -11,13 +11,28 @@ const endOf = (what) => (what === "PICK" ? "from" : "to");
 /** @typedef {{ what: string, place: number, rider?: number, trip?: number }} Stop */
 
 /** @param {Stop} stop */
-export const stopWhere = ({ what, place, rider, trip }) => whereName(place, rider, addressSaid(trip, endOf(what)));
+export const stopWhere = ({ what, place, rider, trip }) =>
+    whereName(place, rider, addressSaid(trip, endOf(what)));
 
 /** @param {Stop} stop */
-export const stopNote = ({ what, place, rider, trip }) => whereNote(place, rider, addressSaid(trip, endOf(what)));
+export const stopNote = ({ what, place, rider, trip }) =>
+    whereNote(place, rider, addressSaid(trip, endOf(what)));
 
-/** Both ends of a rider's trip, as the rider reads them. What the rider said of addresses holds before what is known of the booking.
- * @param {{ trip?: number, from: number, to: number }} trip @param {number | undefined} rider @param {{ from_address?: number | null, to_address?: number | null } | null} [said]
+/** Both ends of a trip, as staff read them.
+ * @param {{ trip: number, rider: number, from: number, to: number }} trip
  */
-export const wayOf = ({ trip, from, to }, rider, said = null) => ({ from: whereForRider(from, rider, said?.from_address ?? addressSaid(trip, "from")),
-    to: whereForRider(to, rider, said?.to_address ?? addressSaid(trip, "to")) });
+export const endsOf = ({ trip, rider, from, to }) => ({
+    from: whereName(from, rider, addressSaid(trip, "from")),
+    to: whereName(to, rider, addressSaid(trip, "to"))
+});
+
+/** Both ends of a rider's trip, as the rider reads them. What the rider said of addresses holds
+ * before what is known of the booking.
+ * @param {{ trip?: number, from: number, to: number }} trip
+ * @param {number | undefined} rider
+ * @param {{ from_address?: number | null, to_address?: number | null } | null} [said]
+ */
+export const wayOf = ({ trip, from, to }, rider, said = null) => ({
+    from: whereForRider(from, rider, said?.from_address ?? addressSaid(trip, "from")),
+    to: whereForRider(to, rider, said?.to_address ?? addressSaid(trip, "to"))
+});

@@ -1,4 +1,5 @@
-// One after another: what begins while something else is under way waits for its turn. Nothing is dropped, and what fails holds up nothing.
+// One after another: what begins while something else is under way waits for its turn. Nothing is
+// dropped, and what fails holds up nothing.
 
 /** Takes acts and does each once the acts before it have ended; gives what the act gives. */
 export function makeTurns() {

@@ -1,4 +1,5 @@
-// Which vehicle is meant by what was typed: its number, its name, or both. Where a number is one vehicle's and stands in another one's name, neither is taken.
+// Which vehicle is meant by what was typed: its number, its name, or both. Where a number is one
+// vehicle's and stands in another one's name, neither is taken.
 
 /** @typedef {{ id: number, name: string }} Named name is folded, as the typed text is */
 
@@ -7,8 +8,10 @@
  */
 export function vehiclesFor(typed, named) {
     const words = typed.split(/\s+/).filter(Boolean);
-    return named.filter(({ id, name }) => words.every((word) => `${name} (${id})`.includes(word)))
-        .sort((a, b) => Number(String(b.id) === typed) - Number(String(a.id) === typed) || a.id - b.id);
+    return named.filter(({ id, name }) => words.every((word) => `${name} (${id})`.includes(word))
+    ).sort(
+        (a, b) => Number(String(b.id) === typed) - Number(String(a.id) === typed) || a.id - b.id
+    );
 }
 
 /** The words of a name.
@@ -23,7 +26,9 @@ export function vehicleMeant(typed, named, highest) {
     const exact = named.filter(({ id, name }) => typed === `${name} (${id})` || typed === name);
     if (exact.length === 1) return exact[0].id;
     if (/^\d{1,10}$/.test(typed)) {
-        const number = Number(typed), other = named.filter(({ id, name }) => id !== number && wordsOf(name).includes(typed)), own = named.some(({ id }) => id === number);
+        const number = Number(typed),
+            other = named.filter(({ id, name }) => id !== number && wordsOf(name).includes(typed)),
+            own = named.some(({ id }) => id === number);
         if (!other.length) return number >= 1 && number <= highest ? number : null;
         return own || other.length > 1 ? null : other[0].id;
     }

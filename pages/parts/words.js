@@ -1,5 +1,5 @@
-// All words of the pages, in the language of who reads them. A text is asked for by its key, and each
-// language has each key.
+// All words of the pages, in the language of who reads them. A text is asked for by its key, and
+// each language has each key.
 
 import { keepText, keptText } from "./kept.js";
 import { patiently } from "./loading.js";
@@ -19,14 +19,18 @@ const smoothing = {};
 /** @type {Set<string>} */
 const loaded = new Set();
 let now = "en";
-/** Whether it is the rider who reads: then a text that speaks of the rider has another one that speaks to the rider, under its key and this. */
+/** Whether it is the rider who reads: then a text that speaks of the rider has another one that
+ * speaks to the rider, under its key and this.
+ */
 let isToRider = false;
 const YOU = " you";
 
 export const language = () => now;
 
 /** @param {boolean} is whether the rider reads what follows, and not somebody of the staff */
-export const speakToRider = (is) => { isToRider = is; };
+export const speakToRider = (is) => {
+    isToRider = is;
+};
 
 /** Loads files of words of the chosen language.
  * @param {...string} names
@@ -59,15 +63,16 @@ export async function chooseLanguage(it, { keep = false } = {}) {
     await useWords();
 }
 
-/** @param {string} it @param {string} key @param {any} values */
+/** @param {string} it @param {string} key @param {Record<string, unknown>} values */
 function textIn(it, key, values) {
-    const own = isToRider ? texts[it]?.[key + YOU] ?? texts.en[key + YOU] : undefined, text = own ?? texts[it]?.[key] ?? texts.en[key];
+    const own = isToRider ? texts[it]?.[key + YOU] ?? texts.en[key + YOU] : undefined,
+        text = own ?? texts[it]?.[key] ?? texts.en[key];
     if (text === undefined) return key;
     return typeof text === "function" ? smoothing[it]?.(text(values)) ?? text(values) : text;
 }
 
 /** The text of a key.
- * @param {string} key @param {Record<string, any>} [values]
+ * @param {string} key @param {Record<string, unknown>} [values]
  */
 export const t = (key, values = {}) => textIn(now, key, values);
 
@@ -77,11 +82,13 @@ export const t = (key, values = {}) => textIn(now, key, values);
 export const hasText = (key) => key in texts[now] || key in texts.en;
 
 /** The text in each language whose words are loaded by loadBoth.
- * @param {string} key @param {Record<string, any>} [values]
+ * @param {string} key @param {Record<string, unknown>} [values]
  */
-export const inBoth = (key, values = {}) => Object.fromEntries(LANGUAGES.map((it) => [it, textIn(it, key, values)]));
+export const inBoth = (key, values = {}) =>
+    Object.fromEntries(LANGUAGES.map((it) => [it, textIn(it, key, values)]));
 
-/** What act() gives in another language: its words, and its days and times. Whoever asks has loaded them by loadBoth; act waits for nothing.
+/** What act() gives in another language: its words, and its days and times. Whoever asks has loaded
+ * them by loadBoth; act waits for nothing.
  * @template Made @param {string} it @param {() => Made} act @returns {Made}
  */
 export function speaking(it, act) {
@@ -95,7 +102,8 @@ export function speaking(it, act) {
 }
 
 /** Loads the words that are used now in every language, so that inBoth has them. */
-export const loadBoth = () => Promise.all(LANGUAGES.flatMap((it) => [...loaded].map((name) => load(it, name))));
+export const loadBoth = () =>
+    Promise.all(LANGUAGES.flatMap((it) => [...loaded].map((name) => load(it, name))));
 
 /** "a, b and c".
  * @param {string[]} list

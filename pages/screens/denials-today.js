@@ -1,4 +1,5 @@
-// Denials for lack of a vehicle, of which staff may have a copy of the desk's file kept: `desk explain` makes a log of it (docs/AUDIT.md).
+// Denials for lack of a vehicle, of which staff may have a copy of the desk's file kept: `desk
+// explain` makes a log of it (docs/AUDIT.md).
 
 import { clock, dayShort, momentNow, today } from "../parts/clock.js";
 import { deniedIn } from "../parts/denied-today.js";
@@ -20,10 +21,17 @@ const timeOf = (moment) => clock(Number(moment.slice(11, 13)) * 60 + Number(mome
 export const markedWords = (at) => t("booking.marked", { time: timeOf(at) });
 
 /** @param {string} asked the trip that was asked for @param {() => void} mark */
-export const markButton = (asked, mark) => button(t("booking.mark"), mark, { class: "small", "aria-label": t("booking.mark-of", { asked }) });
+export const markButton = (asked, mark) =>
+    button(t("booking.mark"), mark, {
+        class: "small",
+        "aria-label": t("booking.mark-of", { asked })
+    });
 
 /** @param {DeniedTrip} denied */
-const askedWords = ({ day, minute, mode }) => `${dayShort(day)}, ${mode ? t(`booking.said-${mode}`, { time: clock(minute) }) : clock(minute)}`;
+function askedWords({ day, minute, mode }) {
+    const time = clock(minute);
+    return `${dayShort(day)}, ${mode ? t(`booking.said-${mode}`, { time }) : time}`;
+}
 
 /** The denials of today, each with its copy. changed draws the screen anew.
  * @param {() => void} changed
@@ -34,15 +42,36 @@ export function denialsToday(changed) {
         if (here.has(id)) return;
         const at = momentNow();
         here.set(id, at);
-        count("marks", { day, minute, at, ...(mode && { mode: /** @type {any} */ (mode) }) });
+        count("marks", { day, minute, at, ...(mode && { mode }) });
         changed();
         document.getElementById(`copy-${id}`)?.focus();
     };
     const copyOf = (/** @type {DeniedTrip} */ it) => {
         const at = it.marked ?? here.get(it.id);
-        return part("div", { role: "status", id: `copy-${it.id}`, tabindex: -1 }, at ? part("span", { class: "good" }, markedWords(at)) : markButton(askedWords(it), () => mark(it)));
+        return part("div", { role: "status", id: `copy-${it.id}`, tabindex: -1 },
+            at
+                ? part("span", { class: "good" }, markedWords(at))
+                : markButton(askedWords(it), () => mark(it))
+        );
     };
-    return all.length > 0 && part("section", { class: "card", key: "denials-today" }, part("h2", {}, t("cases.waits-denials")), part("p", {}, t("cases.waits-denials-hint")), toldRead().age(),
-        table(t("cases.waits-denials"), [{ head: t("cases.waits-denied-at"), cell: (it) => timeOf(it.at) }, { head: t("cases.waits-asked"), cell: askedWords },
-            { head: t("cases.waits-denied-where"), cell: (it) => (it.channel ? t(`cases.channel-${it.channel}`) : "") }, { head: t("cases.waits-copy"), cell: copyOf }], all, { rowKey: ({ id }) => id }));
+    return all.length > 0 &&
+        part("section", { class: "card", key: "denials-today" },
+            part("h2", {}, t("cases.waits-denials")),
+            part("p", {}, t("cases.waits-denials-hint")),
+            toldRead().age(),
+            table(
+                t("cases.waits-denials"),
+                [
+                    { head: t("cases.waits-denied-at"), cell: (it) => timeOf(it.at) },
+                    { head: t("cases.waits-asked"), cell: askedWords },
+                    {
+                        head: t("cases.waits-denied-where"),
+                        cell: (it) => (it.channel ? t(`cases.channel-${it.channel}`) : "")
+                    },
+                    { head: t("cases.waits-copy"), cell: copyOf }
+                ],
+                all,
+                { rowKey: ({ id }) => id }
+            )
+        );
 }

@@ -1,22 +1,36 @@
-// The day as a picture: who is where, what was promised, how it goes, and the manifest of one vehicle beside it.
+// The day as a picture: who is where, what was promised, how it goes, and the manifest of one van
+// beside it.
 
-import { placeName, vehicleName } from "../parts/agency.js";
-import { between, clock, dayInWords, minuteNow, today } from "../parts/clock.js";
+import { vehicleName } from "../parts/agency.js";
+import { HOURS, rowHeight } from "../parts/board-shapes.js";
+import { clock, today } from "../parts/clock.js";
 import { button, part, say } from "../parts/element.js";
-import { dropText, keptText } from "../parts/kept.js";
+import { icon } from "../parts/icons.js";
+import { dropText, keepText, keptText } from "../parts/kept.js";
+import { madeOnce } from "../parts/made-once.js";
 import { printDaySheet, printManifests } from "../parts/paper-day.js";
-import { folded, riderLabel, riderName, riderOf } from "../parts/roster.js";
+import { closePopups, popup } from "../parts/popup.js";
 import { makeScreen } from "../parts/screen.js";
+import { keepSubject } from "../parts/subject.js";
 import { doingOf, manifestsIn, overOf, rowsIn, tripsThatStand } from "../parts/texts.js";
-import { bringIntoView, doingWords, hoursOf, legend, scaleOf, stopWords, tableOfDay, timeline } from "../parts/timeline.js";
-import { fits, searchText, vanFirst } from "../parts/trip-search.js";
+import {
+    bringIntoView,
+    legend,
+    shortNames,
+    spread,
+    stopWords,
+    tableOfDay,
+    timeline
+} from "../parts/timeline.js";
 import { t } from "../parts/words.js";
 import { attention, attentionBar, readUnplaced, vansIn } from "./dispatcher-attention.js";
-import { dayBar, dayDenied, nowOn, STOP, theDay } from "./dispatcher-bar.js";
-import { dutyOn, dutyRead, noteButton, notesList, notesOn } from "./dispatcher-notes.js";
-import { dayNow, dayRead, driversRead, toldNow } from "./dispatcher-reads.js";
+import { dayDenied, dayTitle, dayTools, nowOn, STOP, theDay } from "./dispatcher-bar.js";
+import { daySearch, searchAhead } from "./dispatcher-find.js";
+import { oneVan, openAt } from "./dispatcher-manifest.js";
+import { dutyOn, dutyRead, notesOn } from "./dispatcher-notes.js";
+import { dayHeard, dayNow, dayRead, driversRead, toldNow } from "./dispatcher-reads.js";
 import { roomTable } from "./dispatcher-room.js";
-import { review } from "./dispatcher-review.js";
+import { isOpen, review } from "./dispatcher-review.js";
 
 /** @typedef {import("../parts/texts.js").Manifest} Manifest */
 /** @typedef {import("../parts/texts.js").Row} Row */
@@ -25,207 +39,423 @@ import { review } from "./dispatcher-review.js";
 /** @typedef {import("../parts/lateness.js").Told} Told */
 /** @typedef {import("./dispatcher-notes.js").Notes} Notes */
 /** @typedef {import("./dispatcher-notes.js").Duty} Duty */
-/** @typedef {{ day: string, chosen: number | null, now: number, ended: boolean, asTable: boolean, wide: number, unplaced: number, onlyNeeds: boolean, printing: boolean,
- *   original: boolean, typed: string, marked: number | null, noted: number, asRoom: boolean }} Own noted counts the notes that were written here; marked is the trip whose stop is shown in the manifest */
-/** @typedef {Own & import("./dispatcher-reads.js").Day & { told: Told | null, notes: Notes, duty: Duty }} State with what the desk, drivers and dispatchers told of the day */
-/** @typedef {{ manifests: Manifest[], busy: Manifest[], shown: Manifest[], idle: Manifest[], one: Manifest | undefined, doings: Doings, dues: Map<number, number>, over: (trip: number) => string,
- *   lates: Map<number, import("../parts/lateness.js").Late>, needs: import("./dispatcher-attention.js").Attention }} Known shown are the rows, in their order */
-
-const NAMES_WIDE = 176, NAMES_NARROW = 104, NARROW = 640, BESIDE = 1_200, ONE_WIDE = 452, PADDING = 62, LEAST_ROOM = 320, TIP_WIDE = 260, TIP_BELOW = 34,
-    MOST_FOUND = 10, IDLE = 20;
-
-/** How wide the picture is between the names and the manifest.
- * @param {State} state @param {boolean} hasOne
+/** @typedef {{ day: string, chosen: number | null, now: number, ended: boolean, asTable: boolean,
+ * wide: number, high: number, hours: number | null, unplaced: number, onlyNeeds: boolean, printing:
+ * boolean, original: boolean, marked: number | null, noted: number, asRoom: boolean }} Own noted
+ * counts the notes that were written here; marked is the trip whose stop is shown in the manifest;
+ * wide and high are what the picture has room for, hours how many are in view at once where
+ * somebody chose
  */
-const roomOf = ({ wide }, hasOne) => Math.max(LEAST_ROOM, wide - PADDING - (wide < NARROW ? NAMES_NARROW : NAMES_WIDE) - (hasOne && wide >= BESIDE ? ONE_WIDE : 0));
-
-
-/** Makes something anew only where one of what it is made of is another one.
- * @template Made @param {(...from: any[]) => Made} make @returns {(...from: any[]) => Made}
+/** @typedef {Own & import("./dispatcher-reads.js").Day & { told: Told | null, notes: Notes, duty:
+ * Duty }} State with what the desk, drivers and dispatchers told of the day
  */
-function madeOnce(make) {
-    /** @type {{ from: any[], made: Made } | null} */
-    let last = null;
-    return (...from) => {
-        if (!last || last.from.length !== from.length || last.from.some((it, at) => it !== from[at])) last = { from, made: make(...from) };
-        return last.made;
-    };
-}
+/** @typedef {{ manifests: Manifest[], busy: Manifest[], shown: Manifest[], idle: Manifest[], one:
+ * Manifest | undefined, doings: Doings, dues: Map<number, number>, over: (trip: number) => string,
+ * lates: Map<number, import("../parts/lateness.js").Late>, needs:
+ * import("./dispatcher-attention.js").Attention }} Known shown are the rows, in their order
+ */
+
+const NAMES_WIDE = 176,
+    NAMES_NARROW = 128,
+    NARROW = 640,
+    LEAST_ROOM = 208,
+    TIP_WIDE = 260,
+    TIP_HIGH = 140,
+    AXIS = 25,
+    IDLE_LINE = 30,
+    LOW = 34,
+    KEPT_HOURS = "dispatcher.hours",
+    FIRST_PART = 0.36;
 
 // (an outcome changes the trips, and no manifest)
-const manifestsOf = /** @type {(text: string) => Manifest[]} */ (madeOnce(manifestsIn)), rowsOf = /** @type {(csv: string) => Row[]} */ (madeOnce((csv) => (csv ? rowsIn(csv) : [])));
+const manifestsOf = /** @type {(text: string) => Manifest[]} */ (madeOnce(manifestsIn)),
+    rowsOf = /** @type {(csv: string) => Row[]} */ (madeOnce((csv) => (csv ? rowsIn(csv) : [])));
 
 /** @param {State} state @returns {Known} */
-const knownOf = ({ day, text, csv, chosen, now, told, onlyNeeds }) => knownFrom(day, text, csv, chosen, now, told, onlyNeeds);
+const knownOf = ({ day, text, csv, chosen, now, told, onlyNeeds }) =>
+    knownFrom(day, text, csv, chosen, now, told, onlyNeeds);
 
-const knownFrom = madeOnce((day, text, csv, chosen, now, told, onlyNeeds) => knownMade({ day, text, csv, chosen, now, told, onlyNeeds }));
+/** @typedef {Pick<State, "day" | "text" | "csv" | "chosen" | "now" | "told" | "onlyNeeds">} Shown
+ */
 
-/** @param {Pick<State, "day" | "text" | "csv" | "chosen" | "now" | "told" | "onlyNeeds">} state @returns {Known} */
+const knownFrom = madeOnce(
+    (
+        /** @type {Shown["day"]} */ day,
+        /** @type {Shown["text"]} */ text,
+        /** @type {Shown["csv"]} */ csv,
+        /** @type {Shown["chosen"]} */ chosen,
+        /** @type {Shown["now"]} */ now,
+        /** @type {Shown["told"]} */ told,
+        /** @type {Shown["onlyNeeds"]} */ onlyNeeds
+    ) => knownMade({ day, text, csv, chosen, now, told, onlyNeeds })
+);
+
+/** @param {Shown} state @returns {Known} */
 function knownMade({ day, text, csv, chosen, now, told, onlyNeeds }) {
-    const manifests = manifestsOf(text ?? ""), rows = rowsOf(csv), busy = manifests.filter(({ stops }) => stops.length > 0), doings = doingOf(manifests, rows, now);
-    const { lates, needs } = attention(manifests, told, doings, now, day === today()), wanted = vansIn(needs);
-    const worst = (/** @type {Manifest} */ { vehicle }) => Math.max(lates.get(vehicle)?.delay ?? 0, lates.get(vehicle)?.silent ?? 0);
-    const shown = onlyNeeds ? busy.filter(({ vehicle }) => wanted.has(vehicle)).sort((a, b) => worst(b) - worst(a) || a.vehicle - b.vehicle) : busy;
-    return { manifests, busy, shown, idle: manifests.filter(({ stops }) => stops.length === 0), one: manifests.find(({ vehicle }) => vehicle === chosen),
-        doings, dues: new Map(rows.map(({ trip, due }) => [trip, due])), over: overOf(rows), lates, needs };
+    const manifests = manifestsOf(text ?? ""),
+        rows = rowsOf(csv),
+        busy = manifests.filter(({ stops }) => stops.length > 0),
+        doings = doingOf(manifests, rows, now);
+    const { lates, needs } = attention(manifests, told, doings, now, day === today()),
+        wanted = vansIn(needs);
+    const worst = (/** @type {Manifest} */ { vehicle }) =>
+        Math.max(lates.get(vehicle)?.delay ?? 0, lates.get(vehicle)?.silent ?? 0);
+    const shown = onlyNeeds
+        ? busy.filter(({ vehicle }) => wanted.has(vehicle)).sort(
+              (a, b) => worst(b) - worst(a) || a.vehicle - b.vehicle
+          )
+        : busy;
+    return {
+        manifests,
+        busy,
+        shown,
+        idle: manifests.filter(({ stops }) => stops.length === 0),
+        one: manifests.find(({ vehicle }) => vehicle === chosen),
+        doings,
+        dues: new Map(rows.map(({ trip, due }) => [trip, due])),
+        over: overOf(rows),
+        lates,
+        needs
+    };
 }
-
-// One search over the day's trips.
-
-/** @typedef {{ vehicle: number, stop: import("../parts/texts.js").Stop, text: string }} Entry */
-/** What is searched of each pickup of a van, made once for its manifest.
- * @type {WeakMap<Manifest, Entry[]>}
- */
-const searched = new WeakMap();
-
-/** @param {Manifest} manifest @returns {Entry[]} */
-function entriesOf(manifest) {
-    const { vehicle, stops } = manifest, known = searched.get(manifest);
-    if (known) return known;
-    const entries = stops.filter(({ what }) => what === "PICK").map((stop) => {
-        const drop = stops.find(({ what, trip }) => what === "DROP" && trip === stop.trip), rider = Number(stop.rider);
-        return { vehicle, stop, text: searchText([riderName(rider), rider, riderOf(rider)?.telephone, vehicleName(vehicle), vehicle, stop.trip, placeName(stop.place), drop && placeName(drop.place)], folded) };
-    });
-    searched.set(manifest, entries);
-    return entries;
-}
-
-const whenIdle = (/** @type {() => void} */ act) => ("requestIdleCallback" in window ? window.requestIdleCallback(act) : setTimeout(act, IDLE));
-
-/** Makes what is searched while nothing else is to be done, van by van: the first letter does not wait for it.
- * @param {Manifest[]} manifests
- */
-function searchAhead(manifests) {
-    const next = manifests.find((it) => !searched.has(it));
-    if (next) whenIdle(() => {
-        entriesOf(next);
-        searchAhead(manifests);
-    });
-}
-
-/** @param {State} state @param {Known} known @param {(vehicle: number, trip: number) => void} go */
-function foundList({ typed }, { manifests }, go) {
-    const wanted = folded(typed.trim());
-    if (!wanted) return null;
-    const all = manifests.flatMap(entriesOf).filter(({ text }) => fits(text, wanted)).sort((a, b) => a.stop.at - b.stop.at), now = minuteNow();
-    const near = vanFirst([...all.filter(({ stop }) => stop.at >= now - 60), ...all.filter(({ stop }) => stop.at < now - 60)], wanted, ({ vehicle }) => folded(vehicleName(vehicle)));
-    return part("div", { class: "found", role: "status" }, all.length === 0 ? part("p", {}, t("dispatcher.search-none")) : part("ul", { "aria-label": t("dispatcher.search-list") },
-        near.slice(0, MOST_FOUND).map(({ vehicle, stop }) => part("li", { key: stop.trip }, button(t("dispatcher.found-trip", { planned: clock(stop.at), rider: riderLabel(Number(stop.rider)),
-            window: stop.window ? between(...stop.window) : "", vehicle: vehicleName(vehicle), trip: stop.trip, telephone: riderOf(Number(stop.rider))?.telephone ?? "" }),
-        () => go(vehicle, Number(stop.trip)), { class: "small" })))), all.length > MOST_FOUND && part("p", { class: "hint" }, t("dispatcher.search-more", { count: all.length - MOST_FOUND })));
-}
-
-/** @param {State} state @param {Known} known @param {{ go: (vehicle: number, trip?: number) => void, search: (typed: string) => void, filter: (only: boolean) => void }} acts */
-const searchRow = (state, known, { go, search, filter }) => part("div", { class: "search-row" }, part("div", { class: "search" },
-    part("label", { for: "day-search" }, t("dispatcher.search")), part("input", { id: "day-search", type: "search", autocomplete: "off", value: state.typed, "aria-describedby": "day-search-hint",
-        on: { input: (event) => search(event.target.value), keydown: (event) => { if (event.key === "Escape") search(""); } } }),
-    part("small", { id: "day-search-hint" }, t("dispatcher.search-hint")), foundList(state, known, go)),
-part("label", { class: "tick" }, part("input", { type: "checkbox", checked: state.onlyNeeds, on: { change: (event) => filter(event.target.checked) } }), t("dispatcher.only-needs")));
 
 // The label of a stop, at the stop.
 
 function tipScreen() {
-    const tip = makeScreen({ state: { words: "" }, class: "tip-place", draw: ({ words }) => words && part("p", { class: "tip" }, words) });
-    const hide = (/** @type {KeyboardEvent} */ event) => { if (event.key === "Escape") show(null, ""); };
-    /** @param {Label | null} label @param {string} words */
-    const show = (label, words) => {
-        const frame = tip.element.parentElement, row = label && frame?.querySelector(`[data-row="${label.vehicle}"]`);
-        window.removeEventListener("keydown", hide);
-        if (!label || !frame || !(row instanceof HTMLElement)) return tip.change({ words: "" });
-        const names = frame.querySelector(".corner")?.clientWidth ?? 0, least = frame.scrollLeft + names, most = frame.scrollLeft + frame.clientWidth - TIP_WIDE;
-        tip.element.style.left = `${Math.max(least, Math.min(most, names + label.x - TIP_WIDE / 2))}px`;
-        tip.element.style.top = `${row.offsetTop + TIP_BELOW}px`;
-        window.addEventListener("keydown", hide);
-        return tip.change({ words });
+    const tip = makeScreen({
+        state: { words: "", isBelow: true },
+        class: "tip-place",
+        draw: ({ words, isBelow }) =>
+            words && [
+                part("i", { class: "tip-mark" }),
+                part("p", { class: isBelow ? "tip" : "tip above" }, words)
+            ]
+    });
+    /** Brings a stop that the arrow keys came to into view.
+     * @param {HTMLElement} frame @param {number} x @param {number} names
+     */
+    const toStop = (frame, x, names) => {
+        const room = frame.clientWidth - names;
+        if (x < frame.scrollLeft || x > frame.scrollLeft + room)
+            frame.scrollLeft = x - room * FIRST_PART;
+    };
+    /** @param {Label | null} label @param {string} words @param {boolean} [isSpoken] */
+    const show = (label, words, isSpoken = false) => {
+        const frame = tip.element.parentElement,
+            row = label && frame?.querySelector(`[data-row="${label.vehicle}"]`);
+        if (!label || !frame || !(row instanceof HTMLElement))
+            return tip.state.words && tip.change({ words: "" });
+        const names = frame.querySelector(".corner")?.clientWidth ?? 0;
+        if (isSpoken) toStop(frame, label.x, names);
+        const least = frame.scrollLeft + names,
+            most = frame.scrollLeft + frame.clientWidth - TIP_WIDE,
+            x = names + label.x,
+            left = Math.max(least, Math.min(most, x - TIP_WIDE / 2));
+        const isBelow =
+            row.offsetTop + row.offsetHeight + TIP_HIGH < frame.scrollTop + frame.clientHeight ||
+            row.offsetTop - frame.scrollTop < TIP_HIGH + AXIS;
+        for (const [name, value] of Object.entries({
+            left: left,
+            top: row.offsetTop,
+            "--mark": x - left,
+            "--row": row.offsetHeight
+        }))
+            tip.element.style.setProperty(name, `${value}px`);
+        return tip.change({ words, isBelow });
     };
     return { element: tip.element, show };
 }
 
-// The manifest of one vehicle.
-
-/** @param {number} rider */
-const telephoneOf = (rider) => {
-    const telephone = riderOf(rider)?.telephone;
-    return telephone ? part("a", { href: `tel:${telephone.replace(/[^\d+]/g, "")}` }, telephone) : null;
-};
-
-/** @param {Manifest} manifest @param {State} state @param {Doings} doings @param {() => void} noted */
-const stopsOf = ({ vehicle, stops }, { day, marked, notes }, doings, noted) => part("ol", { class: "van-stops", id: `stops-${vehicle}` }, stops.map((stop, at) => part("li", { key: at, "data-minute": stop.at,
-    "data-trip": stop.what === "PICK" ? stop.trip : null, class: marked !== null && stop.trip === marked ? "marked" : null }, part("span", { class: "when" }, clock(stop.at)),
-    part("div", {}, part("p", {}, part("strong", {}, stop.what === "DEPOT" ? t("dispatcher.depot") : t(`dispatcher.paper-${stop.what}`, { trip: stop.trip })), " ",
-        stop.rider !== undefined && riderLabel(stop.rider)), part("p", {}, placeName(stop.place)),
-    stop.trip !== undefined && part("p", { class: "hint" }, [stop.window && t("dispatcher.promised", { window: between(...stop.window) }),
-        t("dispatcher.people", { count: stop.people, wheelchairs: stop.wheelchairs }), doingWords(doings.get(stop.trip))].filter(Boolean).join(" · "),
-        stop.what === "PICK" && [" ", telephoneOf(Number(stop.rider))]),
-    stop.trip !== undefined && notesList(notes(vehicle, stop.trip)),
-    stop.trip !== undefined && day === today() && noteButton({ day, vehicle, trip: stop.trip }, `${t(`dispatcher.paper-${stop.what}`, { trip: stop.trip })} ${riderLabel(Number(stop.rider))}`, noted)))));
-
-/** @param {State} state @param {Known} known @param {{ close: () => void, noted: () => void }} acts */
-function oneVan(state, { one, doings, dues, over }, { close, noted }) {
-    if (!one) return null;
-    const { day, original, notes, duty } = state, label = duty(one.vehicle);
-    const heading = t("dispatcher.manifest-of", { vehicle: vehicleName(one.vehicle), day: dayInWords(day) });
-    return part("section", { class: "card one-van", key: `one-${one.vehicle}`, "aria-labelledby": "one-van" }, part("h3", { id: "one-van", tabindex: -1 }, heading),
-        label && part("p", { class: "duty" }, label), notesList(notes(one.vehicle, 0)),
-        part("div", { class: "row" }, one.stops.length > 0 && button(t("dispatcher.print-manifest"), () => printManifests([one], dues, { original, notes, duty, over })),
-            day === today() && noteButton({ day, vehicle: one.vehicle, trip: 0 }, "", noted), button(t("dispatcher.close"), close)),
-        one.stops.length ? stopsOf(one, state, doings, noted) : part("p", {}, t("dispatcher.no-stops")),
-        part("details", {}, part("summary", {}, t("dispatcher.own-text")), part("pre", { tabindex: 0, role: "region", "aria-label": t("dispatcher.own-text") }, one.text)));
-}
-
 // The whole.
 
-/** @param {State} state @param {Known} known @param {{ chosen: (vehicle: number) => void, tip: ReturnType<typeof tipScreen>, toNow: () => void, tabled: () => void, roomed: () => void, original: (original: boolean) => void }} acts */
-function pictureCard(state, known, { chosen, tip, toNow, tabled, roomed, original }) {
-    const { manifests, busy, shown, idle, one, doings, dues, lates, over } = known, { day, text, now, asTable, asRoom, notes, duty, chosen: selected } = state, stand = tripsThatStand(text ?? ""), isNow = day === today();
-    const labelled = (/** @type {Label | null} */ label, spoken = false) => {
-        const stop = label && manifests.find(({ vehicle }) => vehicle === label.vehicle)?.stops[label.at], words = stop ? stopWords(stop, doings) : "";
-        tip.show(label, words);
-        if (spoken) say(words);
-    };
-    return part("div", { class: "card picture-card" },
-        busy.length > 0 && part("div", { class: "scroll timeline", id: "picture", tabindex: 0, role: "region", "aria-label": t("dispatcher.picture"), on: { pointerleave: () => labelled(null) } },
-            tip.element, rowsOnce([known, selected, isNow ? now : null, roomOf(state, Boolean(one)), state.noted, dutyRead().reply(), toldNow(today())], () => timeline(shown, { chosen, selected, now: isNow ? now : null,
-                room: roomOf(state, Boolean(one)), doings, labelled, lates, duty, noted: (it) => [0, ...it.stops.flatMap(({ what, trip }) => (what === "PICK" ? Number(trip) : []))].reduce((sum, trip) => sum + notes(it.vehicle, trip).length, 0) }))),
-        idle.length > 0 && part("details", { class: "idle" }, part("summary", {}, t("dispatcher.idle", { count: idle.length })),
-            part("ul", { class: "row" }, idle.map(({ vehicle }) => part("li", { key: vehicle }, vehicleName(vehicle))))),
-        part("div", { class: "row tools" }, part("p", {}, t("dispatcher.stand", { count: stand }), " ", t(manifests.length ? "dispatcher.choose" : "dispatcher.nobody")),
-            button(t("dispatcher.print-sheet"), () => printDaySheet(day, manifests, text ?? "", { original: state.original, duty })),
-            busy.length > 0 && button(t("dispatcher.print-manifests", { count: busy.length }), () => printManifests(busy, dues, { original: state.original, notes, duty, over })),
-            part("label", { class: "tick" }, part("input", { type: "checkbox", checked: state.original, on: { change: (event) => original(event.target.checked) } }), t("dispatcher.with-original")),
-            isNow && busy.length > 0 && button(t("dispatcher.to-now"), toNow), button(t("dispatcher.as-table"), tabled, { "aria-expanded": String(asTable), "aria-controls": "as-table" }),
-            manifests.length > 0 && button(t("dispatcher.as-room"), roomed, { "aria-expanded": String(asRoom), "aria-controls": "as-room" }), busy.length > 0 && legend()),
-        part("div", { id: "as-room" }, asRoom && roomTable(manifests, day)),
-        part("div", { id: "as-table", class: asTable ? null : "folded-table" }, (asTable || state.printing) && tableOfDay(t("dispatcher.table-of-day"), manifests, doings)));
-}
+/** @typedef {{ opened: (vehicle: number, trip?: number) => void, chosen: (vehicle: number) => void,
+ * tip: ReturnType<typeof tipScreen>, toNow: () => void, tabled: () => void, roomed: () => void,
+ * set: (patch: Partial<Own>) => void, hours: (hours: number | null) => void }} Acts
+ */
 
-/** The rows of the picture, drawn anew where what they show has changed: typing in the search changes none of it.
- * @type {{ from: any[], made: import("../types").Given } | null}
+/** The rows of the picture, drawn anew where what they show has changed: the label of a stop
+ * changes none of it.
+ * @type {{ from: unknown[], made: import("../types").Given } | null}
  */
 let rowsDrawn = null;
 
-/** @param {any[]} from what they show @param {() => import("../types").Given} make */
+/** @param {unknown[]} from what they show @param {() => import("../types").Given} make */
 function rowsOnce(from, make) {
-    if (!rowsDrawn || rowsDrawn.from.some((it, at) => it !== from[at])) rowsDrawn = { from, made: make() };
+    if (!rowsDrawn || rowsDrawn.from.some((it, at) => it !== from[at]))
+        rowsDrawn = { from, made: make() };
     return rowsDrawn.made;
 }
 
-/** Moves the picture so that the present is in its first third.
- * @param {State} state
+/** How wide the picture is beside the names of the vans.
+ * @param {Own} own
  */
-function moveToNow(state) {
-    const frame = document.getElementById("picture"), { one, shown: manifests } = knownOf(state);
-    if (!frame || !Number.isFinite(state.now)) return;
-    frame.scrollLeft = scaleOf(hoursOf(manifests), roomOf(state, Boolean(one))).across(state.now) - frame.clientWidth / 3;
+const roomOf = ({ wide }) =>
+    Math.max(LEAST_ROOM, wide - (wide < NARROW ? NAMES_NARROW : NAMES_WIDE));
+
+/** How high a row of the picture is.
+ * @param {State} state @param {Known} known
+ */
+const highOf = ({ high }, { busy, idle }) =>
+    rowHeight(high - AXIS - (idle.length ? IDLE_LINE : 0), busy.length);
+
+/** @param {State} state @param {Known} known @param {Acts} acts */
+function rowsOfPicture(state, known, { chosen, opened, tip }) {
+    const { manifests, shown, doings, lates, needs } = known,
+        { day, now, notes, duty, chosen: selected, hours, onlyNeeds } = state,
+        isToday = day === today();
+    const labelled = (/** @type {Label | null} */ label, isSpoken = false) => {
+        const stop =
+            label && manifests.find(({ vehicle }) => vehicle === label.vehicle)?.stops[label.at],
+            words = stop ? stopWords(stop, doings) : "";
+        tip.show(label, words, isSpoken);
+        if (isSpoken) say(words);
+    };
+    const high = highOf(state, known),
+        room = roomOf(state),
+        waiting = needs.noShows.filter((it) => it.day === day && isOpen(it));
+    return rowsOnce(
+        [
+            known,
+            selected,
+            now,
+            room,
+            high,
+            hours,
+            waiting.length,
+            state.noted,
+            dutyRead().reply(),
+            toldNow(today())
+        ],
+        () =>
+            timeline(shown, {
+                chosen,
+                opened,
+                labelled,
+                selected,
+                now,
+                isToday,
+                room,
+                high,
+                hours,
+                doings,
+                lates,
+                duty,
+                isFew: onlyNeeds,
+                waits: (vehicle) => waiting.filter((it) => it.vehicle === vehicle).length,
+                noted: (it) =>
+                    [
+                        0,
+                        ...it.stops.flatMap(({ what, trip }) => (
+                            what === "PICK" ? Number(trip) : []
+                        ))
+                    ].reduce((sum, trip) => sum + notes(it.vehicle, trip).length, 0)
+            })
+    );
 }
 
-/** Opens the manifest beside the picture at a trip's pickup, or at what comes next, and brings the van's row into view.
- * @param {State} state @param {number} vehicle @param {number} [trip]
+/** @param {State} state @param {Known} known @param {Acts} acts */
+function pictureCard(state, known, acts) {
+    const { manifests, busy, idle, doings } = known,
+        { asTable, asRoom, printing, day } = state,
+        nameOf = busy.length > 0 ? shortNames() : vehicleName;
+    const idleVans =
+        idle.length > 0 &&
+        part("details", { class: "idle", key: "idle" },
+            part("summary", {}, t("dispatcher.idle", { count: idle.length })),
+            part("p", {}, idle.map(({ vehicle }) => nameOf(vehicle)).join(", "))
+        );
+    return part("div", { class: "picture-card" },
+        busy.length > 0 &&
+            !asTable &&
+            !asRoom &&
+            part(
+                "div",
+                {
+                    class: highOf(state, known) < LOW ? "timeline low-rows" : "timeline",
+                    key: "picture",
+                    id: "picture",
+                    tabindex: 0,
+                    role: "region",
+                    "aria-label": t("dispatcher.picture"),
+                    "aria-describedby": "picture-keys",
+                    on: {
+                        scroll: ({ target }) => {
+                            if (target.clientWidth === state.wide)
+                                middle = minuteAt(state, target.scrollLeft);
+                        }
+                    }
+                },
+                acts.tip.element,
+                rowsOfPicture(state, known, acts),
+                idleVans
+            ),
+        busy.length === 0 && [
+                part("p", { class: "pad" },
+                    t(manifests.length ? "dispatcher.nobody-rides" : "dispatcher.nobody")
+                ),
+                !asTable && !asRoom && idleVans
+            ],
+        part("p", { class: "unseen", id: "picture-keys" }, t("dispatcher.row-keys")),
+        part("div", { key: "as-room", id: "as-room", class: asRoom ? "as-other" : null },
+            asRoom && roomTable(manifests, day)
+        ),
+        part(
+            "div",
+            { key: "as-table", id: "as-table", class: asTable ? "as-other" : "folded-table" },
+            (asTable || printing) && tableOfDay(t("dispatcher.table-of-day"), manifests, doings)
+        )
+    );
+}
+
+/** The manifests of all vans on paper, by one click.
+ * @param {State} state @param {Known} known
  */
-function openAt({ now }, vehicle, trip) {
-    const list = document.getElementById(`stops-${vehicle}`), stops = /** @type {HTMLElement[]} */ ([...list?.children ?? []]);
-    const stop = stops.find((it) => (trip ? it.dataset.trip === String(trip) : Number(it.dataset.minute) >= now - 10));
-    if (list && stop) list.scrollTop = stop.offsetTop;
+const printAll = ({ original, notes, duty }, { busy, dues, over }) =>
+    busy.length > 0 &&
+    button(
+        [icon("printer"), part("span", {}, t("dispatcher.print-short"))],
+        () => printManifests(busy, dues, { original, notes, duty, over }),
+        {
+            class: "small",
+            key: "print-all",
+            "aria-label": t("dispatcher.print-manifests", { count: busy.length })
+        }
+    );
+
+/** How many hours are in view, which vans, and the same in other forms; the day sheet on paper.
+ * @param {State} state @param {Known} known @param {Acts} acts
+ */
+function viewTools(state, known, { hours, set, toNow, tabled, roomed }) {
+    const { manifests, busy, over } = known,
+        { day, text, original, duty, asTable, asRoom, onlyNeeds } = state,
+        group = "hours-in-view";
+    const choice = (/** @type {number | null} */ it) =>
+        part("label", { key: String(it) },
+            part("input", {
+                type: "radio",
+                name: group,
+                checked: state.hours === it,
+                on: { change: () => hours(it) }
+            }),
+            it === null
+                ? t("dispatcher.hours-auto")
+                : it === 0
+                ? t("dispatcher.hours-all")
+                : t("dispatcher.hours-some", { hours: it })
+        );
+    return popup(
+        "view-pop",
+        t("dispatcher.view"),
+        [
+            part("fieldset", { class: "plain" },
+                part("legend", {}, t("dispatcher.hours-in-view")),
+                part("div", { class: "seg" }, [...HOURS, null].map(choice))
+            ),
+            part("label", { class: "tick" },
+                part("input", {
+                    type: "checkbox",
+                    checked: onlyNeeds,
+                    on: { change: (event) => set({ onlyNeeds: event.target.checked }) }
+                }),
+                t("dispatcher.only-needs")
+            ),
+            part("div", { class: "row" },
+                day === today() &&
+                    busy.length > 0 &&
+                    button(t("dispatcher.to-now"), toNow, { class: "small" }),
+                button(t("dispatcher.as-table"), tabled, {
+                    class: "small",
+                    "aria-pressed": String(asTable),
+                    "aria-controls": "as-table"
+                }),
+                manifests.length > 0 &&
+                    button(t("dispatcher.as-room"), roomed, {
+                        class: "small",
+                        "aria-pressed": String(asRoom),
+                        "aria-controls": "as-room"
+                    })
+            ),
+            part("div", { class: "prints" },
+                button(
+                    t("dispatcher.print-sheet"),
+                    () => printDaySheet(day, manifests, text ?? "", { original, duty, over }),
+                    { class: "small" }
+                ),
+                part("label", { class: "tick" },
+                    part("input", {
+                        type: "checkbox",
+                        checked: original,
+                        on: { change: (event) => set({ original: event.target.checked }) }
+                    }),
+                    t("dispatcher.with-original")
+                )
+            ),
+            busy.length > 0 &&
+                part("details", { class: "fold" },
+                    part("summary", {}, t("dispatcher.legend")),
+                    legend()
+                )
+        ],
+        { name: t("dispatcher.view-of") }
+    );
+}
+
+/** What the signs mean, how many trips the day has, and as of when that is.
+ * @param {State} state @param {Known} known
+ */
+function footOf({ text, day }, { busy, doings }) {
+    const count = (/** @type {string[]} */ states) =>
+        [...doings.values()].filter(({ state }) => states.includes(state)).length,
+        heard = dayHeard(day);
+    return part("footer", { class: "foot" },
+        busy.length > 0 && legend(),
+        part("span", { class: "num" },
+            t("dispatcher.stand", {
+                count: tripsThatStand(text ?? ""),
+                ended: count(["ridden"]),
+                noShows: count(["missed-rider"]),
+                missed: count(["missed-operator"]),
+                silent: count(["no-word"]),
+                ahead: count(["to-come", "under-way"]),
+                canceled: count(["cancelled"])
+            })
+        ),
+        heard && part("span", { class: "num" }, t("dispatcher.updated-at", { time: clock(heard) }))
+    );
+}
+
+/** The minute at the end of the picture's first third, as somebody moved it last: where the window
+ * changes, the browser moves the picture by itself.
+ */
+let middle = NaN;
+
+/** Moves the picture so that a minute is at the end of its first third.
+ * @param {State} state @param {number} minute
+ */
+function moveTo(state, minute) {
+    middle = minute;
+    const frame = document.getElementById("picture"), { shown } = knownOf(state);
+    if (frame && Number.isFinite(minute))
+        frame.scrollLeft =
+            spread(shown, roomOf(state), state.hours).across(minute) - roomOf(state) * FIRST_PART;
+}
+
+/** The minute at the end of the first third.
+ * @param {State} state @param {number} left how far the picture is moved
+ */
+function minuteAt(state, left) {
+    const { range, scale } = spread(knownOf(state).shown, roomOf(state), state.hours);
+    return range[0] + (left + roomOf(state) * FIRST_PART) / scale;
+}
+
+/** @param {State} state */
+const moveToNow = (state) => moveTo(state, state.now);
+
+/** Brings a van's row into view, and opens its manifest at a trip or at the present.
+ * @param {number} vehicle @param {number} [trip]
+ */
+function bringVan(vehicle, trip) {
+    openAt(vehicle, trip);
     const row = document.querySelector(`#picture [data-row="${vehicle}"]`);
     if (row instanceof HTMLElement) bringIntoView(row);
 }
@@ -233,59 +463,212 @@ function openAt({ now }, vehicle, trip) {
 /** @param {Own} own @returns {State} */
 function stateOf(own) {
     const told = toldNow(own.day);
-    return { ...own, ...dayNow(own.day), told, notes: notesOn(own.day, toldNow(today())), duty: dutyOn(own.day) };
+    return {
+        ...own,
+        ...dayNow(own.day),
+        told,
+        notes: notesOn(own.day, toldNow(today())),
+        duty: dutyOn(own.day)
+    };
 }
 
 /** @param {string} day @returns {Own} */
-const firstState = (day) => ({ day, chosen: null, now: nowOn(day), ended: false, asTable: false, wide: window.innerWidth, unplaced: 0, onlyNeeds: false,
-    printing: false, original: false, typed: "", marked: null, noted: 0, asRoom: false });
+const firstState = (day) => ({
+    day,
+    chosen: null,
+    now: nowOn(day),
+    ended: false,
+    asTable: false,
+    wide: window.innerWidth,
+    high: window.innerHeight - 146,
+    hours: hoursKept(),
+    unplaced: 0,
+    onlyNeeds: false,
+    printing: false,
+    original: false,
+    marked: null,
+    noted: 0,
+    asRoom: false
+});
+
+/** How many hours somebody chose to see at once in this browser. */
+function hoursKept() {
+    const kept = keptText("local", KEPT_HOURS);
+    return HOURS.find((it) => String(it) === kept) ?? null;
+}
+
+/** What a click on the day does, over its record.
+ * @param {{ state: Own, change: import("../parts/screen.js").Tools<Own>["change"] }} screen
+ * @param {ReturnType<typeof tipScreen>} tip
+ * @param {() => void} fill
+ */
+function actsOf(screen, tip, fill) {
+    const known = () => knownOf(stateOf(screen.state));
+    const opened = (/** @type {number} */ it, /** @type {number | undefined} */ trip) => {
+        const { onlyNeeds } = screen.state;
+        screen.change(
+            {
+                chosen: it,
+                marked: trip ?? null,
+                onlyNeeds: onlyNeeds && known().shown.some(({ vehicle }) => vehicle === it),
+                asTable: false,
+                asRoom: false
+            },
+            { focus: "one-van" }
+        );
+        fill();
+        bringVan(it, trip);
+    };
+    const close = () =>
+        screen.change({ chosen: null, marked: null }, { focus: `vehicle-${screen.state.chosen}` });
+    const look = async (/** @type {Parameters<typeof review>[0]} */ row) => {
+        const { told } = stateOf(screen.state), answer = told && await review(row, told);
+        if (answer === "show") opened(row.vehicle, row.trip);
+        else screen.change({});
+    };
+    const turned = (
+        /** @type {"asTable" | "asRoom"} */ one,
+        /** @type {"asTable" | "asRoom"} */ other
+    ) => () => {
+        screen.change({ [one]: !screen.state[one], [other]: false });
+        closePopups();
+        fill();
+    };
+    const hours = (/** @type {number | null} */ it) => {
+        // (a browser without room forgets it)
+        keepText("local", KEPT_HOURS, it === null ? "" : String(it));
+        screen.change({ hours: it });
+        moveToNow(stateOf(screen.state));
+    };
+    return {
+        opened,
+        close,
+        look,
+        hours,
+        tip,
+        chosen: (/** @type {number} */ it) => (
+            it === screen.state.chosen ? close() : opened(it, undefined)
+        ),
+        toNow: () => {
+            closePopups();
+            moveToNow(stateOf(screen.state));
+        },
+        set: (/** @type {Partial<Own>} */ patch) => screen.change(patch),
+        tabled: turned("asTable", "asRoom"),
+        roomed: turned("asRoom", "asTable")
+    };
+}
+
+/** Opens a rider's trips.
+ * @param {number} rider
+ */
+function toRider(rider) {
+    keepSubject("rider", rider);
+    location.hash = "#dispatcher/riders";
+}
 
 export function dayPicture() {
     // (what was drawn for another screen acts on that one, and may be in another language)
     rowsDrawn = null;
-    const tip = tipScreen();
-    const screen = makeScreen({ state: firstState(theDay()), class: "stack dispatch-wide dispatch-head dispatch-day", draw: (own, { change, kept }) => {
-        const state = stateOf(own), known = knownOf(state), vehicle = state.chosen;
-        const close = () => change({ chosen: null, marked: null }, { focus: `vehicle-${vehicle}` });
-        const show = (/** @type {number} */ it, /** @type {number | undefined} */ trip) => {
-            change({ chosen: it, marked: trip ?? null, typed: "", onlyNeeds: state.onlyNeeds && known.shown.some((row) => row.vehicle === it) }, { focus: "one-van" });
-            openAt(stateOf(screen.state), it, trip);
-        };
-        const chosen = (/** @type {number} */ it) => (it === state.chosen ? close() : show(it, undefined));
-        const look = async (/** @type {Parameters<typeof review>[0]} */ row) => {
-            const { told } = stateOf(screen.state), answer = told && await review(row, told);
-            if (answer === "show") show(row.vehicle, row.trip);
-            else change({});
-        };
-        const finding = { go: show, search: (/** @type {string} */ typed) => change({ typed }), filter: (/** @type {boolean} */ onlyNeeds) => change({ onlyNeeds }) };
-        const go = (/** @type {string} */ day) => {
-            change({ ...firstState(day), asTable: state.asTable, asRoom: state.asRoom, chosen: state.chosen, wide: state.wide });
-            follow();
-        };
-        const acts = { chosen, tip, toNow: () => moveToNow(stateOf(screen.state)), original: (/** @type {boolean} */ original) => change({ original }), tabled: () => {
-            change(({ asTable }) => ({ asTable: !asTable }));
-            fill();
-        }, roomed: () => {
-            change(({ asRoom }) => ({ asRoom: !asRoom }));
-            fill();
-        } };
-        return [dayBar({ ...state, go, kept }), dayRead(state.day).age(), state.denied ? dayDenied(state.denied) : state.text === null ? part("p", {}, t("dispatcher.reading"))
-            : [part("div", { class: "finding" }, attentionBar(known.needs, { told: state.told, unplaced: state.unplaced, isToday: state.day === today(), go: show, review: look }), searchRow(state, known, finding)),
-                part("div", { class: known.one ? "day-view with-one" : "day-view" }, pictureCard(state, known, acts), oneVan(state, known, { close, noted: () => change(({ noted }) => ({ noted: noted + 1 })) }))]];
-    } });
+    middle = NaN;
+    const tip = tipScreen(),
+        acts = actsOf(
+            {
+                get state() {
+                    return screen.state;
+                },
+                change: (patch, options) => screen.change(patch, options)
+            },
+            tip,
+            () => fill()
+        );
+    const inBar = daySearch({
+        manifests: () => knownOf(stateOf(screen.state)).manifests,
+        go: { trip: acts.opened, van: acts.opened, rider: toRider }
+    });
+    const screen = makeScreen({
+        state: firstState(theDay()),
+        class: "stack dispatch-wide dispatch-head dispatch-day",
+        draw: (own, { change, kept }) => {
+            const state = stateOf(own),
+                known = knownOf(state),
+                isThere = !state.denied && state.text !== null,
+                { day, told, unplaced, wide } = state;
+            const go = (/** @type {string} */ it) => {
+                change({
+                    ...firstState(it),
+                    asTable: state.asTable,
+                    asRoom: state.asRoom,
+                    chosen: state.chosen,
+                    wide,
+                    high: state.high
+                });
+                follow();
+            };
+            return [
+                part("div", { class: "strip" },
+                    isThere &&
+                        attentionBar(known.needs, {
+                            told,
+                            unplaced,
+                            isToday: day === today(),
+                            wide: window.innerWidth,
+                            go: acts.opened,
+                            review: acts.look
+                        }),
+                    part("div", { class: "last" },
+                        dayTools({ ...state, go, kept }),
+                        isThere && [printAll(state, known), viewTools(state, known, acts)]
+                    )
+                ),
+                dayTitle({ ...state, go, kept }),
+                dayRead(day).age(),
+                state.denied
+                    ? dayDenied(state.denied)
+                    : state.text === null
+                    ? part("p", { class: "pad" }, t("dispatcher.reading"))
+                    : [
+                          part("div", { class: known.one ? "day-view with-one" : "day-view" },
+                              pictureCard(state, known, acts),
+                              oneVan(state, known, {
+                                  close: acts.close,
+                                  noted: () => change(({ noted }) => ({ noted: noted + 1 }))
+                              })
+                          ),
+                          footOf(state, known)
+                      ]
+            ];
+        }
+    });
     const fill = () => {
-        screen.element.classList.toggle("dispatch-fill", !screen.state.asTable && !screen.state.asRoom);
+        screen.element.classList.toggle(
+            "dispatch-fill",
+            !screen.state.asTable && !screen.state.asRoom
+        );
         window.dispatchEvent(new Event("desk.look"));
     };
     fill();
+    inBar();
     let moved = false, leave = () => {};
-    /** @type {any[]} */
+    /** @type {HTMLElement | null} */
+    let framed = null;
+    /** @type {unknown[]} */
     let drawn = [];
     /** Whether something is there that was not drawn yet: most replies say what is shown already.
      * @param {string} day
      */
     function isNews(day) {
-        const { text, csv, denied } = dayNow(day), now = [day, text, csv, denied, toldNow(today()), dutyRead().reply(), nowOn(day), JSON.stringify(dayRead(day).age())];
+        const { text, csv, denied } = dayNow(day),
+            now = [
+                day,
+                text,
+                csv,
+                denied,
+                toldNow(today()),
+                dutyRead().reply(),
+                nowOn(day),
+                JSON.stringify(dayRead(day).age())
+            ];
         const news = now.some((it, at) => it !== drawn[at]);
         drawn = now;
         return news;
@@ -294,14 +677,25 @@ export function dayPicture() {
     function follow() {
         leave();
         moved = false;
-        const { day } = screen.state, stops = [dayRead(day).watch(screen.element, () => heardDay(day)), driversRead().watch(screen.element, () => heard(day)), dutyRead().watch(screen.element, () => heard(day))];
+        const { day } = screen.state,
+            stops = [
+                dayRead(day).watch(screen.element, () => heardDay(day)),
+                driversRead().watch(screen.element, () => heard(day)),
+                dutyRead().watch(screen.element, () => heard(day))
+            ];
         leave = () => stops.forEach((act) => act());
     }
+    const rangeShown = () => spread(knownOf(stateOf(screen.state)).shown, 1, 0).range.join();
     /** @param {string} day */
     function heard(day) {
         if (screen.state.day !== day) return;
         if (isNews(day)) {
+            const range = rangeShown();
             screen.change({ now: nowOn(day) });
+            if (moved && range !== rangeShown()) moveTo(stateOf(screen.state), middle);
+            const frame = document.getElementById("picture");
+            if (frame && frame !== framed) measured.observe(frame);
+            framed = frame;
             searchAhead(knownOf(stateOf(screen.state)).manifests);
         }
         openFirst();
@@ -312,28 +706,40 @@ export function dayPicture() {
     async function heardDay(day) {
         heard(day);
         const unplaced = await readUnplaced();
-        if (screen.state.day === day && screen.state.unplaced !== unplaced) screen.change({ unplaced });
+        if (screen.state.day === day && screen.state.unplaced !== unplaced)
+            screen.change({ unplaced });
     }
-    /** Once the day is there, the picture is at the present, or at the stop that another part of the screen has named. */
+    /** Once the day is there, the picture is at the present, or at the stop that another part of
+     * the screen has named.
+     */
     function openFirst() {
         const state = stateOf(screen.state);
-        if (moved || state.text === null) return;
+        if (moved || state.text === null || !document.getElementById("picture")) return;
         moved = true;
         moveToNow(state);
-        const trip = Number(keptText("session", STOP)) || null, manifest = trip && knownOf(state).busy.find(({ stops }) => stops.some((stop) => stop.trip === trip));
+        const trip = Number(keptText("session", STOP)) || null,
+            manifest =
+                trip &&
+                knownOf(state).busy.find(({ stops }) => stops.some((stop) => stop.trip === trip));
         dropText("session", STOP);
-        if (!trip || !manifest) return;
-        screen.change({ chosen: manifest.vehicle, marked: trip }, { focus: "one-van" });
-        openAt(stateOf(screen.state), manifest.vehicle, trip);
+        if (trip && manifest) acts.opened(manifest.vehicle, trip);
     }
-    const measured = new ResizeObserver(([entry]) => {
-        const wide = Math.round(entry.contentRect.width);
-        if (wide && wide !== screen.state.wide) screen.change({ wide });
+    const measured = new ResizeObserver(() => {
+        const frame = document.getElementById("picture"), { wide, high } = screen.state;
+        if (!frame?.clientWidth || (frame.clientWidth === wide && frame.clientHeight === high))
+            return;
+        // (the same minute stays where it was)
+        screen.change({ wide: frame.clientWidth, high: frame.clientHeight });
+        moveTo(stateOf(screen.state), middle);
     });
-    measured.observe(screen.element);
     // (the table is made where it is shown, and for paper)
-    for (const [name, printing] of /** @type {[string, boolean][]} */ ([["beforeprint", true], ["afterprint", false]])) {
-        window.addEventListener(name, () => { if (screen.element.isConnected) screen.change({ printing }); });
+    for (const [name, printing] of /** @type {[string, boolean][]} */ ([
+        ["beforeprint", true],
+        ["afterprint", false]
+    ])) {
+        window.addEventListener(name, () => {
+            if (screen.element.isConnected) screen.change({ printing });
+        });
     }
     screen.onNewDay(() => {
         screen.change(({ day }) => ({ ended: true, now: nowOn(day) }));
@@ -342,4 +748,3 @@ export function dayPicture() {
     follow();
     return screen.element;
 }
-

@@ -1,4 +1,5 @@
-// The radio: the day as a picture and as a table, how trips ended, the vehicles, and what to do where one is out of service.
+// The radio: the day as a picture and as a table, how trips ended, the vehicles, and what to do
+// where one is out of service.
 
 import { t } from "../parts/words.js";
 import { ridersTrips } from "./clerk.js";
@@ -14,4 +15,5 @@ export const dispatcher = () => [
     { id: "riders", name: t("dispatcher.riders"), draw: ridersTrips },
     { id: "out", name: t("dispatcher.out"), draw: outOfService },
     { id: "vehicles", name: t("dispatcher.vehicles"), draw: vehicles },
-    { id: "waits", name: t("cases.waits"), draw: () => worklist("dispatcher") }];
+    { id: "waits", name: t("dispatcher.waits"), draw: () => worklist("dispatcher") }
+];

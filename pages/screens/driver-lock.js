@@ -1,4 +1,5 @@
-// When this phone locks: so many minutes after the desk last answered (parts/lock.js). What it goes by is kept beside the copies, for each key.
+// When this phone locks: so many minutes after the desk last answered (parts/lock.js). What it goes
+// by is kept beside the copies, for each key.
 
 import { agency } from "../parts/agency.js";
 import { heardNow, isSetBack, later, leftUntilLock } from "../parts/lock.js";
@@ -18,7 +19,8 @@ export function lockOfPhone() {
     };
 
     return {
-        /** Reads what an earlier page has kept; milliseconds until the lock, or null where nothing has ever answered.
+        /** Reads what an earlier page has kept; milliseconds until the lock, or null where nothing
+         * has ever answered.
          * @returns {Promise<number | null>} */
         async read() {
             const kept = await copyOf(NAME).catch(() => null);
@@ -43,7 +45,9 @@ export function lockOfPhone() {
             const until = left(), locksNow = until === 0 && wasOpen;
             wasOpen = until > 0;
             // (what has locked stays so over a reload)
-            if (now - written > WRITTEN || locksNow) keep();
+            if (now - written > WRITTEN || locksNow)
+                keep();
             return until;
-        } };
+        }
+    };
 }

@@ -3,8 +3,8 @@
 /** @type {Record<string, import("../../parts/words.js").Text>} */
 export const words = {
     "map.map": "Map",
-    "map.as-tables": "The same as tables",
-    "map.label": "Map of places and lines. The tables below say the same.",
+    "map.as-tables": "View as tables",
+    "map.label": "Map of places and routes. The tables below say the same.",
     "map.larger": "Zoom in",
     "map.smaller": "Zoom out",
     "map.whole": "Show all",
@@ -15,7 +15,7 @@ export const words = {
     "map.miles": ({ miles }) => (miles === 1 ? "1 mile" : `${miles} miles`),
     "map.nothing-near": "No place is near that point. Click nearer to one, or choose it by its name.",
     "map.places": "Places",
-    "map.lines": "Lines",
+    "map.lines": "Routes",
     "map.number": "Number",
     "map.name": "Name",
     "map.feet-east": "East, feet",
@@ -25,4 +25,12 @@ export const words = {
     "map.none": "none",
     "map.width": "Corridor, feet each side",
     "map.points": "Points, feet",
+    "map.start": "Click where your first place is",
+    "map.start-hint": "Your garage is a good start. Distances are measured from the cross.",
+    "map.mile-feet": "1 mile (5,280 ft)",
+    "map.miles-to": ({ miles, direction }) => `${miles} mi ${direction}`,
+    "map.direction-west": "west",
+    "map.direction-east": "east",
+    "map.direction-north": "north",
+    "map.direction-south": "south",
 };

@@ -1,9 +1,11 @@
-// Las denegaciones en palabras sencillas: qué dice cada una y, con /help detrás del nombre, qué se puede hacer.
+// Las denegaciones en palabras sencillas: qué dice cada una y, con /help detrás del nombre, qué se
+// puede hacer.
 
 /** @type {Record<string, import("../../parts/words.js").Text>} */
 export const words = {
     "denials.desk.key": "No reconocemos esta clave.",
     "denials.desk.key/help": "Escríbala otra vez, tal como está en la tarjeta o carta que la trajo. Si se perdió, pida una nueva a la agencia.",
+    "denials.desk.key/help here": "Fue reemplazada o cancelada. Salga y entre con su clave nueva.",
     "denials.desk.number": "Otra ventana u otro aparato escribió con la misma clave.",
     "denials.desk.number/help": "Su solicitud puede haberse hecho o no. Mire la lista antes de enviarla otra vez.",
     "denials.desk.caller": "Esta clave no permite hacer esto.",
@@ -11,6 +13,8 @@ export const words = {
     "denials.desk.caller/help you": "Revise el número en la carta o tarjeta que trajo su clave. Si es correcto, llame a la agencia.",
     "denials.desk.caller rider": "Este no es el número para el que sirve su clave.",
     "denials.desk.caller rider/help": "Mire la carta o la tarjeta que trajo su clave y escriba el número que está en ella.",
+    "denials.desk.caller rider-staff": "Esta no es la clave de un pasajero.",
+    "denials.desk.caller rider-staff/help": "Elija la pantalla para la que sirve su clave, o salga y entre con la clave de un pasajero.",
     "denials.desk.caller outcome": "Este viaje ya no está en el vehículo de esta clave.",
     "denials.desk.caller outcome/help": "Lea otra vez la hoja de ruta o llame al despachador.",
     "denials.desk.unknown": "No hay ningún registro con este número.",
@@ -31,6 +35,8 @@ export const words = {
     "denials.desk.over/help you": "Reserve otro viaje o llame a la agencia.",
     "denials.desk.over outcome": "Este viaje ya tiene un resultado, o se canceló.",
     "denials.desk.over outcome/help": "Lo que está registrado cuenta. Si lo correcto es otra cosa, avise ahora a la central.",
+    "denials.desk.over outcome-here": "Este viaje ya tiene un resultado, o se canceló.",
+    "denials.desk.over outcome-here/help": "Lo que está registrado cuenta. La fila lo muestra.",
     "denials.desk.early": "El día de este viaje todavía no llegó.",
     "denials.desk.early/help": "Diga cómo terminó ese mismo día o más tarde.",
     "denials.desk.exists": "Ya hay un registro con este número.",
@@ -50,8 +56,8 @@ export const words = {
     "denials.37.127 you": "Usted es visitante, y un visitante no tiene expediente.",
     "denials.37.127/help": "Un visitante no necesita solicitud. Reserve el viaje.",
     "denials.37.127/help you": "Un visitante no necesita solicitud. Reserve su viaje.",
-    "denials.37.125": "El pasajero no tiene derecho a viajar ese día: no hay nada concedido, o la concesión termina antes.",
-    "denials.37.125 you": "Usted no tiene derecho a viajar ese día: no se le ha concedido nada, o su elegibilidad termina antes.",
+    "denials.37.125": "El pasajero no es elegible ese día: no hay elegibilidad aprobada, o termina antes.",
+    "denials.37.125 you": "Usted no es elegible ese día: no hay elegibilidad aprobada, o termina antes.",
     "denials.37.125/help": "Reciba una solicitud, o elija un día que la concesión incluya. Una solicitud pendiente vale a partir del día 21.",
     "denials.37.125/help you": "Presente una solicitud en la agencia, o elija un día dentro de su elegibilidad. Una solicitud que espera cuenta desde su día 21.",
     "denials.37.125(c)": "Esto está fuera de orden: una solicitud ya espera su decisión, o no espera ninguna.",
@@ -60,8 +66,8 @@ export const words = {
     "denials.37.125(e)/help": "Elija como último día hoy o un día posterior.",
     "denials.37.125(g)": "Esto no se puede registrar ahora: ya hay una apelación, o pasaron los 60 días.",
     "denials.37.125(g)/help": "Una apelación llega dentro de 60 días, una vez por cada decisión. Primero hay audiencia, y después decide alguien que no decidió antes.",
-    "denials.37.125(h)": "Este paso de una suspensión todavía no tiene fundamento.",
-    "denials.37.125(h)/help": "Un aviso necesita un patrón de viajes a los que el pasajero no se presentó. Se escucha al pasajero. Una suspensión empieza después de hoy y dura 30 días como máximo.",
+    "denials.37.125(h)": "Este paso de una suspensión todavía no se puede anotar.",
+    "denials.37.125(h)/help": "Primero un empleado da un aviso, que necesita un patrón de viajes a los que el pasajero no se presentó. Se escucha al pasajero. Una suspensión empieza después de hoy y dura 30 días como máximo.",
     "denials.37.125(h) trip": "El pasajero está suspendido ese día.",
     "denials.37.125(h) trip you": "Usted está suspendido ese día.",
     "denials.37.125(h) trip/help": "Elija un día después de la suspensión. Una apelación permite viajar hasta que se decida.",
@@ -81,7 +87,8 @@ export const words = {
     "denials.37.131(a)": "El punto de recogida o el de llegada está demasiado lejos de todas las líneas de autobús.",
     "denials.37.131(a)/help": "Elija un lugar más cerca de una línea de autobús.",
     "denials.desk.over cancel": "Es demasiado tarde para cancelar: la hora prometida ya llegó, o el viaje se canceló o ya terminó.",
-    "denials.desk.over cancel/help": "Llame a la agencia y diga que no hace falta que venga nadie.",
+    "denials.desk.over cancel/help": "Diga al despachador o al conductor que no hace falta que venga nadie.",
+    "denials.desk.over cancel/help you": "Llame a la agencia y diga que no hace falta que venga nadie.",
     "denials.37.131(b)": "Un viaje se reserva desde mañana hasta 14 días después.",
     "denials.37.131(b)/help": "Elija uno de estos días.",
     "denials.37.131(e)": "Ninguna línea de autobús sirve los dos puntos ese día a esa hora.",

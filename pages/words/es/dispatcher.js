@@ -6,8 +6,9 @@ const trips = (/** @type {number} */ count) => (count === 1 ? "1 viaje" : `${cou
 /** @type {Record<string, import("../../parts/words.js").Text>} */
 export const words = {
     "dispatcher.day": "Día",
-    "dispatcher.trips": "Viajes del día",
-    "dispatcher.riders": "Viajes de un pasajero",
+    "dispatcher.trips": "Viajes",
+    "dispatcher.riders": "Pasajeros",
+    "dispatcher.waits": "Pendientes",
     "dispatcher.vehicles": "Vehículos",
     "dispatcher.reading": "Leyendo…",
     "dispatcher.notes": "Notas",
@@ -43,38 +44,52 @@ export const words = {
     "dispatcher.day-ended": ({ day, today }) => `El día ${day} ya pasó. Hoy es ${today}.`,
     "dispatcher.go-today": "Mostrar hoy",
 
-    "dispatcher.stand": ({ count }) => `${trips(count)} en este día.`,
-    "dispatcher.choose": "Elija un vehículo para ver su hoja de ruta.",
+    "dispatcher.stand": ({ count, ended, noShows, missed, silent, ahead, canceled }) =>
+        [
+            trips(count),
+            ended === 1 ? "1 realizado" : `${ended} realizados`,
+            `${noShows === 1 ? "1 ausencia" : `${noShows} ausencias`}`,
+            missed && `${missed} sin recoger`,
+            silent && `${silent} sin resultado`,
+            `${ahead} por hacer`,
+            canceled &&
+                (canceled === 1 ? "1 cancelado, sin contar" : `${canceled} cancelados, sin contar`)
+        ].filter(Boolean).join(" · "),
     "dispatcher.nobody": "Ningún vehículo está de servicio.",
-    "dispatcher.picture": "Imagen del día. La tabla de abajo dice lo mismo.",
-    "dispatcher.idle": ({ count }) => (count === 1 ? "1 vehículo de servicio sin viajes" : `${count} vehículos de servicio sin viajes`),
+    "dispatcher.picture": "Los vehículos y su día. «Ver como tabla» dice lo mismo.",
+    "dispatcher.idle": ({ count }) => (
+        count === 1
+            ? "1 vehículo de servicio sin viajes"
+            : `${count} vehículos de servicio sin viajes`
+    ),
     "dispatcher.to-now": "Ir a la hora actual",
     "dispatcher.as-table": "Ver como tabla",
     "dispatcher.table-of-day": "Cada parada del día",
     "dispatcher.own-text": "Texto original de la hoja de ruta",
     "dispatcher.no-stops": "sin paradas",
     "dispatcher.promised": ({ window }) => `horario ${window}`,
-    "dispatcher.aboard-both": ({ load, chairs }) => `${load} en asientos, ${chairs} en silla de ruedas`,
-    "dispatcher.row": ({ vehicle, trips: count, ended, from, to }) => `${vehicle}: ${trips(count)}, ${ended} terminados, fuera de ${from} a ${to}.`,
-    "dispatcher.row-silent": ({ count, time }) => `Sin resultado de ${trips(count)}${time ? `, el más antiguo desde hace ${time}` : ""}.`,
-    "dispatcher.row-keys": "Las flechas izquierda y derecha van de parada en parada; arriba y abajo, de vehículo en vehículo.",
-    "dispatcher.row-short": ({ trips: count, ended }) => `${ended} de ${trips(count)} terminados`,
-    "dispatcher.silent-short": ({ count, time }) => `${count} sin resultado${time ? `, ${time}` : ""}`,
+    "dispatcher.aboard-both": ({ load, chairs }) =>
+        `${load} en asientos, ${chairs} en silla de ruedas`,
+    "dispatcher.row": ({ trips: count, ended, from, to }) =>
+        `${ended} de ${trips(count)} terminados, en servicio de ${from} a ${to}.`,
+    "dispatcher.row-silent": ({ count, time }) =>
+        `Sin resultado de ${trips(count)}${time ? `, el más antiguo desde hace ${time}` : ""}.`,
+    "dispatcher.row-keys": "Las flechas arriba y abajo van de vehículo en vehículo; izquierda y derecha, de parada en parada. Entrar abre la hoja de ruta allí.",
+    "dispatcher.row-short": ({ trips: count, ended }) => `${ended} de ${count}`,
     "dispatcher.missed-short": ({ count }) => `${count} perdidos`,
     "dispatcher.label-depot": ({ time, place }) => `${time}: base, ${place}`,
-    "dispatcher.label-PICK": ({ time, rider, place, trip }) => `${time}: recoger a ${rider}, ${place}, viaje ${trip}`,
-    "dispatcher.label-DROP": ({ time, rider, place, trip }) => `${time}: dejar a ${rider}, ${place}, viaje ${trip}`,
+    "dispatcher.label-PICK": ({ time, rider, place, trip }) =>
+        `${time}: recoger a ${rider}, ${place}, viaje ${trip}`,
+    "dispatcher.label-DROP": ({ time, rider, place, trip }) =>
+        `${time}: dejar a ${rider}, ${place}, viaje ${trip}`,
     "dispatcher.label-window": ({ window }) => `horario de recogida ${window}`,
     "dispatcher.label-aboard": ({ aboard }) => `a bordo después: ${aboard}`,
-    "dispatcher.legend-pickup": "recogida",
-    "dispatcher.legend-drop": "destino",
-    "dispatcher.legend-depot": "base",
-    "dispatcher.legend-window": "horario de recogida, recogida prevista",
+    "dispatcher.legend-window": "horario de recogida, minuto previsto",
     "dispatcher.legend-ridden": "realizado",
     "dispatcher.legend-missed-rider": "ausencia",
     "dispatcher.legend-missed-operator": "no lo recogimos",
-    "dispatcher.legend-no-word": "sin resultado después del destino previsto",
-    "dispatcher.legend-load": "Una barra muestra cuántos van a bordo: más alta, más pasajeros.",
+    "dispatcher.legend-no-word": "sin resultado aún",
+    "dispatcher.legend-load": "personas a bordo, abajo en silla de ruedas",
     "dispatcher.state-to-come": "pendiente",
     "dispatcher.state-under-way": "en camino según el plan",
     "dispatcher.state-no-word": ({ time }) => `sin aviso${time ? ` desde hace ${time}` : ""}`,
@@ -85,7 +100,10 @@ export const words = {
     "dispatcher.state-missed-operator": "no lo recogimos",
 
     "dispatcher.print-sheet": "Imprimir la hoja del día",
-    "dispatcher.print-manifests": ({ count }) => (count === 1 ? "Imprimir la hoja de ruta del día" : `Imprimir las ${count} hojas de ruta`),
+    "dispatcher.print-manifests": ({ count }) => (
+        count === 1 ? "Imprimir la hoja de ruta del día" : `Imprimir las ${count} hojas de ruta`
+    ),
+    "dispatcher.print-short": "Imprimir",
     "dispatcher.print-manifest": "Imprimir esta hoja de ruta",
     "dispatcher.manifest-of": ({ vehicle, day }) => `Hoja de ruta, ${vehicle}, ${day}`,
     "dispatcher.sheet-of": ({ day }) => `Hoja del día, ${day}`,
@@ -99,8 +117,8 @@ export const words = {
     "dispatcher.paper-over-missed-rider": "ausencia",
     "dispatcher.paper-over-missed-operator": "no lo recogimos",
     "dispatcher.printed-at": ({ day, time }) => `Al ${day}, ${time}`,
-    "dispatcher.people": ({ count, wheelchairs }) => `${people(count)}${wheelchairs ? `, ${wheelchairs} en silla de ruedas` : ""}`,
-    "dispatcher.fare": ({ due }) => `debe ${due}`,
+    "dispatcher.people": ({ count, wheelchairs }) =>
+        `${people(count)}${wheelchairs ? `, ${wheelchairs} en silla de ruedas` : ""}`,
     "dispatcher.fill-driver": "Conductor",
     "dispatcher.fill-signature": "Firma",
     "dispatcher.fill-odometer-out": "Odómetro al salir",
@@ -108,13 +126,9 @@ export const words = {
     "dispatcher.fill-fares": "Cobrado",
     "dispatcher.way": ({ trip, from, to }) => `Viaje ${trip}: ${from} a ${to}`,
 
-    "dispatcher.head-planned": "Previsto, horario",
-    "dispatcher.head-who-where": "Quién, dónde",
-    "dispatcher.head-party": "Grupo, tarifa",
     "dispatcher.head-arrived": "Llegó",
     "dispatcher.head-left": "Salió",
     "dispatcher.head-odometer": "Millas",
-    "dispatcher.head-paid": "Pagó",
     "dispatcher.head-vehicle": "Vehículo",
     "dispatcher.head-time": "Hora",
     "dispatcher.head-what": "Qué",
@@ -123,6 +137,7 @@ export const words = {
     "dispatcher.head-where": "Dónde",
     "dispatcher.head-promised": "Horario de recogida",
     "dispatcher.head-aboard": "A bordo",
+    "dispatcher.head-outcome": "Resultado",
     "dispatcher.head-state": "Estado",
     "dispatcher.head-telephone": "Teléfono",
     "dispatcher.head-day": "Día",
@@ -145,14 +160,46 @@ export const words = {
     "dispatcher.told-ridden": "Realizado",
     "dispatcher.told-missed-rider": "Ausencia",
     "dispatcher.told-missed-operator": "No lo recogimos",
-    "dispatcher.tell-question": ({ trip, rider }) => `¿Cómo terminó el viaje ${trip} de ${rider}?`,
-    "dispatcher.tell-detail": ({ window, from, to }) => `Horario ${window}, de ${from} a ${to}. No se puede deshacer.`,
+    "dispatcher.told-aboard": "A bordo",
+    "dispatcher.sure-ridden": ({ trip, rider }) =>
+        `¿Marcar como realizado el viaje ${trip} de ${rider}?`,
+    "dispatcher.sure-missed-rider": ({ trip, rider }) =>
+        `¿Marcar la ausencia de ${rider} en el viaje ${trip}?`,
+    "dispatcher.sure-missed-operator": ({ trip, rider }) =>
+        `¿Anotar que no recogimos a ${rider} en el viaje ${trip}?`,
+    "dispatcher.sure-trip": ({ vehicle, window, planned }) =>
+        `${vehicle}. Horario de recogida ${window}; recogida prevista ${planned}.`,
+    "dispatcher.sure-early": ({ time }) => `El horario de recogida empieza en ${time}.`,
+    "dispatcher.sure-planned": ({ time }) => `La recogida está prevista en ${time}.`,
+    "dispatcher.sure-aboard": ({ time }) =>
+        `El teléfono de un conductor tiene a este pasajero a bordo desde ${time}. Llame al conductor antes de decidir.`,
+    "dispatcher.sure-said-no-show": ({ time }) =>
+        `Un conductor marcó que este pasajero no se presentó (${time}). Llame al conductor antes de decidir.`,
+    "dispatcher.sure-said-missed": ({ time }) =>
+        `Un conductor marcó que no recogimos a este pasajero (${time}). Llame al conductor antes de decidir.`,
+    "dispatcher.sure-silent": ({ vehicle, time }) =>
+        `${vehicle}: sin aviso desde hace ${time}. Es posible que el pasajero esté a bordo. Llame al conductor antes de decidir.`,
+    "dispatcher.sure-arrived-late": ({ time }) =>
+        `El vehículo llegó ${time} después de que terminó el horario de recogida. Eso no es una ausencia del pasajero.`,
+    "dispatcher.sure-late": ({ vehicle, time }) =>
+        `${vehicle} lleva ${time} de atraso y nadie marcó su llegada. Llame al conductor antes de decidir.`,
+    "dispatcher.sure-no-arrival": "Nadie marcó la llegada del vehículo. Pregunte al conductor cuándo estuvo allí.",
+    "dispatcher.sure-final": "Después no se puede cambiar.",
+    "dispatcher.sure-counts": "Después no se puede cambiar. Las ausencias pueden llevar a una suspensión.",
+    "dispatcher.sure-yes-ridden": "Sí: realizado",
+    "dispatcher.sure-yes-missed-rider": "Sí: ausencia",
+    "dispatcher.sure-yes-missed-operator": "Sí: no lo recogimos",
+    "dispatcher.sure-anyway-ridden": "Marcar como realizado de todos modos",
+    "dispatcher.sure-anyway-missed-rider": "Marcar la ausencia de todos modos",
+    "dispatcher.sure-anyway-missed-operator": "Anotar que no lo recogimos de todos modos",
     "dispatcher.told-now": ({ trip, outcome }) => `Viaje ${trip}: ${outcome}.`,
     "dispatcher.closing": "Cerrar un vehículo",
     "dispatcher.closing-hint": "Anote primero las ausencias y las recogidas que fallamos. Luego un botón marca como realizados los demás viajes de un vehículo.",
     "dispatcher.closing-today": "Anote primero las ausencias y las recogidas que fallamos. Luego un botón marca como realizados los viajes cuya llegada prevista ya pasó.",
-    "dispatcher.rest": ({ vehicle, count }) => `Marcar como realizados ${count === 1 ? "el viaje que queda" : `los ${count} viajes que quedan`} de ${vehicle}`,
-    "dispatcher.rest-question": ({ vehicle, count }) => `${vehicle}: ¿marcar ${trips(count)} como realizados?`,
+    "dispatcher.rest": ({ vehicle, count }) =>
+        `Marcar como realizados ${count === 1 ? "el viaje que queda" : `los ${count} viajes que quedan`} de ${vehicle}`,
+    "dispatcher.rest-question": ({ vehicle, count }) =>
+        `${vehicle}: ¿marcar ${trips(count)} como realizados?`,
     "dispatcher.rest-detail": "Estos viajes aún no tienen resultado. No se puede deshacer.",
     "dispatcher.rest-list": "Viajes sin resultado",
     "dispatcher.rest-trip": ({ trip, rider, window }) => `${window}, ${rider}, viaje ${trip}`,
@@ -188,12 +235,14 @@ export const words = {
     "dispatcher.chairs": "Lugares para sillas de ruedas",
     "dispatcher.opens": "Sale de su base desde",
     "dispatcher.opens-hint": ({ time }) => `Como ${time}.`,
-    "dispatcher.opens-wants": ({ time }) => `Escriba una hora como ${time}, que no sea después de la hora en que debe volver.`,
+    "dispatcher.opens-wants": ({ time }) =>
+        `Escriba una hora como ${time}, que no sea después de la hora en que debe volver.`,
     "dispatcher.closes": "Vuelve antes de",
     "dispatcher.duration": "Minutos que puede estar fuera",
     "dispatcher.put-vehicle": "Guardar el vehículo",
     "dispatcher.vehicle-done": ({ vehicle, day }) => `${vehicle} queda anotado desde ${day}.`,
-    "dispatcher.no-name": ({ vehicle }) => `El número ${vehicle} aún no tiene nombre. Los nombres están en el archivo de la agencia, que lleva el administrador.`,
+    "dispatcher.no-name": ({ vehicle }) =>
+        `El número ${vehicle} aún no tiene nombre. Los nombres están en el archivo de la agencia, que lleva el administrador.`,
     "dispatcher.to-out": ({ vehicle }) => `Poner ${vehicle} fuera de servicio`,
 
     "dispatcher.out": "Fuera de servicio",
@@ -207,29 +256,47 @@ export const words = {
     "dispatcher.out-today-hint": "Los viajes de hoy no se pueden reservar de nuevo. Dé esta hoja de ruta a otro conductor, o llame a estos pasajeros. La clave del otro conductor no puede anotar resultados de este vehículo: los anota el despacho.",
     "dispatcher.out-today-list": "Pasajeros a quienes llamar, por hora de recogida",
     "dispatcher.print-for-other": "Imprimir la hoja de ruta para otro conductor",
-    "dispatcher.out-later": ({ vehicle, count, day }) => `Desde ${day}: ${trips(count)} de ${vehicle}`,
+    "dispatcher.out-later": ({ vehicle, count, day }) =>
+        `Desde ${day}: ${trips(count)} de ${vehicle}`,
+    "dispatcher.out-back-soon": ({ vehicle, back }) =>
+        `${vehicle} vuelve el ${back}, así que sus viajes desde ese día quedan como están.`,
+    "dispatcher.out-stays": ({ vehicle, count }) =>
+        `${vehicle} no tiene viajes esos días, y después quedan ${trips(count)}`,
+    "dispatcher.out-stays-why": ({ vehicle, back }) =>
+        `No hace falta cancelar nada mientras ${vehicle} siga en servicio. Todavía se pueden reservar viajes en él antes del ${back}: vuelva a mirar aquí cada día anterior.`,
+    "dispatcher.out-all-the-same": "Sacarlo de servicio de todos modos",
     "dispatcher.out-none": "Sin viajes. Guarde el vehículo sin días de la semana en Vehículos.",
     "dispatcher.out-later-list": "Viajes desde ese día",
     "dispatcher.out-tried": "Qué pasará",
-    "dispatcher.out-step-1": ({ count }) => `La lista de llamadas se guarda en un archivo. Luego se cancelan ${trips(count)}, porque un vehículo con viajes no se puede cambiar.`,
+    "dispatcher.out-step-1": ({ count }) =>
+        `La lista de llamadas se guarda en un archivo. Luego se cancelan ${trips(count)}, porque un vehículo con viajes no se puede cambiar.`,
     "dispatcher.out-step-2": ({ vehicle, day }) => `${vehicle} sale de servicio el ${day}.`,
     "dispatcher.out-step-3": "Si usted lo elige, cada viaje se reserva de nuevo, primero el de recogida más próxima, en su mismo horario si algún vehículo puede. Cada uno recibe un número nuevo.",
     "dispatcher.out-step-4": "Recibe una lista de lo que cambió para cada pasajero y de quiénes quedaron sin lugar. Llámelos.",
     "dispatcher.out-move": ({ count }) => `Sacarlo de servicio y reservar ${trips(count)} de nuevo`,
-    "dispatcher.out-move-question": ({ vehicle, count }) => `¿Sacar ${vehicle} de servicio y reservar ${trips(count)} de nuevo?`,
-    "dispatcher.out-move-detail": ({ day }) => `Primero se cancelan todos sus viajes desde ${day}. Antes se guarda la lista de llamadas. Algunos pasajeros quizá tengan otra hora, o ningún vehículo.`,
+    "dispatcher.out-move-question": ({ vehicle, count }) =>
+        `¿Sacar ${vehicle} de servicio y reservar ${trips(count)} de nuevo?`,
+    "dispatcher.out-move-detail": ({ day }) =>
+        `Primero se cancelan todos sus viajes desde ${day}. Antes se guarda la lista de llamadas. Algunos pasajeros quizá tengan otra hora, o ningún vehículo.`,
     "dispatcher.out-move-yes": ({ count }) => `Sí, reservar ${trips(count)} de nuevo`,
     "dispatcher.out-cancel": ({ count }) => `Sacarlo de servicio y cancelar ${trips(count)}`,
-    "dispatcher.out-cancel-question": ({ vehicle, count }) => `¿Sacar ${vehicle} de servicio y cancelar ${trips(count)}?`,
-    "dispatcher.out-cancel-detail": ({ day }) => `Se cancelan todos sus viajes desde ${day}. Estos pasajeros se quedan sin viaje, y hay que llamarlos.`,
+    "dispatcher.out-cancel-question": ({ vehicle, count }) =>
+        `¿Sacar ${vehicle} de servicio y cancelar ${trips(count)}?`,
+    "dispatcher.out-cancel-detail": ({ day }) =>
+        `Se cancelan todos sus viajes desde ${day}. Estos pasajeros se quedan sin viaje, y hay que llamarlos.`,
     "dispatcher.out-cancel-yes": ({ count }) => `Sí, cancelar ${trips(count)}`,
     "dispatcher.out-report": ({ vehicle, day }) => `${vehicle} fuera de servicio desde ${day}`,
     "dispatcher.out-report-list": "Qué pasó con cada viaje",
-    "dispatcher.out-running-move": ({ cancelled, count, again, nowhere }) => `${cancelled} de ${count} cancelados, ${again + nowhere} reservados de nuevo o intentados…`,
-    "dispatcher.out-running-cancel": ({ cancelled, count }) => `${cancelled} de ${count} cancelados…`,
-    "dispatcher.out-done-move": ({ vehicle, day, again, moved, nowhere }) => `${vehicle} está fuera de servicio desde ${day}. ${trips(again)} reservados de nuevo, ${moved} a otra hora. ${trips(nowhere)} sin lugar.`,
-    "dispatcher.out-done-cancel": ({ vehicle, day, cancelled }) => `${vehicle} está fuera de servicio desde ${day}. ${trips(cancelled)} cancelados.`,
-    "dispatcher.out-broken": ({ cancelled, count, again }) => `Sin terminar: ${cancelled} de ${count} cancelados, ${again} reservados de nuevo. Al seguir se leen primero los viajes de cada pasajero.`,
+    "dispatcher.out-running-move": ({ cancelled, count, again, nowhere }) =>
+        `${cancelled} de ${count} cancelados, ${again + nowhere} reservados de nuevo o intentados…`,
+    "dispatcher.out-running-cancel": ({ cancelled, count }) =>
+        `${cancelled} de ${count} cancelados…`,
+    "dispatcher.out-done-move": ({ vehicle, day, again, moved, nowhere }) =>
+        `${vehicle} está fuera de servicio desde ${day}. ${trips(again)} reservados de nuevo, ${moved} a otra hora. ${trips(nowhere)} sin lugar.`,
+    "dispatcher.out-done-cancel": ({ vehicle, day, cancelled }) =>
+        `${vehicle} está fuera de servicio desde ${day}. ${trips(cancelled)} cancelados.`,
+    "dispatcher.out-broken": ({ cancelled, count, again }) =>
+        `Sin terminar: ${cancelled} de ${count} cancelados, ${again} reservados de nuevo. Al seguir se leen primero los viajes de cada pasajero.`,
     "dispatcher.out-meanwhile": "Mientras tanto llegaron viajes a este vehículo o cambiaron. Ya están en la lista. Mírela y siga.",
     "dispatcher.out-stopped": ({ says }) => `Tuvo que detenerse: ${says}`,
     "dispatcher.out-other-key": "Salga y entre aquí con la clave de otro despachador. Este navegador guarda la lista sin terminar, y «Seguir» está entonces en esta página.",
@@ -240,9 +307,12 @@ export const words = {
     "dispatcher.out-away-question": "¿Descartar la lista antes de que todos tengan viaje?",
     "dispatcher.out-away-detail": "Los pasajeros sin viaje ya no estarán aquí en ninguna lista. Imprímala primero.",
     "dispatcher.out-away-yes": "Sí, descartarla",
-    "dispatcher.ends-later": ({ minutes, window, before, vehicle }) => `El horario termina ${minutes} minutos más tarde: ${window} en vez de ${before}, en ${vehicle}.`,
-    "dispatcher.later": ({ minutes, window, before, vehicle }) => `${minutes} minutos más tarde: ${window} en vez de ${before}, en ${vehicle}.`,
-    "dispatcher.earlier": ({ minutes, window, before, vehicle }) => `${minutes} minutos antes: ${window} en vez de ${before}, en ${vehicle}.`,
+    "dispatcher.ends-later": ({ minutes, window, before, vehicle }) =>
+        `El horario termina ${minutes} minutos más tarde: ${window} en vez de ${before}, en ${vehicle}.`,
+    "dispatcher.later": ({ minutes, window, before, vehicle }) =>
+        `${minutes} minutos más tarde: ${window} en vez de ${before}, en ${vehicle}.`,
+    "dispatcher.earlier": ({ minutes, window, before, vehicle }) =>
+        `${minutes} minutos antes: ${window} en vez de ${before}, en ${vehicle}.`,
     "dispatcher.other-due": ({ due, before }) => `A pagar: ${due} en vez de ${before}.`,
     "dispatcher.nowhere": ({ says }) => `Cancelado, y sin lugar: ${says}`,
     "dispatcher.kept": ({ says }) => `No cancelado: ${says}`,
@@ -259,8 +329,10 @@ export const words = {
     "dispatcher.vehicle-hint-field": "Su nombre o su número.",
     "dispatcher.vehicle-wants": "Escriba el nombre o el número de un vehículo, como Van 2.",
     "dispatcher.vehicle-which": "Corresponde a más de un vehículo. Elija uno de la lista.",
-    "dispatcher.vehicle-last": ({ vehicle, day }) => `${vehicle}: los campos muestran lo que se guardó en este navegador, desde ${day}.`,
-    "dispatcher.versions": ({ vehicle, count, left }) => `${vehicle} tiene ${count} versiones en la copia de la noche. Solo quedan ${left}, y no se recuperan. Para un día festivo, pida que se ponga como día sin servicio.`,
+    "dispatcher.vehicle-last": ({ vehicle, day }) =>
+        `${vehicle}: los campos muestran lo que se guardó en este navegador, desde ${day}.`,
+    "dispatcher.versions": ({ vehicle, count, left }) =>
+        `${vehicle} tiene ${count} versiones en la copia de la noche. Solo quedan ${left}, y no se recuperan. Para un día festivo, pida que se ponga como día sin servicio.`,
     "dispatcher.out-until": "De nuevo en servicio el (opcional)",
     "dispatcher.out-until-hint": "Déjelo vacío si aún no se sabe.",
     "dispatcher.out-until-wants": "Elija un día posterior al primer día fuera de servicio.",
@@ -268,28 +340,40 @@ export const words = {
     "dispatcher.out-settings-kept": "Como se guardó en este navegador. Revíselo.",
     "dispatcher.out-settings-asked": "Este navegador no conoce sus asientos ni sus horas. Escríbalos una vez.",
     "dispatcher.out-today-none": "Hoy no queda ningún viaje por hacer.",
-    "dispatcher.out-over": ({ count }) => `Terminados según el plan, sin resultado: ${trips(count)}`,
+    "dispatcher.out-over": ({ count }) =>
+        `Terminados según el plan, sin resultado: ${trips(count)}`,
     "dispatcher.out-over-list": "Terminados según el plan, sin resultado",
     "dispatcher.out-begun": "Arriba hay una lista para este vehículo y día. Termínela o descártela.",
-    "dispatcher.out-step-return": ({ vehicle, back }) => `${vehicle} entra de nuevo en servicio el ${back}, antes de reservar ningún viaje de nuevo.`,
+    "dispatcher.out-step-return": ({ vehicle, back }) =>
+        `${vehicle} entra de nuevo en servicio el ${back}, antes de reservar ningún viaje de nuevo.`,
     "dispatcher.out-step-no-return": "Sin un día de regreso, todos los viajes posteriores tienen que hallar otro vehículo.",
-    "dispatcher.out-done-gone": ({ gone }) => `${trips(gone)} que canceló otra persona, y que quizá esté reservando de nuevo ahora.`,
-    "dispatcher.out-done-elsewhere": ({ elsewhere }) => `${trips(elsewhere)} que otra persona reservó de nuevo.`,
+    "dispatcher.out-done-gone": ({ gone }) =>
+        `${trips(gone)} que canceló otra persona, y que quizá esté reservando de nuevo ahora.`,
+    "dispatcher.out-done-elsewhere": ({ elsewhere }) =>
+        `${trips(elsewhere)} que otra persona reservó de nuevo.`,
     "dispatcher.out-done-passed": ({ passed }) => `${trips(passed)} que no se tocaron.`,
     "dispatcher.out-back": ({ vehicle, day }) => `${vehicle} vuelve al servicio el ${day}.`,
-    "dispatcher.out-not-back": ({ vehicle, day, says }) => `${vehicle} no se pudo poner de nuevo en servicio el ${day}. ${says} Guárdelo en Vehículos.`,
+    "dispatcher.out-not-back": ({ vehicle, day, says }) =>
+        `${vehicle} no se pudo poner de nuevo en servicio el ${day}. ${says} Guárdelo en Vehículos.`,
     "dispatcher.out-look": "Revisar de nuevo",
     "dispatcher.out-plans": "Listas de este navegador",
     "dispatcher.out-plan-open": ({ vehicle, day }) => `${vehicle} desde ${day}: sin terminar`,
     "dispatcher.out-plan-done": ({ vehicle, day }) => `${vehicle} desde ${day}`,
-    "dispatcher.same-window": ({ vehicle, window }) => `El mismo horario, ${window}, en ${vehicle}.`,
-    "dispatcher.too-far": ({ wish }) => `Queda a más de una hora de las ${wish} que pidió el pasajero: pregúntele.`,
+    "dispatcher.same-window": ({ vehicle, window }) =>
+        `El mismo horario, ${window}, en ${vehicle}.`,
+    "dispatcher.within-window": ({ vehicle, window, before }) =>
+        `Dentro del horario de antes: ${window} de ${before}, en ${vehicle}.`,
+    "dispatcher.too-far": ({ wish }) =>
+        `Queda a más de una hora de las ${wish} que pidió el pasajero: pregúntele.`,
     "dispatcher.changed-since": ({ other }) => `Reservado de nuevo, y cambiado después: ${other}`,
-    "dispatcher.other-trip": ({ trip, day, window, vehicle }) => `Viaje ${trip}, ${day}, ${window}, en ${vehicle}.`,
+    "dispatcher.other-trip": ({ trip, day, window, vehicle }) =>
+        `Viaje ${trip}, ${day}, ${window}, en ${vehicle}.`,
     "dispatcher.no-other": "Todavía ningún otro viaje de ese día lo reemplaza. Pulse «Revisar de nuevo» antes de llamar.",
     "dispatcher.no-other-yet": "Puede que lo estén reservando de nuevo ahora mismo. No llame todavía.",
-    "dispatcher.out-waits": ({ vehicle, count }) => `Otra persona está moviendo los viajes de ${vehicle}, o los ha cancelado. ${trips(count)} de esta lista aún no ${count === 1 ? "tiene" : "tienen"} otro viaje. La lista se lee de nuevo hasta que nada cambie.`,
-    "dispatcher.out-after-return": ({ count, back }) => `${trips(count)} de estos ${count === 1 ? "es" : "son"} del ${back} o de después. También se ${count === 1 ? "cancela" : "cancelan"}, porque el sistema no cambia un vehículo que tiene viajes.`,
+    "dispatcher.out-waits": ({ vehicle, count }) =>
+        `Otra persona está moviendo los viajes de ${vehicle}, o los ha cancelado. ${trips(count)} de esta lista aún no ${count === 1 ? "tiene" : "tienen"} otro viaje. La lista se lee de nuevo hasta que nada cambie.`,
+    "dispatcher.out-after-return": ({ count, back }) =>
+        `${trips(count)} de estos ${count === 1 ? "es" : "son"} del ${back} o de después. También se ${count === 1 ? "cancela" : "cancelan"}, porque el sistema no cambia un vehículo que tiene viajes.`,
     "dispatcher.step-changed": "No se tocó, porque fue cambiado:",
     "dispatcher.step-ended": "No se tocó, porque ya tiene resultado:",
     "dispatcher.step-elsewhere": "Otra persona lo reservó de nuevo:",
@@ -304,9 +388,11 @@ export const words = {
     "dispatcher.need-late": "Tarde, min",
     "dispatcher.need-late-of": ({ vehicle, more }) => `${vehicle}: ${more} minutos tarde`,
     "dispatcher.need-risk": "Perderá el horario",
-    "dispatcher.need-risk-of": ({ vehicle, more }) => `${vehicle}: recogida hacia ${more}, después de su horario`,
+    "dispatcher.need-risk-of": ({ vehicle, more }) =>
+        `${vehicle}: recogida hacia ${more}, después de su horario`,
     "dispatcher.need-passed": "Recogida sin aviso",
-    "dispatcher.need-passed-of": ({ vehicle, more }) => `${vehicle}: sin aviso de la recogida de ${more}, y su horario ya terminó`,
+    "dispatcher.need-passed-of": ({ vehicle, more }) =>
+        `${vehicle}: sin aviso de la recogida de ${more}, y su horario ya terminó`,
     "dispatcher.need-silent": "Sin aviso",
     "dispatcher.need-silent-of": ({ vehicle, more }) => `${vehicle}: sin aviso desde hace ${more}`,
     "dispatcher.need-no-show": "Ausencias por confirmar",
@@ -315,16 +401,18 @@ export const words = {
     "dispatcher.need-disagree-of": ({ vehicle }) => `${vehicle}: dos datos no coinciden`,
     "dispatcher.need-open": "Sin resultado",
     "dispatcher.need-open-of": ({ vehicle, more }) => `${vehicle}: ${more} sin resultado`,
-    "dispatcher.need-unplaced": ({ count }) => `${count === 1 ? "1 viaje" : `${count} viajes`} sin lugar desde este navegador`,
+    "dispatcher.need-unplaced": ({ count }) =>
+        `${count === 1 ? "1 viaje" : `${count} viajes`} sin lugar desde este navegador`,
     "dispatcher.need-more": ({ count }) => `y ${count} más`,
     "dispatcher.only-needs": "Solo vehículos que necesitan atención",
     "dispatcher.search": "Buscar viajes",
-    "dispatcher.search-hint": "Pasajero, teléfono, vehículo, viaje o lugar.",
+    "dispatcher.search-hint": "Pasajero, teléfono, vehículo o viaje",
+    "dispatcher.search-day": "Buscar viajes, vehículos y pasajeros",
     "dispatcher.search-list": "Viajes hallados",
-    "dispatcher.search-none": "Ningún viaje de este día tiene todas esas palabras.",
-    "dispatcher.search-more": ({ count }) => `${count} más. Escriba otra palabra.`,
-    "dispatcher.found-trip": ({ planned, rider, window, vehicle, telephone, trip }) => `${planned} ${rider}, horario ${window}, ${vehicle}, viaje ${trip}${telephone ? `, ${telephone}` : ""}`,
-    "dispatcher.legend": "Signos",
+    "dispatcher.search-none": "Nada de este día tiene todas esas palabras.",
+    "dispatcher.found-trip": ({ place, telephone, trip }) =>
+        [`viaje ${trip}`, `desde ${place}`, telephone].filter(Boolean).join(" · "),
+    "dispatcher.legend": "Leyenda",
     "dispatcher.late-short": ({ minutes }) => `${minutes} min tarde`,
     "dispatcher.no-update-short": ({ time }) => `Sin aviso ${time}`,
     "dispatcher.minutes": ({ minutes }) => `${minutes} min`,
@@ -333,11 +421,14 @@ export const words = {
     "dispatcher.column-telephone": "Teléfono",
     "dispatcher.show-more": ({ count }) => `Mostrar los otros ${count}`,
     "dispatcher.set-outcome": "Anotar resultado",
-    "dispatcher.set-outcome-of": ({ trip, rider }) => `Anotar el resultado del viaje ${trip} de ${rider}`,
+    "dispatcher.set-outcome-of": ({ trip, rider }) =>
+        `Anotar resultado del viaje ${trip} de ${rider}`,
     "dispatcher.to-day": ({ vehicle, trip }) => `${vehicle}: mostrar el viaje ${trip} en el día`,
     "dispatcher.with-original": "Imprimir con el texto original",
-    "dispatcher.review-question": ({ trip, rider, vehicle, day }) => `Viaje ${trip} de ${rider}, ${vehicle}, ${day}: ¿qué es lo correcto?`,
-    "dispatcher.review-trip": ({ window, status }) => `Horario de recogida ${window}. Registrado: ${status}.`,
+    "dispatcher.review-question": ({ trip, rider, vehicle, day }) =>
+        `Viaje ${trip} de ${rider}, ${vehicle}, ${day}: ¿qué es lo correcto?`,
+    "dispatcher.review-trip": ({ window, status }) =>
+        `Horario de recogida ${window}. Registrado: ${status}.`,
     "dispatcher.review-arrived": "Llegada del vehículo",
     "dispatcher.review-no-arrival": "sin marcar",
     "dispatcher.review-after": ({ minutes }) => `${minutes} min después del horario`,
@@ -358,18 +449,21 @@ export const words = {
     "dispatcher.review-doubt-not-arrived": "Nadie marcó la llegada. Pregunte al conductor a qué hora estuvo allí.",
     "dispatcher.review-doubt-early": "Se anotó antes de que empezara el horario de recogida.",
     "dispatcher.review-doubt-wait": "El conductor se fue antes de terminar la espera.",
-    "dispatcher.review-disagree": ({ vehicle, time, told, record }) => `Otro dato de ${vehicle} a las ${time}: ${told}.${record ? ` Registrado entonces: ${record}.` : ""}`,
+    "dispatcher.review-disagree": ({ vehicle, time, told, record }) =>
+        `Otro dato de ${vehicle} a las ${time}: ${told}.${record ? ` Registrado entonces: ${record}.` : ""}`,
     "dispatcher.review-missed-rider": "Sí fue una ausencia",
     "dispatcher.review-missed-operator": "Fallamos nosotros",
     "dispatcher.review-ridden": "El pasajero viajó",
     "dispatcher.review-show": "Verlo en el día",
     "dispatcher.review-later": "Decidir después",
     "dispatcher.review-done": ({ trip }) => `El viaje ${trip} queda resuelto y sale de la lista.`,
-    "dispatcher.review-settled": ({ time, outcome }) => `Otra persona de despacho lo resolvió a las ${time}: ${outcome}. ¿Quiere cambiarlo?`,
+    "dispatcher.review-settled": ({ time, outcome }) =>
+        `Otra persona de la central lo resolvió a las ${time}: ${outcome}. ¿Quiere cambiarlo?`,
     "dispatcher.review-settled-detail": "Pregunte a esa persona antes de cambiarlo. Cuenta la última respuesta, y ambas quedan registradas.",
     "dispatcher.review-settled-yes": ({ outcome }) => `Sí, cambiarlo a: ${outcome}`,
     "dispatcher.review-settled-no": "No, dejarlo como está",
-    "dispatcher.review-same": ({ trip }) => `Otra persona de despacho resolvió el viaje ${trip} de la misma manera. Ya no está en la lista.`,
+    "dispatcher.review-same": ({ trip }) =>
+        `Otra persona de la central resolvió el viaje ${trip} de la misma manera. Ya no está en la lista.`,
     "dispatcher.correct-question": ({ trip, outcome }) => `Viaje ${trip}: ¿registrar «${outcome}»?`,
     "dispatcher.correct-detail": "El sistema conserva el primer resultado. Los informes cuentan el correcto cuando esta línea está en corrections.csv de la agencia.",
     "dispatcher.correct-who": "Su nombre",
@@ -380,5 +474,88 @@ export const words = {
     "dispatcher.correct-copied": "La línea está copiada.",
     "dispatcher.correct-yes": "Ya está registrada",
     "dispatcher.call-elsewhere": ({ time }) => `desde otra computadora, ${time}`,
-    "dispatcher.late-taps": ({ vans }) => `Hoy llegaron avisos de otro día: ${vans}. Revise la fecha de ese teléfono.`,
+    "dispatcher.late-taps": ({ vans }) =>
+        `Hoy llegaron avisos de otro día: ${vans}. Revise la fecha de ese teléfono.`,
+    "dispatcher.corner": "Vehículo",
+    "dispatcher.corner-few": "Requieren atención",
+    "dispatcher.choose-day": ({ day }) => `${day}. Elegir otro día`,
+    "dispatcher.confirm-short": "Confirmar ausencia",
+    "dispatcher.due-short": ({ count }) =>
+        `${count === 1 ? "Falta 1 resultado" : `Faltan ${count} resultados`}`,
+    "dispatcher.goes-PICK": "Recoger a",
+    "dispatcher.goes-DROP": "Dejar a",
+    "dispatcher.done-at": ({ time }) => `hecho ${time}`,
+    "dispatcher.now-at": ({ time }) => `ahora ${time}`,
+    "dispatcher.stop-pickup": "recogida",
+    "dispatcher.stop-drop": "destino",
+    "dispatcher.stop-depot": "base",
+    "dispatcher.stop-done": "hecho",
+    "dispatcher.in-wheelchair": "silla de ruedas",
+    "dispatcher.with-attendant": "asistente",
+    "dispatcher.past-short": ({ minutes }) => `${minutes} min fuera`,
+    "dispatcher.stop-trip": ({ trip }) => `viaje ${trip}`,
+    "dispatcher.earlier-stops": ({ count }) => (
+        count === 1 ? "1 parada anterior" : `${count} paradas anteriores`
+    ),
+    "dispatcher.stops-of": ({ vehicle }) => `Paradas de ${vehicle}`,
+    "dispatcher.aboard-now": ({ load, chairs }) =>
+        `${load} a bordo${chairs ? `, ${chairs} en silla de ruedas` : ""}`,
+    "dispatcher.will-miss": ({ count, minutes }) =>
+        `${count === 1 ? "1 recogida saldrá de su horario" : `${count} recogidas saldrán de su horario`} si el vehículo sigue ${minutes} min atrasado.`,
+    "dispatcher.updated-at": ({ time }) => `actualizado ${time}`,
+    "dispatcher.out-short": "Fuera de servicio…",
+    "dispatcher.view": "Ver",
+    "dispatcher.view-of": "Ver e imprimir",
+    "dispatcher.hours-in-view": "Horas a la vista",
+    "dispatcher.hours-auto": "Ajustar",
+    "dispatcher.hours-all": "Todas",
+    "dispatcher.hours-some": ({ hours }) => `${hours} h`,
+    "dispatcher.need-open-all": ({ count, vans }) =>
+        `${count} en ${vans === 1 ? "1 vehículo" : `${vans} vehículos`}`,
+    "dispatcher.nobody-rides": "Ningún vehículo tiene viajes este día.",
+    "dispatcher.search-vans": "Vehículos",
+    "dispatcher.search-riders": "Pasajeros",
+    "dispatcher.found-side": ({ planned, window, vehicle }) =>
+        `${planned}, horario ${window}, ${vehicle}`,
+    "dispatcher.legend-risk": "saldrá de su horario",
+    "dispatcher.legend-silent": "sin aviso",
+    "dispatcher.legend-late": "atraso",
+    "dispatcher.column-signs": "Necesita",
+    "dispatcher.filters": "Qué viajes",
+    "dispatcher.filter-now": "Ahora",
+    "dispatcher.filter-all": "Todos",
+    "dispatcher.filter-all-canceled": "Todos, con cancelados",
+    "dispatcher.filter-open": "Sin resultado",
+    "dispatcher.filter-risk": "Saldrá del horario",
+    "dispatcher.filter-come": "Por hacer",
+    "dispatcher.filter-no-show": "Ausencias",
+    "dispatcher.stands-completed": "Realizado",
+    "dispatcher.stands-no-show": "Ausencia",
+    "dispatcher.stands-confirm": "Ausencia por confirmar",
+    "dispatcher.stands-says-aboard": "El conductor dice: a bordo",
+    "dispatcher.stands-disagree": "Los registros no coinciden",
+    "dispatcher.stands-missed": "No lo recogimos",
+    "dispatcher.stands-canceled": "Cancelado",
+    "dispatcher.stands-past-window": ({ minutes }) => `${minutes} min fuera de horario`,
+    "dispatcher.stands-no-update": ({ time }) => `Sin aviso ${time}`,
+    "dispatcher.stands-no-outcome": ({ time }) => `Sin resultado${time ? ` hace ${time}` : ""}`,
+    "dispatcher.stands-aboard": ({ at }) => `A bordo hasta ${at}`,
+    "dispatcher.stands-late": ({ minutes }) => `${minutes} min de atraso`,
+    "dispatcher.stands-to-come": "Por hacer",
+    "dispatcher.more-of": ({ trip, rider }) => `Más sobre el viaje ${trip} de ${rider}`,
+    "dispatcher.show-on-day": "Ver en el día",
+    "dispatcher.trips-of-rider": "Viajes de este pasajero",
+    "dispatcher.review": "Revisar la ausencia",
+    "dispatcher.review-entries": "Revisar los registros",
+    "dispatcher.files": "Guardar o imprimir",
+    "dispatcher.print-trips": "Imprimir estos viajes",
+    "dispatcher.head-plan": "Plan",
+    "dispatcher.head-stop": "Parada",
+    "dispatcher.head-window": "Horario",
+    "dispatcher.head-needs": "Necesita",
+    "dispatcher.head-fare": "Tarifa",
+    "dispatcher.paper-chairs": ({ count }) => (
+        count === 1 ? "silla de ruedas" : `${count} sillas de ruedas`
+    ),
+    "dispatcher.paper-summary": ({ count, from, to }) => `${trips(count)}, de ${from} a ${to}`,
 };

@@ -3,8 +3,8 @@
 /** @type {Record<string, import("../../parts/words.js").Text>} */
 export const words = {
     "map.map": "Mapa",
-    "map.as-tables": "Lo mismo en tablas",
-    "map.label": "Mapa de lugares y líneas. Las tablas de abajo dicen lo mismo.",
+    "map.as-tables": "Ver como tablas",
+    "map.label": "Mapa de lugares y rutas. Las tablas de abajo dicen lo mismo.",
     "map.larger": "Acercar",
     "map.smaller": "Alejar",
     "map.whole": "Ver todo",
@@ -15,7 +15,7 @@ export const words = {
     "map.miles": ({ miles }) => (miles === 1 ? "1 milla" : `${miles} millas`),
     "map.nothing-near": "No hay ningún lugar cerca de ese punto. Haga clic más cerca de uno, o elíjalo por su nombre.",
     "map.places": "Lugares",
-    "map.lines": "Líneas",
+    "map.lines": "Rutas",
     "map.number": "Número",
     "map.name": "Nombre",
     "map.feet-east": "Este, pies",
@@ -25,4 +25,12 @@ export const words = {
     "map.none": "ninguno",
     "map.width": "Corredor, pies a cada lado",
     "map.points": "Puntos, pies",
+    "map.start": "Haga clic donde está su primer lugar",
+    "map.start-hint": "Su garaje es un buen comienzo. Las distancias se miden desde la cruz.",
+    "map.mile-feet": "1 milla (5,280 pies)",
+    "map.miles-to": ({ miles, direction }) => `${miles} mi al ${direction}`,
+    "map.direction-west": "oeste",
+    "map.direction-east": "este",
+    "map.direction-north": "norte",
+    "map.direction-south": "sur",
 };
