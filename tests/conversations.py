@@ -1,29 +1,20 @@
 """What conversations send: NAME.requests is a script of bin/rehearsal, and NAME.http has bytes that no script gives."""
-import importlib.machinery
-import importlib.util
 import os
+from collections.abc import Callable
 
-ROOT = os.path.dirname(os.path.dirname(os.path.realpath(__file__)))
+from desk_tools.commands import rehearsal
 
-
-def load(path):
-    """A script of this repository as a module."""
-    loader = importlib.machinery.SourceFileLoader(os.path.basename(path), f"{ROOT}/{path}")
-    module = importlib.util.module_from_spec(importlib.util.spec_from_loader(loader.name, loader))
-    loader.exec_module(module)
-    return module
-
-
-rehearsal = load("bin/rehearsal")
 # The endings of their files, and how each gives the bytes.
-KINDS = {".requests": rehearsal.written, ".http": bytes}
+KINDS: dict[str, Callable[[bytes], bytes]] = {".requests": rehearsal.written, ".http": bytes}
 
 
-def asked_in(conversation):
+def asked_in(conversation: str) -> bytes:
     """The bytes that a conversation sends. It is named by its path, without an ending."""
     kinds = [it for it in KINDS if os.path.exists(f"{conversation}{it}")]
     if len(kinds) != 1:
-        raise rehearsal.Wrong(f"{conversation} needs one file of {', '.join(KINDS)}, and has {len(kinds)}")
+        raise rehearsal.Wrong(
+            f"{conversation} needs one file of {', '.join(KINDS)}, and has {len(kinds)}"
+        )
     path = f"{conversation}{kinds[0]}"
     with open(path, "rb") as file:
         content = file.read()

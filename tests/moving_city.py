@@ -3,17 +3,24 @@
 Each line has two directions, on streets of their own near the middle; some have a branch, some turn short, some run
 past midnight. Weekdays, Saturdays and Sundays have hours of their own, and no two lines the same.
 """
+
+from __future__ import annotations
+
 import datetime
 import math
 import random
+from typing import Any
 
-from moving import example
+from desk_tools.setup import example
 
 BLOCK, POINT_EVERY, STOP_EVERY, MOST_FEET = 2_640, 260, 1_300, 55_000
 WEEK, SATURDAY, SUNDAY = "week", "saturday", "sunday"
+Point = tuple[float, float]
+# The files of a feed, each as its rows.
+Files = dict[str, list[Any]]
 
 
-def street_way(chance, start, heading, feet):
+def street_way(chance: random.Random, start: Point, heading: float, feet: int) -> list[Point]:
     """A way along streets: straight, with a turn now and then, never back."""
     way, at, went = [start], start, 0
     while went < feet:
@@ -25,9 +32,9 @@ def street_way(chance, start, heading, feet):
     return way
 
 
-def drawn(chance, way):
+def drawn(chance: random.Random, way: list[Point]) -> list[Point]:
     """The way as a shape has it: a point every some feet, each a little aside."""
-    points = []
+    points: list[Point] = []
     for (ax, ay), (bx, by) in zip(way, way[1:]):
         count = max(1, round(math.dist((ax, ay), (bx, by)) / POINT_EVERY))
         parts = [(ax + (bx - ax) * at / count, ay + (by - ay) * at / count) for at in range(count)]
@@ -35,13 +42,13 @@ def drawn(chance, way):
     return [*points, way[-1]]
 
 
-def other_street(points, feet):
+def other_street(points: list[Point], feet: int) -> list[Point]:
     """The same way back, on the next street where the line is near the middle."""
     moved = [(x + 300, y - 300) if math.hypot(x, y) < feet else (x, y) for x, y in points]
     return moved[::-1]
 
 
-def patterns_of(chance, number):
+def patterns_of(chance: random.Random, number: int) -> dict[str, list[Point]]:
     """The shapes of a line: out and back, and where it has them a branch and a short turn, both ways."""
     heading = chance.uniform(0, 2 * math.pi)
     is_cross = number % 5 == 4
@@ -52,7 +59,9 @@ def patterns_of(chance, number):
     shapes = {"out": out, "in": other_street(out, 6_000)}
     if number % 3 == 0:
         fork = len(way) // 2
-        branch = drawn(chance, [*way[: fork + 1], *street_way(chance, way[fork], heading + 1, 9_000)[1:]])
+        branch = drawn(
+            chance, [*way[: fork + 1], *street_way(chance, way[fork], heading + 1, 9_000)[1:]]
+        )
         shapes |= {"branch-out": branch, "branch-in": other_street(branch, 6_000)}
     if number % 4 == 1:
         short = out[: len(out) * 2 // 3]
@@ -60,16 +69,22 @@ def patterns_of(chance, number):
     return shapes
 
 
-def hours_of(chance, number):
+def hours_of(chance: random.Random, number: int) -> dict[str, tuple[int, int]]:
     """From when to when a line runs, in minutes, by its service."""
     first, last = 300 + 5 * chance.randint(0, 18), 1_140 + 5 * chance.randint(0, 60)
-    hours = {WEEK: (first, last), SATURDAY: (first + 5 * chance.randint(6, 18), last - 5 * chance.randint(0, 18))}
+    hours = {
+        WEEK: (first, last),
+        SATURDAY: (first + 5 * chance.randint(6, 18), last - 5 * chance.randint(0, 18)),
+    }
     if number % 4 != 2:
-        hours[SUNDAY] = (hours[SATURDAY][0] + 5 * chance.randint(6, 18), hours[SATURDAY][1] - 5 * chance.randint(6, 24))
+        hours[SUNDAY] = (
+            hours[SATURDAY][0] + 5 * chance.randint(6, 18),
+            hours[SATURDAY][1] - 5 * chance.randint(6, 24),
+        )
     return hours
 
 
-def city(lines, today, seed=20261128, trips=1):
+def city(lines: int, today: datetime.date, seed: int = 20261128, trips: float = 1) -> Files:
     """The files of the feed, each as its rows, the header first; with a share of the trips, the last among them."""
     chance, found = random.Random(seed), example.tables(today)
     for name in ("routes", "trips", "stop_times", "stops", "calendar", "shapes"):
@@ -83,7 +98,7 @@ def city(lines, today, seed=20261128, trips=1):
     return found
 
 
-def add_line(found, chance, number, trips):
+def add_line(found: Files, chance: random.Random, number: int, trips: float) -> None:
     route, shapes, hours = f"r{number}", patterns_of(chance, number), hours_of(chance, number)
     street = chance.choice(["Oak", "Mill", "Lake", "Hill"])
     found["routes"].append((route, "a", str(number + 1), f"{street} {number}", "3"))
@@ -91,12 +106,24 @@ def add_line(found, chance, number, trips):
         shape = f"{route}-{name}"
         found["shapes"] += [(shape, *example.position(*it), at) for at, it in enumerate(points)]
         stops = points[:: max(1, STOP_EVERY // POINT_EVERY)] + [points[-1]]
-        found["stops"] += [(f"{shape}-{at}", f"stop {at}", *example.position(*it)) for at, it in enumerate(stops)]
+        found["stops"] += [
+            (f"{shape}-{at}", f"stop {at}", *example.position(*it)) for at, it in enumerate(stops)
+        ]
         for service, (first, last) in hours.items():
             add_trips(found, chance, route, name, service, first, last, len(stops), trips)
 
 
-def add_trips(found, chance, route, name, service, first, last, stops, trips):
+def add_trips(
+    found: Files,
+    chance: random.Random,
+    route: str,
+    name: str,
+    service: str,
+    first: int,
+    last: int,
+    stops: int,
+    trips: float,
+) -> None:
     """The trips of one shape: a branch runs on weekdays by day alone, a short turn in the early morning too."""
     minutes, every = 3 + 2 * stops, chance.choice([20, 30, 30, 60])
     if name.startswith("branch"):
@@ -112,5 +139,3 @@ def add_trips(found, chance, route, name, service, first, last, stops, trips):
             minute = at + minutes * stop // (stops - 1)
             time = f"{minute // 60:02}:{minute % 60:02}:00"
             found["stop_times"].append((trip, time, time, f"{route}-{name}-{stop}", stop + 1))
-
-

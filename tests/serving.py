@@ -7,11 +7,15 @@ import json
 import os
 import random
 import resource
+import shutil
 import socket
 import sqlite3
 import subprocess
 import sys
+import tempfile
 import time
+from collections.abc import Callable, Iterable, Iterator
+from typing import Any
 
 ADMINS_KEY = "abc"
 SECONDS = 60
@@ -28,7 +32,7 @@ Reply = collections.namedtuple("Reply", "status body")
 
 
 @contextlib.contextmanager
-def variables(**given):
+def variables(**given: str) -> Iterator[None]:
     """The environment of what is started meanwhile."""
     before = dict(os.environ)
     os.environ.update(given)
@@ -39,19 +43,31 @@ def variables(**given):
         os.environ.update(before)
 
 
-def ran(program, *words, **named):
+def ran(
+    program: str, *words: str | int | datetime.date | None, **named: Any
+) -> subprocess.CompletedProcess[Any]:
     """How the program ends with these words."""
-    return subprocess.run([program, *map(str, words)], capture_output=True, timeout=SECONDS, **named)
+    return subprocess.run(
+        [program, *map(str, words)], capture_output=True, timeout=SECONDS, **named
+    )
 
 
-def head_of(method, path, key, number=None, length=None):
+def head_of(
+    method: str, path: str, key: str, number: int | str | None = None, length: int | None = None
+) -> bytes:
     lines = [f"{method} {path} HTTP/1.1", f"Desk-Key: {key}"]
     lines += [f"Desk-Number: {number}"] if number is not None else []
     lines += [f"Content-Length: {length}"] if length is not None else []
     return "\r\n".join([*lines, "", ""]).encode()
 
 
-def message_of(method, path, key, number=None, body=None):
+def message_of(
+    method: str,
+    path: str,
+    key: str,
+    number: int | str | None = None,
+    body: dict[Any, Any] | None = None,
+) -> bytes:
     """The bytes of a request; a body's "key" stands for the digest of it."""
     if body is None:
         return head_of(method, path, key, number)
@@ -62,17 +78,19 @@ def message_of(method, path, key, number=None, body=None):
     return head_of(method, path, key, number, len(content)) + content
 
 
-def reply_in(received):
+def reply_in(received: bytes) -> Reply | None:
     """The reply whose bytes these are, or None where they are not one that is whole."""
     head, gap, body = received.partition(b"\r\n\r\n")
-    lengths = [int(it[15:]) for it in head.split(b"\r\n") if it.lower().startswith(b"content-length:")]
+    lengths = [
+        int(it[15:]) for it in head.split(b"\r\n") if it.lower().startswith(b"content-length:")
+    ]
     if not gap or lengths != [len(body)]:
         return None
     text = body.decode()
     return Reply(int(head.split()[1]), json.loads(text) if b"application/json" in head else text)
 
 
-def received_from(connection):
+def received_from(connection: socket.socket) -> bytes:
     pieces = []
     while piece := connection.recv(65_536):
         pieces.append(piece)
@@ -80,10 +98,10 @@ def received_from(connection):
 
 
 # The numbers that this process was given last. Each is a socket of Linux's abstract names, gone when the process ends.
-PORTS_GIVEN = collections.deque(maxlen=64)
+PORTS_GIVEN: collections.deque[socket.socket] = collections.deque(maxlen=64)
 
 
-def free_port():
+def free_port() -> int:
     """A port that nobody listens on, below those that connections are given. No other test takes it meanwhile."""
     while True:
         number, given = random.randint(10_000, HIGHEST_PORT), socket.socket(socket.AF_UNIX)
@@ -95,7 +113,7 @@ def free_port():
         given.close()
 
 
-def forget_clock(number):
+def forget_clock(number: int) -> None:
     """Removes what libfaketime leaves in shared memory of a killed process. A later process of the same number would have
     the machine's own clock."""
     for name in f"faketime_shm_{number}", f"sem.faketime_sem_{number}":
@@ -106,33 +124,44 @@ def forget_clock(number):
 class Desk:
     """A desk that serves a file. It is killed, as by a fall of the power, when it is left."""
 
-    def __init__(self, program, file, count=1_000_000, longest=None):
+    def __init__(
+        self, program: str, file: str, count: int = 1_000_000, longest: int | None = None
+    ) -> None:
         self.port = free_port()
         words = [program, "serve", file, ZONE, str(self.port), str(count)]
         # (a write beyond that length is to fail; the signal that it would be else is one that Python ignores)
-        limited = {"preexec_fn": lambda: resource.setrlimit(resource.RLIMIT_FSIZE, (longest, longest)), "restore_signals": False}
-        self.process = subprocess.Popen(words, stdin=subprocess.DEVNULL, stderr=subprocess.PIPE, **(limited if longest else {}))
+        limited: dict[str, Any] = {
+            "preexec_fn": lambda: resource.setrlimit(
+                resource.RLIMIT_FSIZE, (longest or 0, longest or 0)
+            ),
+            "restore_signals": False,
+        }
+        self.process = subprocess.Popen(
+            words, stdin=subprocess.DEVNULL, stderr=subprocess.PIPE, **(limited if longest else {})
+        )
+        assert self.process.stderr
         self.said = self.process.stderr.readline().decode()
         if not self.said.startswith("listening"):
             self.kill()
             raise OSError(f"{' '.join(words)} says {self.said!r}")
 
-    def __enter__(self):
+    def __enter__(self) -> "Desk":
         return self
 
-    def __exit__(self, *_):
+    def __exit__(self, *_: object) -> None:
         self.kill()
 
-    def kill(self):
+    def kill(self) -> None:
         self.process.kill()
         self.process.wait()
-        self.process.stderr.close()
+        if self.process.stderr:
+            self.process.stderr.close()
         forget_clock(self.process.pid)
 
-    def connected(self):
+    def connected(self) -> socket.socket:
         return socket.create_connection(("127.0.0.1", self.port), SECONDS)
 
-    def sent(self, message):
+    def sent(self, message: Any) -> Reply | None:
         """The reply to these bytes, or None where the line broke before it was whole."""
         try:
             with self.connected() as connection:
@@ -141,30 +170,65 @@ class Desk:
         except OSError:
             return None
 
-    def sent_and_ended(self, message):
+    def sent_and_ended(self, message: Any) -> Reply | None:
         """The reply to these bytes and no more."""
         with self.connected() as connection:
             connection.sendall(message)
             connection.shutdown(socket.SHUT_WR)
             return reply_in(received_from(connection))
 
-    def ask(self, method, path, key, number=None, body=None):
+    def ask(
+        self, method: str, path: str, key: str, number: int | None = None, body: Any = None
+    ) -> Any:
         return self.sent(message_of(method, path, key, number, body))
 
-    def get(self, path, key):
+    def get(self, path: str, key: str) -> Any:
         return self.ask("GET", path, key)
 
-    def post(self, path, key, number, body):
+    def post(self, path: str, key: str, number: int, body: Any) -> Any:
         return self.ask("POST", path, key, number, body)
 
 
 # A small agency: three places on one bus line, one van, one visitor and one resident, and each role.
 
 EACH_DAY = [1, 2, 3, 4, 5, 6, 7]
-POLICY = {"base": 175, "transfer": 50, "fare": 400, "service": 2, "extra_ride": 20, "min_missed": 3, "percent": 10, "span_days": 30}
-LINE = {"id": 1, "width": 3960, "points": [[0, 0], [20000, 0]], "accessible": True, "days": EACH_DAY, "first": 0, "last": 1439}
-VAN = {"id": 1, "from_day": TODAY, "days": EACH_DAY, "depot": 1, "capacity": 4, "opens": 300, "closes": 1380, "duration": 1080}
-TRIP = {"day": TOMORROW, "wish": 600, "from": 1, "to": 2, "attendant": False, "companions": 0}
+POLICY: dict[str, Any] = {
+    "base": 175,
+    "transfer": 50,
+    "fare": 400,
+    "service": 2,
+    "extra_ride": 20,
+    "min_missed": 3,
+    "percent": 10,
+    "span_days": 30,
+}
+LINE: dict[str, Any] = {
+    "id": 1,
+    "width": 3960,
+    "points": [[0, 0], [20000, 0]],
+    "accessible": True,
+    "days": EACH_DAY,
+    "first": 0,
+    "last": 1439,
+}
+VAN: dict[str, Any] = {
+    "id": 1,
+    "from_day": TODAY,
+    "days": EACH_DAY,
+    "depot": 1,
+    "capacity": 4,
+    "opens": 300,
+    "closes": 1380,
+    "duration": 1080,
+}
+TRIP: dict[str, Any] = {
+    "day": TOMORROW,
+    "wish": 600,
+    "from": 1,
+    "to": 2,
+    "attendant": False,
+    "companions": 0,
+}
 
 AGENCY = [
     ("/callers", ADMINS_KEY, 1, {"id": 2, "role": "clerk", "subject": 0, "key": "hello"}),
@@ -185,7 +249,12 @@ AGENCY = [
 # With the travel table, which the dispatcher gives as number 2:
 TRIPS = [
     ("/riders/7/entries", "hello", 3, {"entry": "complete"}),
-    ("/riders/7/entries", "panel", 1, {"entry": "grant", "until": LAST_DAY, "conditions": ["months:1,2,12", "always"]}),
+    (
+        "/riders/7/entries",
+        "panel",
+        1,
+        {"entry": "grant", "until": LAST_DAY, "conditions": ["months:1,2,12", "always"]},
+    ),
     ("/trips", "mine", 1, {"rider": 7, **TRIP, "by": 720}),
     ("/trips", "hello", 4, {"rider": 9, **TRIP, "wish": 660, "to": 3}),
     ("/trips", "hello", 5, {"rider": 9, **TRIP, "wish": 900, "from": 2, "to": 1}),
@@ -197,14 +266,14 @@ class Refused(Exception):
     """A request that makes the agency was not taken."""
 
 
-def asked_in_turn(desk, requests):
+def asked_in_turn(desk: Desk, requests: Iterable[Any]) -> None:
     for path, key, number, body in requests:
         reply = desk.post(path, key, number, body)
         if reply is None or reply.status != 200:
             raise Refused(f"POST {path} {json.dumps(body, default=str)} as {key} {number}: {reply}")
 
 
-def make_agency(program, folder):
+def make_agency(program: str, folder: str) -> str:
     """A database with the agency, its driving times and its trips, by every command."""
     file, times = f"{folder}/agency.db", f"{folder}/times.csv"
     with open(times, "w", encoding="utf-8") as text:
@@ -225,29 +294,36 @@ def make_agency(program, folder):
 # Its database, by the SQLite of Python.
 
 
-def with_database(file, task):
+def with_database(file: str, task: Callable[..., Any]) -> Any:
     with contextlib.closing(sqlite3.connect(file)) as database:
         told = task(database)
         database.commit()
         return told
 
 
-def copy_database(file, path):
+def copy_database(file: str, path: str) -> None:
     """A copy of the file, with what stands in its log."""
     with_database(file, lambda it: with_database(path, it.backup))
 
 
-def rows(file, query, *values):
+def rows(file: str, query: str, *values: int) -> Any:
     return with_database(file, lambda database: database.execute(query, values).fetchall())
 
 
-def content_of(file):
+def content_of(file: str) -> dict[Any, Any]:
     """The rows of each table."""
     tables = [name for name, in rows(file, "SELECT name FROM sqlite_master WHERE type = 'table'")]
     return {table: sorted(rows(file, f"SELECT * FROM {table}")) for table in tables}
 
 
-def faults_of_database(file):
+def content_of_copy(file: str) -> dict[Any, Any]:
+    """The content of a copy that nothing else has open: SQLite may write beside what it opens."""
+    with tempfile.TemporaryDirectory() as folder:
+        shutil.copyfile(file, f"{folder}/copy.db")
+        return content_of(f"{folder}/copy.db")
+
+
+def faults_of_database(file: str) -> Iterator[str | None]:
     """For the file as a whole and for what its rows refer to: None, or what SQLite finds wrong."""
     whole = rows(file, "PRAGMA integrity_check")
     yield None if whole == [("ok",)] else f"integrity_check of {file} finds {whole}"
@@ -262,9 +338,20 @@ INDEXES = {
 }
 
 
-def faults_of_indexes(file):
+def put_back(database: Any) -> None:
+    """Makes the tables those of version 1."""
+    for table in ("trip_chairs", "vehicle_chairs", "rider_chairs"):
+        database.execute(f"DROP TABLE {table}")
+    for index in INDEXES:
+        database.execute(f"DROP INDEX {index}")
+    database.execute("UPDATE desk SET version = 1")
+
+
+def faults_of_indexes(file: str) -> Iterator[str | None]:
     """SQLite lists the indexes, and finds the trips of a rider and of a day by them."""
-    listed = dict(rows(file, "SELECT name, sql FROM sqlite_master WHERE type = 'index' AND sql IS NOT NULL"))
+    listed = dict(
+        rows(file, "SELECT name, sql FROM sqlite_master WHERE type = 'index' AND sql IS NOT NULL")
+    )
     yield difference(f"the indexes of {file}", INDEXES, listed)
     for column in "rider", "day":
         plan = rows(file, f"EXPLAIN QUERY PLAN SELECT * FROM trips WHERE {column} = ?", 1)
@@ -272,7 +359,16 @@ def faults_of_indexes(file):
         yield None if is_used else f"the trips of a {column} in {file} are found by {plan}"
 
 
-def difference(label, wanted, got):
+def write(path: str, text: str, mode: int | None = None) -> str:
+    """Gives a file this text, and these permissions where they are named. The path."""
+    with open(path, "w", encoding="utf-8") as file:
+        file.write(text)
+    if mode is not None:
+        os.chmod(path, mode)
+    return path
+
+
+def difference(label: str, wanted: Any, got: Any) -> str | None:
     """None where both are the same, else what is told of them."""
     return None if wanted == got else f"{label}: wanted {wanted!r}, got {got!r}"
 
@@ -280,7 +376,7 @@ def difference(label, wanted, got):
 # What a script says at its end.
 
 
-def told_program(words, usage):
+def told_program(words: list[str], usage: str) -> Any:
     """The program that the words name, and the words before it."""
     if not words or not os.path.isfile(words[-1]):
         print(usage, end="", file=sys.stderr)
@@ -288,7 +384,7 @@ def told_program(words, usage):
     return os.path.abspath(words[-1]), words[:-1]
 
 
-def tally(name, faults):
+def tally(name: str, faults: Any) -> int:
     """Prints each fault as it comes, and the tally; the exit status."""
     passed = failed = 0
     for fault in faults:

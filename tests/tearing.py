@@ -1,10 +1,12 @@
 """The files of a database with only some of their sectors written, as a power cut leaves them: for tests/cuts, tests/migrate."""
 import os
+from collections.abc import Iterator
+from typing import Any
 
 SECTOR = 512
 
 
-def files_of(file):
+def files_of(file: str) -> dict[str, bytes]:
     """The bytes of the database and of its log, by their names."""
     found = {}
     for name in (file, f"{file}-wal"):
@@ -14,26 +16,26 @@ def files_of(file):
     return found
 
 
-def put_files(folder, files):
+def put_files(folder: str, files: dict[Any, Any]) -> None:
     for name, content in files.items():
         with open(f"{folder}/{name}", "wb") as it:
             it.write(content)
 
 
-def sectors_of(before, after):
+def sectors_of(before: Any, after: Any) -> Iterator[Any]:
     """Each sector in which a file is another one after, in the order of the file: its name and where it begins."""
     for name in sorted(after):
         old, new = before.get(name, b""), after[name]
         for at in range(0, max(len(old), len(new)), SECTOR):
-            if old[at:at + SECTOR] != new[at:at + SECTOR]:
+            if old[at : at + SECTOR] != new[at : at + SECTOR]:
                 yield name, at
 
 
-def torn(before, after, written):
+def torn(before: Any, after: Any, written: Any) -> dict[Any, bytearray]:
     """The files with these sectors alone written, and no longer than they have to be."""
     made = {name: bytearray(bytes_) for name, bytes_ in before.items()}
     for name, at in written:
-        file, piece = made.setdefault(name, bytearray()), after[name][at:at + SECTOR]
+        file, piece = made.setdefault(name, bytearray()), after[name][at : at + SECTOR]
         file.extend(bytes(max(0, at - len(file))))
-        file[at:at + len(piece)] = piece
+        file[at : at + len(piece)] = piece
     return made

@@ -1,55 +1,70 @@
 """Databases that the desk does not open, each made by plain SQL on a file that a desk left: for tests/agency."""
 import itertools
+from collections.abc import Iterator
+from typing import Any
 
+from desk_tools.ops.content import TABLES
 from serving import TOMORROW, ZONE, content_of, copy_database, difference, ran, with_database
 
-TABLES = ["desk", "callers", "kept", "places", "fixed", "vehicles", "riders", "entries", "trips", "stops", "travel",
-          "rider_chairs", "vehicle_chairs", "trip_chairs"]
 DONE, NO_STORE = 0, 3
 OTHER_TABLES, UNSOUND, STORE = 30, 31, 32
 
 # Bytes that spell no reply.
 NO_REPLIES = [
-    "", "0000", "01000000", "010000000000", "020000000100000002000001e5000002030000015e000002",
-    "020000000000000002000001e5000002030000015e000002bc", "020000000100000002000001e5000005a00000015e000002bc",
-    "020000000100000002000001e500000203000186a1000002bc", "03", "ff",
+    "",
+    "0000",
+    "01000000",
+    "010000000000",
+    "020000000100000002000001e5000002030000015e000002",
+    "020000000000000002000001e5000002030000015e000002bc",
+    "020000000100000002000001e5000005a00000015e000002bc",
+    "020000000100000002000001e500000203000186a1000002bc",
+    "03",
+    "ff",
 ]
 
 
-def counted(count, statement):
+def counted(count: int, statement: str) -> str:
     """A statement over a table `numbers` of each `number` from 1 to that many."""
     more = f"SELECT number + 1 FROM numbers WHERE number < {count}"
     return f"WITH RECURSIVE numbers(number) AS (SELECT 1 UNION ALL {more}) {statement}"
 
 
-def route_of(trips):
+def route_of(trips: int) -> str:
     """So many trips of one van from a place to itself, each with its stops: they take no time, and one is aboard."""
     trip = "number, 9, day, 600, 1, 1, -1, 0, 0, 350, 0, 20, 1, 540, 555, 0"
-    return ";".join([
-        "DELETE FROM stops", "DELETE FROM trips WHERE id > 1", f"UPDATE desk SET last_trip = {trips}",
-        counted(trips, f"INSERT OR REPLACE INTO trips SELECT {trip} FROM numbers, trips WHERE id = 1"),
-        "INSERT INTO stops SELECT vehicle, day, 2 * id - 2, id, 0 FROM trips",
-        "INSERT INTO stops SELECT vehicle, day, 2 * id - 1, id, 1 FROM trips",
-    ])
+    return ";".join(
+        [
+            "DELETE FROM stops",
+            "DELETE FROM trips WHERE id > 1",
+            f"UPDATE desk SET last_trip = {trips}",
+            counted(
+                trips,
+                f"INSERT OR REPLACE INTO trips SELECT {trip} FROM numbers, trips WHERE id = 1",
+            ),
+            "INSERT INTO stops SELECT vehicle, day, 2 * id - 2, id, 0 FROM trips",
+            "INSERT INTO stops SELECT vehicle, day, 2 * id - 1, id, 1 FROM trips",
+        ]
+    )
 
 
-def exchanged(one, other):
+def exchanged(one: int, other: int) -> str:
     """The stops at two places of the van's route, each at the place of the other."""
     moves = (one, 99), (other, one), (99, other)
     return ";".join(f"UPDATE stops SET place = {to} WHERE place = {at}" for at, to in moves)
 
 
-def appeal_against(position):
+def appeal_against(position: int) -> str:
     """An appeal against what stands there, in place of the resident's grant."""
     return f"UPDATE entries SET kind = 3, a = {position}, b = -1, conditions = '', words = '' WHERE place = 1"
 
 
-def kept_appeal(position):
+def kept_appeal(position: int) -> str:
     """The same as the clerk's last accepted write: an entry (7) for rider 7, an appeal (3), and its position."""
     return f"UPDATE kept SET request = x'070000000703{position:08x}' WHERE caller = 2"
 
 
-def dropped(tables):
+def dropped(tables: list[str]) -> str:
     return ";".join(f"DROP TABLE {it}" for it in reversed(tables))
 
 
@@ -61,20 +76,59 @@ ROWS = [
     ("a percentage of 101", "UPDATE desk SET percent = 101", UNSOUND, "desk"),
     ("a role that is none", "UPDATE callers SET role = 9 WHERE id = 2", UNSOUND, "callers"),
     ("a digest of one byte", "UPDATE callers SET digest = x'00' WHERE id = 2", UNSOUND, "callers"),
-    ("a digest of 31 bytes", "UPDATE callers SET digest = zeroblob(31) WHERE id = 2", UNSOUND, "callers"),
-    ("a digest of 33 bytes", "UPDATE callers SET digest = zeroblob(33) WHERE id = 2", UNSOUND, "callers"),
-    ("1,001 callers", counted(994, "INSERT INTO callers SELECT number + 7, 1, 0, randomblob(32) FROM numbers"), UNSOUND,
-     "callers"),
-    *[(f"the reply {it!r}", f"UPDATE kept SET reply = x'{it}' WHERE caller = 2", UNSOUND, "kept") for it in NO_REPLIES],
-    ("a kept request of one byte 99", "UPDATE kept SET request = x'63' WHERE caller = 2", UNSOUND, "kept"),
-    ("a byte after a kept request", f"UPDATE kept SET request = {LONGER} WHERE caller = 2", UNSOUND, "kept"),
+    (
+        "a digest of 31 bytes",
+        "UPDATE callers SET digest = zeroblob(31) WHERE id = 2",
+        UNSOUND,
+        "callers",
+    ),
+    (
+        "a digest of 33 bytes",
+        "UPDATE callers SET digest = zeroblob(33) WHERE id = 2",
+        UNSOUND,
+        "callers",
+    ),
+    (
+        "1,001 callers",
+        counted(994, "INSERT INTO callers SELECT number + 7, 1, 0, randomblob(32) FROM numbers"),
+        UNSOUND,
+        "callers",
+    ),
+    *[
+        (f"the reply {it!r}", f"UPDATE kept SET reply = x'{it}' WHERE caller = 2", UNSOUND, "kept")
+        for it in NO_REPLIES
+    ],
+    (
+        "a kept request of one byte 99",
+        "UPDATE kept SET request = x'63' WHERE caller = 2",
+        UNSOUND,
+        "kept",
+    ),
+    (
+        "a byte after a kept request",
+        f"UPDATE kept SET request = {LONGER} WHERE caller = 2",
+        UNSOUND,
+        "kept",
+    ),
     ("a kept appeal against position 200", kept_appeal(200), UNSOUND, "kept"),
     ("a kept number 0", "UPDATE kept SET number = 0 WHERE caller = 2", UNSOUND, "kept"),
     ("a place too far east", "UPDATE places SET x = 1000001 WHERE id = 2", UNSOUND, "places"),
-    ("101 places", counted(98, "INSERT INTO places SELECT number + 3, 0, 0, 0 FROM numbers"), UNSOUND, "places"),
+    (
+        "101 places",
+        counted(98, "INSERT INTO places SELECT number + 3, 0, 0, 0 FROM numbers"),
+        UNSOUND,
+        "places",
+    ),
     ("a corridor of 100 feet", "UPDATE fixed SET width = 100", UNSOUND, "fixed"),
-    ("51 routes", counted(50, "INSERT INTO fixed SELECT number + 1, width, points, 1, 127, 0, 1 FROM numbers, fixed"),
-     UNSOUND, "fixed"),
+    (
+        "51 routes",
+        counted(
+            50,
+            "INSERT INTO fixed SELECT number + 1, width, points, 1, 127, 0, 1 FROM numbers, fixed",
+        ),
+        UNSOUND,
+        "fixed",
+    ),
     ("31 seats", "UPDATE vehicles SET capacity = 31", UNSOUND, "vehicles"),
     ("a driver of no vehicle", "UPDATE callers SET subject = 9 WHERE id = 6", UNSOUND, "vehicles"),
     ("a rider of no kind", "UPDATE riders SET kind = 2 WHERE id = 9", UNSOUND, "riders"),
@@ -97,28 +151,66 @@ ROWS = [
     ("no driving times", "DELETE FROM travel", UNSOUND, "travel"),
     ("a duration of 50", "UPDATE vehicles SET duration = 50", UNSOUND, "travel"),
     ("a drop after the next trip's pickup", exchanged(1, 2), UNSOUND, "travel"),
-    ("a plan before its van's first version", "UPDATE vehicles SET from_day = from_day + 30", UNSOUND, "travel"),
-    ("a duration of 50 on a day off", "UPDATE vehicles SET days = 0, duration = 50", UNSOUND, "travel"),
+    (
+        "a plan before its van's first version",
+        "UPDATE vehicles SET from_day = from_day + 30",
+        UNSOUND,
+        "travel",
+    ),
+    (
+        "a duration of 50 on a day off",
+        "UPDATE vehicles SET days = 0, duration = 50",
+        UNSOUND,
+        "travel",
+    ),
     ("a row of no chairs", f"{CHAIRS}, 0 FROM vehicles", UNSOUND, "vehicle_chairs"),
     ("11 chairs", f"{CHAIRS}, 11 FROM vehicles", UNSOUND, "vehicle_chairs"),
     ("a wheelchair without a place", "INSERT INTO trip_chairs VALUES(1)", UNSOUND, "trip_chairs"),
-    ("two persons on one seat", "UPDATE vehicles SET capacity = 1; UPDATE trips SET companions = 1 WHERE id = 1",
-     UNSOUND, "trip_chairs"),
+    (
+        "two persons on one seat",
+        "UPDATE vehicles SET capacity = 1; UPDATE trips SET companions = 1 WHERE id = 1",
+        UNSOUND,
+        "trip_chairs",
+    ),
     ("version 9", "UPDATE desk SET version = 9", OTHER_TABLES, None),
     ("version 7", "UPDATE desk SET version = 7", OTHER_TABLES, None),
     ("version 1 with the tables of version 2", "UPDATE desk SET version = 1", OTHER_TABLES, None),
-    ("a file of version 1", f"UPDATE desk SET version = 1; {dropped(TABLES[11:])}", OTHER_TABLES, None),
+    (
+        "a file of version 1",
+        f"UPDATE desk SET version = 1; {dropped(TABLES[11:])}",
+        OTHER_TABLES,
+        None,
+    ),
     ("no tables", dropped(TABLES), OTHER_TABLES, None),
     ("a table less", "DROP TABLE trip_chairs", OTHER_TABLES, None),
     ("a table more", "CREATE TABLE more(id)", OTHER_TABLES, None),
     ("an index more", "CREATE INDEX more ON trips(rider)", OTHER_TABLES, None),
     ("an index less", "DROP INDEX trips_day", OTHER_TABLES, None),
     ("no indexes of trips", "DROP INDEX trips_rider; DROP INDEX trips_day", OTHER_TABLES, None),
-    ("an index of another column", "DROP INDEX trips_day; CREATE INDEX trips_day ON trips (wish)", OTHER_TABLES, None),
-    ("an index of two columns", "DROP INDEX trips_day; CREATE INDEX trips_day ON trips (day, vehicle)", OTHER_TABLES, None),
-    ("an index that is unique", "DROP INDEX trips_day; UPDATE trips SET day = id; CREATE UNIQUE INDEX trips_day ON trips (day)",
-     OTHER_TABLES, None),
-    ("an index by another name", "DROP INDEX trips_day; CREATE INDEX by_day ON trips (day)", OTHER_TABLES, None),
+    (
+        "an index of another column",
+        "DROP INDEX trips_day; CREATE INDEX trips_day ON trips (wish)",
+        OTHER_TABLES,
+        None,
+    ),
+    (
+        "an index of two columns",
+        "DROP INDEX trips_day; CREATE INDEX trips_day ON trips (day, vehicle)",
+        OTHER_TABLES,
+        None,
+    ),
+    (
+        "an index that is unique",
+        "DROP INDEX trips_day; UPDATE trips SET day = id; CREATE UNIQUE INDEX trips_day ON trips (day)",
+        OTHER_TABLES,
+        None,
+    ),
+    (
+        "an index by another name",
+        "DROP INDEX trips_day; CREATE INDEX by_day ON trips (day)",
+        OTHER_TABLES,
+        None,
+    ),
     # (what refers to a record that is not there, which the store itself refuses)
     ("a depot that is not there", "UPDATE vehicles SET depot = 44", STORE, None),
     ("a trip of no rider", "UPDATE trips SET rider = 44 WHERE id = 1", STORE, None),
@@ -165,19 +257,19 @@ PAIRS = [
 ]
 
 
-def both(one, other):
+def both(one: Any, other: Any) -> Any:
     """Two of the rows as one, which tells the lower table."""
     first, second = (next(it for it in ROWS if it[0] == name) for name in (one, other))
     lower = min(first, second, key=lambda it: TABLES.index(it[3]) if it[3] else -1)
     return f"{one}, and {other}", f"{first[1]};{second[1]}", *lower[2:]
 
 
-def told_of(program, path):
+def told_of(program: str, path: str) -> Any:
     run = ran(program, "trips", path, ZONE, "radio", TOMORROW)
     return run.returncode, run.stdout.decode(), run.stderr.decode()
 
 
-def faults_of_row(program, file, path, row):
+def faults_of_row(program: str, file: str, path: str, row: Any) -> Iterator[str | None]:
     """What is told of a copy of the file that was changed so; and its rows then are those of before."""
     name, statements, fault, table = row
     copy_database(file, path)
@@ -185,10 +277,12 @@ def faults_of_row(program, file, path, row):
     before = content_of(path)
     said = f"fault {fault} row {TABLES.index(table) + 1 if table else 0}\n"
     yield difference(f"trips with {name}", (NO_STORE, "", said), told_of(program, path))
-    yield None if content_of(path) == before else f"trips with {name}: the file has other rows than before"
+    yield None if content_of(
+        path
+    ) == before else f"trips with {name}: the file has other rows than before"
 
 
-def faults_of_sound(program, file, path, row):
+def faults_of_sound(program: str, file: str, path: str, row: Any) -> Iterator[str | None]:
     """A copy of the file that was changed so is opened, and lists the same trips."""
     name, statements = row
     copy_database(file, path)
@@ -197,7 +291,7 @@ def faults_of_sound(program, file, path, row):
     yield difference(f"trips with {name}", (DONE, listed, ""), told_of(program, path))
 
 
-def faults_of_fullest(program, file, path):
+def faults_of_fullest(program: str, file: str, path: str) -> Iterator[str | None]:
     """A route of 100 stops is sound, so what is wrong with one of 102 is their number alone."""
     copy_database(file, path)
     with_database(path, lambda it: it.executescript(route_of(50)))
@@ -206,7 +300,7 @@ def faults_of_fullest(program, file, path):
     yield difference("trips with a route of 100 stops", (DONE, 50, ""), (status, listed, said))
 
 
-def faults_of_unsound(program, file, folder):
+def faults_of_unsound(program: str, file: str, folder: str) -> Iterator[str | None]:
     for at, row in enumerate([*ROWS, *itertools.starmap(both, PAIRS)]):
         yield from faults_of_row(program, file, f"{folder}/unsound-{at}.db", row)
     for at, row in enumerate(SOUND):

@@ -2,8 +2,13 @@
 import functools
 import json
 import struct
+from collections.abc import Iterator
+from typing import TYPE_CHECKING
 
 from database import Trouble
+
+if TYPE_CHECKING:
+    from browser import Browser
 
 RESOURCES = "/usr/lib/chromium/resources.pak"
 COMPRESSED, VERSION, HEAD, ENTRY = b"\x1e\x9b", 5, 12, 6
@@ -19,9 +24,10 @@ globalThis.axe.run(document, { runOnly: only, resultTypes: ["violations", "incom
 """
 
 
-def resources():
+def resources() -> Iterator[bytes]:
     """Each resource of the file, as it is before it was compressed."""
     import brotli
+
     with open(RESOURCES, "rb") as file:
         pack = file.read()
     version, _, count, _ = struct.unpack("<IIHH", pack[:HEAD])
@@ -34,33 +40,36 @@ def resources():
 
 
 @functools.cache
-def source():
+def source() -> str:
     """axe as it stands in Lighthouse: a template of JavaScript, from its first comment to the end of the template."""
     for content in resources():
         start = content.find(b"`/*! axe v")
         if start < 0:
             continue
         end = start + 1
-        while content[end:end + 1] != b"`":
-            end += 2 if content[end:end + 1] == b"\\" else 1
-        return content[start:end + 1].decode()
+        while content[end : end + 1] != b"`":
+            end += 2 if content[end : end + 1] == b"\\" else 1
+        return content[start : end + 1].decode()
     raise Trouble(f"{RESOURCES} has no axe")
 
 
 @functools.cache
-def program_of(browser):
+def program_of(browser: "Browser") -> str:
     """axe as a program; the template's own signs are read by a browser, once."""
-    return browser.script(f"return {source()};") + "\n;globalThis.axe = axe; true"
+    template: str = browser.script(f"return {source()};")
+    return template + "\n;globalThis.axe = axe; true"
 
 
-def found_by(browser, colors=False):
+def found_by(browser: "Browser", colors: bool = False) -> dict[str, list[str]]:
     """What axe finds on the page as it is; or, by its rules of colors alone, on a page that was looked at before."""
     if not browser.script("return 'axe' in globalThis"):
-        told = browser.devtools("Runtime.evaluate", expression=program_of(browser), returnByValue=True)
+        told = browser.devtools(
+            "Runtime.evaluate", expression=program_of(browser), returnByValue=True
+        )
         if told.get("exceptionDetails"):
             raise Trouble(f"axe does not run: {json.dumps(told['exceptionDetails'])[:300]}")
     only = {"type": "rule", "values": OF_COLORS} if colors else {"type": "tag", "values": TAGS}
-    found = browser.driver.execute_async_script(RUN, only)
+    found: dict[str, list[str]] = browser.driver.execute_async_script(RUN, only)
     if "failed" in found:
         raise Trouble(f"axe does not run: {found['failed']}")
     return found

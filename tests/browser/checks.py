@@ -1,4 +1,4 @@
-"""How a file of checks is made and run: `checks.py FILE PROGRAM TOWNS` runs one, for tests/pages.
+"""How a file of checks is made and run: `-m checks FILE PROGRAM TOWNS` runs one, for tests/pages.
 
 A check is a function with one parameter, the place where it happens (`at.town`, `at.browser`, `at.keys`), and its name
 is a sentence. Checks run in the order in which they stand. One that raises has failed, and the rest go on.
@@ -11,48 +11,56 @@ import tempfile
 import time
 import traceback
 
-sys.dont_write_bytecode = True
-HERE = os.path.dirname(os.path.realpath(__file__))
-sys.path.insert(0, HERE)
+from collections.abc import Callable
+from types import ModuleType
+from typing import TYPE_CHECKING
+
 from database import Trouble
 from town import Town
 
-LISTED = []
+if TYPE_CHECKING:
+    from browser import Browser
+
+Check = Callable[["Place"], None]
+LISTED: list[Check] = []
 COUNTED = {"held": 0}
 
 
-def check(function):
+def check(function: Check) -> Check:
     """Lists a function as a check of its file."""
     LISTED.append(function)
     return function
 
 
-def holds(what, condition):
+def holds(what: str, condition: object) -> None:
     """Counts what is as it should be; else it raises what is not."""
     if not condition:
         raise Trouble(what)
     COUNTED["held"] += 1
 
 
-def same(what, wanted, got):
+def same(what: str, wanted: object, got: object) -> None:
     holds(f"{what}: wanted {wanted!r}, got {got!r}", wanted == got)
 
 
 @dataclasses.dataclass
 class Place:
     """Where checks happen."""
-    town: object
-    browser: object
-    keys: dict
+
+    town: Town
+    browser: "Browser"
+    keys: dict[str, str]
     folder: str
 
 
-def first_line(trouble):
-    told = f"{type(trouble).__name__}: {trouble}" if not isinstance(trouble, Trouble) else str(trouble)
+def first_line(trouble: Exception) -> str:
+    told = (
+        f"{type(trouble).__name__}: {trouble}" if not isinstance(trouble, Trouble) else str(trouble)
+    )
     return " ".join(told.split())[:1500]
 
 
-def fault_of(function, at):
+def fault_of(function: Check, at: Place) -> str | None:
     """What is wrong, as a sentence, or None."""
     try:
         function(at)
@@ -66,7 +74,7 @@ def fault_of(function, at):
         return first_line(trouble)
 
 
-def run(name, module, at):
+def run(name: str, module: ModuleType, at: Place) -> int:
     failed = 0
     wanted = os.environ.get("PAGES_CHECK", "").split(",")
     mine = [it for it in LISTED if it.__module__ == module.__name__]
@@ -81,13 +89,14 @@ def run(name, module, at):
     return 1 if failed else 0
 
 
-def main():
+def main() -> int:
     from browser import Browser
+
     name, program, towns = sys.argv[1:4]
     module = importlib.import_module(name)
-    with tempfile.TemporaryDirectory(prefix="desk-pages-") as folder, \
-            getattr(module, "TOWN", Town)(program, folder, getattr(module, "VANS", 6), towns, getattr(module, "PACKED", False)) as town, \
-            Browser(town.origin, folder) as browser:
+    with tempfile.TemporaryDirectory(prefix="desk-pages-") as folder, getattr(module, "TOWN", Town)(
+        program, folder, getattr(module, "VANS", 6), towns, getattr(module, "PACKED", False)
+    ) as town, Browser(town.origin, folder) as browser:
         return run(name, module, Place(town, browser, town.keys, folder))
 
 

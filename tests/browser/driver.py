@@ -6,12 +6,14 @@ import re
 import shutil
 import time
 import urllib.parse
+from collections.abc import Callable
+from typing import Any
 
 from selenium.webdriver.common.keys import Keys
 
 from browser import pause
-from checks import check, holds, same
-from database import until
+from checks import Place, check, holds, same
+from database import matched, until
 from middle import UNHEARD
 from people import TODAY, TOMORROW
 from scripts import LOW
@@ -21,7 +23,7 @@ VANS = 1
 PACKED = True
 VAN_FIELD = "Van, by name or number"
 AFTER = "2025-03-12"
-PHONE = {"width": 390, "height": 844, "mobile": True}
+PHONE: dict[str, Any] = {"width": 390, "height": 844, "mobile": True}
 KEPT = """
 const done = arguments[0], opened = indexedDB.open("desk", 1);
 opened.onsuccess = () => {
@@ -65,91 +67,148 @@ opened.onsuccess = () => {
 """
 SMALL = """
 const small = (it) => { const { width, height } = it.getBoundingClientRect(); return width < 64 || height < 64; };
-return [...document.querySelectorAll(".driver-big, .driver-link, .driver-day, .driver-row")].filter((it) => small(it)).map((it) => it.textContent);
+return [...document.querySelectorAll(".tap, .driver-link, .driver-day, .driver-row")].filter((it) => it.checkVisibility() && small(it)).map((it) => it.textContent);
 """
 
 
-def show_manifest(at, vehicle=1):
+def show_manifest(at: Place, vehicle: int = 1) -> None:
     """The number of the vehicle, where it is asked for: this phone knows it from before."""
-    until("neither a vehicle's field nor a manifest", lambda: at.browser.all("field", VAN_FIELD)
-          or re.search("All stops|No stops|no copy", at.browser.text()))
+    until(
+        "neither a vehicle's field nor a manifest",
+        lambda: at.browser.all("field", VAN_FIELD)
+        or re.search("All stops|No stops|no copy", at.browser.text()),
+    )
     if at.browser.all("field", VAN_FIELD):
         at.browser.fill(VAN_FIELD, str(vehicle))
         at.browser.keys(Keys.ENTER)
 
 
-def sign_in(at, clock="05:30", day=TOMORROW, holder="driver 1"):
+def sign_in(at: Place, clock: str = "05:30", day: str = TOMORROW, holder: str = "driver 1") -> None:
     at.town.set_clock(day, clock)
     at.browser.sign_in(at.keys[holder], "driver")
     show_manifest(at)
     at.browser.sees("All stops")
 
 
-def begin(at, clock, stop, day=TOMORROW):
+def begin(at: Place, clock: str, stop: str, day: str = TOMORROW) -> None:
     """A phone that knows nothing from before, whose next stop is the one of this name."""
     at.browser.fresh()
     sign_in(at, clock, day)
     press_stop(at, stop)
-    if at.browser.all("button", "This is my next stop"):
+    until(
+        f"{stop} is not shown",
+        lambda: re.search(stop, next_stop(at)) or at.browser.all("button", "This is my next stop"),
+    )
+    if not re.search(stop, next_stop(at)):
         at.browser.press("This is my next stop")
         at.browser.press("Yes: go on from here")
     is_next(at, stop)
 
 
-def press_stop(at, stop):
-    at.browser.press(re.compile(stop), within=at.browser.script("return document.querySelector('.driver-stops')"))
+def press_stop(at: Place, stop: str) -> None:
+    """Opens a stop from the list of all stops, where those that are done are folded away."""
+    at.browser.press("All stops")
+    at.browser.script(
+        "document.querySelectorAll('.driver-stops details:not([open]) > summary').forEach((it) => it.click())"
+    )
+    at.browser.press(
+        re.compile(stop), within=at.browser.script("return document.querySelector('.driver-stops')")
+    )
 
 
-def card(at):
+def press(at: Place, name: str) -> None:
+    """Presses a button of the stop, also one that is folded away."""
+
+    def is_shown() -> Any:
+        if not at.browser.all("button", name):
+            at.browser.script(
+                "document.querySelector('.driver-more:not([open]) > summary')?.click()"
+            )
+        return at.browser.all("button", name)
+
+    until(lambda: f"{name!r} is not offered, but {offered(at)}", is_shown)
+    at.browser.press(name)
+
+
+def offered(at: Place) -> Any:
+    """What can be tapped at the stop, seen or folded away."""
+    return at.browser.script(
+        "return [...document.querySelectorAll('.driver-choices button')].map((it) => it.textContent.trim())"
+    )
+
+
+def title(at: Place) -> Any:
+    return at.browser.script(
+        "return document.getElementById('driver-stop-title')?.textContent ?? ''"
+    )
+
+
+def shows_stop(at: Place, stop: str) -> None:
+    """Waits until the card is that of a stop whose heading begins so."""
+    until(
+        lambda: f"the card is that of {title(at)!r}, not {stop}", lambda: title(at).startswith(stop)
+    )
+
+
+def card(at: Place) -> Any:
     return at.browser.text(at.browser.script("return document.querySelector('.driver-stop')"))
 
 
-def next_stop(at):
-    return at.browser.script("return document.querySelector('.driver-row.next')?.innerText.replaceAll('\\n', ' ') ?? ''")
+def next_stop(at: Place) -> Any:
+    return at.browser.script(
+        "return document.querySelector('.driver-row.next')?.innerText.replaceAll('\\n', ' ') ?? ''"
+    )
 
 
-def is_next(at, stop):
-    until(lambda: f"the next stop is {next_stop(at)!r}, not {stop}", lambda: re.search(stop, next_stop(at)))
+def is_next(at: Place, stop: str) -> None:
+    until(
+        lambda: f"the next stop is {next_stop(at)!r}, not {stop}",
+        lambda: re.search(stop, next_stop(at)),
+    )
 
 
-def row(at, stop):
+def row(at: Place, stop: str) -> Any:
     return next(it for it in rows(at) if re.search(stop, it))
 
 
-def rows(at):
-    return at.browser.script("return [...document.querySelectorAll('.driver-row')].map((it) => it.innerText.replaceAll('\\n', ' '))")
+def rows(at: Place) -> Any:
+    return at.browser.script(
+        "return [...document.querySelectorAll('.driver-row')].map((it) => it.innerText.replaceAll('\\n', ' '))"
+    )
 
 
-def tell(at, what, yes):
-    at.browser.press(what)
+def tell(at: Place, what: str, yes: str) -> None:
+    press(at, what)
     at.browser.press(yes)
 
 
-def no_show(at, doubt):
+def no_show(at: Place, doubt: str) -> None:
     """A no-show that is doubtful: it asks once more, and says why."""
-    at.browser.press("No-show")
+    press(at, "No-show")
     at.browser.sees(doubt)
-    at.browser.press("No-show all the same")
+    at.browser.press("Mark as a no-show anyway")
     at.browser.press("Yes: no-show")
 
 
-def moves_to(at, clock, day=TOMORROW):
+def moves_to(at: Place, clock: str, day: str = TOMORROW) -> None:
     """The clock goes on, and the phone hears of it with the next answer of the desk."""
     at.town.set_clock(day, clock)
     at.browser.script("window.dispatchEvent(new Event('online'))")
 
 
-def status(at, trip, day=TOMORROW):
+def status(at: Place, trip: int, day: str = TOMORROW) -> Any:
     lines = at.town.get("dispatcher", f"/days/{day}/trips.csv").splitlines()
     return next(line.split(",")[10] for line in lines if line.startswith(f"{trip},"))
 
 
-def becomes(at, trip, wanted, day=TOMORROW):
-    until(lambda: f"trip {trip} is {status(at, trip, day)}", lambda: status(at, trip, day) == wanted)
+def becomes(at: Place, trip: int, wanted: str, day: str = TOMORROW) -> None:
+    until(
+        lambda: f"trip {trip} is {status(at, trip, day)}", lambda: status(at, trip, day) == wanted
+    )
     same(f"trip {trip}", wanted, status(at, trip, day))
 
 
-def close_tab(at):
+def close_tab(at: Place) -> None:
     """The tab is closed, and a new one is opened."""
     old = at.browser.driver.current_window_handle
     at.browser.driver.switch_to.new_window("tab")
@@ -159,48 +218,65 @@ def close_tab(at):
     at.browser.driver.switch_to.window(new)
 
 
-def kept(at):
+def kept(at: Place) -> Any:
     """What this phone keeps: the log, and the names of the copies."""
     return at.browser.driver.execute_async_script(KEPT)
 
 
-def files_are_kept(at):
-    until("the files are not kept", lambda: "/whole" in at.browser.driver.execute_async_script(FILES)[1])
+def files_are_kept(at: Place) -> None:
+    until(
+        "the files are not kept",
+        lambda: "/whole" in at.browser.driver.execute_async_script(FILES)[1],
+    )
 
 
-def waits(at):
+def waits(at: Place) -> list[Any]:
     return [entry for entry in kept(at)[0] if entry["state"] == "waiting"]
 
 
 @check
-def the_next_days_trips_are_booked(at):
+def the_next_days_trips_are_booked(at: Place) -> None:
     at.town.set_clock(TODAY)
     for rider, wish, start, end in [(1005, 600, 6, 8), (1006, 700, 3, 2)]:
         at.town.book(rider, AFTER, wish, start, end)
-    same("the town's own trips", 13, len(at.town.get("dispatcher", f"/days/{TOMORROW}/trips.csv").splitlines()) - 1)
+    same(
+        "the town's own trips",
+        13,
+        len(at.town.get("dispatcher", f"/days/{TOMORROW}/trips.csv").splitlines()) - 1,
+    )
 
 
 # Of these no outcome comes to the desk: the checks behind them end the day's trips, and a phone then reads on record what it has not tapped.
 
+
 @check
-def signing_out_asks_where_something_waits_and_takes_the_copies_away(at):
+def signing_out_asks_where_something_waits_and_takes_the_copies_away(at: Place) -> None:
     at.browser.fresh()
     sign_in(at, "06:00")
     with at.browser.no_line(at.town):
         press_stop(at, "4:16 PM Pick up Samuel Grant")
-        tell(at, "We missed this pickup", "Yes: we missed it")
-        at.browser.sees("waits to be sent")
+        tell(at, "We missed it", "Yes: we missed it")
+        at.browser.sees("is waiting to be sent", "Marked missed by us. Next: ")
         at.browser.press("Sign out")
-        at.browser.sees("Sign out while 1 outcome waits to be sent?", "sent when you sign in here again with the same key")
+        at.browser.sees(
+            "Sign out while 1 outcome is waiting to be sent?",
+            "sent when you sign in here again with the same key",
+        )
         at.browser.press("Stay signed in")
         at.browser.sees("All stops")
         holds("the copies are there", "manifest 1 2025-03-11" in kept(at)[1])
         at.browser.press("Sign out")
-        at.browser.press("Sign out", within=at.browser.script("return document.querySelector('dialog')"))
+        at.browser.press(
+            "Sign out", within=at.browser.script("return document.querySelector('dialog')")
+        )
         at.browser.find("button", "Sign in")
         entries, copies = kept(at)
         same("copies after signing out", [], copies)
-        same("what waits after signing out", 1, len([it for it in entries if it["state"] == "waiting"]))
+        same(
+            "what waits after signing out",
+            1,
+            len([it for it in entries if it["state"] == "waiting"]),
+        )
         at.browser.fill("Key", at.keys["driver 1"])
         at.browser.press("Sign in")
         at.browser.sees("does not answer")
@@ -210,7 +286,7 @@ def signing_out_asks_where_something_waits_and_takes_the_copies_away(at):
 
 
 @check
-def the_phone_goes_to_the_new_day_by_itself(at):
+def the_phone_goes_to_the_new_day_by_itself(at: Place) -> None:
     at.browser.fresh()
     with at.browser.clock(hurry=20):
         sign_in(at, "23:58")
@@ -218,19 +294,23 @@ def the_phone_goes_to_the_new_day_by_itself(at):
         press_stop(at, "6:17 AM Pick up Rosa")
         at.browser.press("Aboard", within=None)
         at.town.set_clock(AFTER, "00:01")
-        at.browser.sees("A new day has begun: Wednesday, March 12, 2025.", "Pick up Samuel Grant", "St. Mary's Dialysis")
+        at.browser.sees(
+            "A new day has begun: Wednesday, March 12, 2025.", "Samuel Grant", "St. Mary's Dialysis"
+        )
         at.browser.sees("Tue, Mar 11 is not closed: 1 entry needs you.")
         at.browser.press("Show Tue, Mar 11")
         at.browser.sees("This day is over.")
         # (also once the desk's answer is there: the van's files have the names of the new day alone)
         at.browser.settled(1000)
+        at.browser.press("All stops")
         at.browser.sees("Drop off Rosa Álvarez", "12 Oak Street")
+        at.browser.press("Next stop")
         at.browser.press("Today")
-        at.browser.sees("Wednesday, March 12, 2025", "Pick up Samuel Grant")
+        at.browser.sees("Wednesday, March 12, 2025", "Samuel Grant")
 
 
 @check
-def times_of_taps_are_told_the_sites_log_once(at):
+def times_of_taps_are_told_the_sites_log_once(at: Place) -> None:
     at.browser.fresh()
     before = len(tallied(at))
     with at.browser.clock(hurry=20):
@@ -247,11 +327,18 @@ def times_of_taps_are_told_the_sites_log_once(at):
         at.town.set_clock(TOMORROW, "06:23")
         until("nothing is told", lambda: "event=aboard" in "".join(tallied(at)[before:]))
     lines = tallied(at)[before:]
-    same("what was told", ["arrived", "aboard"], [re.search("event=([a-z-]+)", line)[1] for line in lines])
-    holds(f"a line has vehicle, trip and time: {lines[0]}", "vehicle=1&trip=1" in lines[0] and re.search("at=2025-03-11T06(:|%3A)2", lines[0]))
+    same(
+        "what was told",
+        ["arrived", "aboard"],
+        [matched("event=([a-z-]+)", line)[1] for line in lines],
+    )
+    holds(
+        f"a line has vehicle, trip and time: {lines[0]}",
+        "vehicle=1&trip=1" in lines[0] and re.search("at=2025-03-11T06(:|%3A)2", lines[0]),
+    )
 
 
-def taps_of_today(at, vehicle=1):
+def taps_of_today(at: Place, vehicle: int = 1) -> list[Any]:
     """The taps of a van in the file of the day, as its unit makes it now. The site of these checks keeps none: a phone would read it."""
     told = at.town.make_today()["vehicles"].get(str(vehicle), {"taps": []})
     at.town.write_file("staff/today.json", None)
@@ -259,7 +346,7 @@ def taps_of_today(at, vehicle=1):
 
 
 @check
-def a_tap_that_is_undone_once_the_site_has_it_counts_no_more(at):
+def a_tap_that_is_undone_once_the_site_has_it_counts_no_more(at: Place) -> None:
     at.browser.fresh()
     before = taps_of_today(at), len(events(at, "stops"))
     with at.browser.clock(hurry=20):
@@ -274,19 +361,25 @@ def a_tap_that_is_undone_once_the_site_has_it_counts_no_more(at):
         at.browser.press("Undo “arrived”")
         until("nobody is told that it is taken back", lambda: events(at, "undone"))
         at.browser.settled()
-    same("what was taken back", [("1", "1", events(at, "stops")[-1]["at"])], [(it["vehicle"], it["trip"], it["tapped"]) for it in events(at, "undone")])
+    same(
+        "what was taken back",
+        [("1", "1", events(at, "stops")[-1]["at"])],
+        [(it["vehicle"], it["trip"], it["tapped"]) for it in events(at, "undone")],
+    )
     same("the taps of the day", before[0], taps_of_today(at))
 
 
 @check
-def it_is_used_with_one_hand_on_a_small_phone(at):
+def it_is_used_with_one_hand_on_a_small_phone(at: Place) -> None:
     at.browser.fresh()
     sign_in(at, "06:05")
     at.browser.press("Done here")
     for width in [390, 320]:
         with at.browser.screen(width, 700, mobile=True):
-            same(f"targets below 64 pixels at {width}", [], at.browser.script(SMALL))
-            same(f"sideways at {width}", [0, []], at.browser.sideways())
+            for view in ["All stops", "Next stop"]:
+                at.browser.press(view)
+                same(f"targets below 64 pixels at {width}, {view}", [], at.browser.script(SMALL))
+                same(f"sideways at {width}, {view}", [0, []], at.browser.sideways())
             # (without motion no color is on its way from light to dark)
             with at.browser.media(prefers_color_scheme="dark", prefers_reduced_motion="reduce"):
                 same(f"axe at {width}, dark", [], at.browser.axe()["violations"])
@@ -301,7 +394,7 @@ def it_is_used_with_one_hand_on_a_small_phone(at):
 
 
 @check
-def it_is_used_by_keyboard(at):
+def it_is_used_by_keyboard(at: Place) -> None:
     at.browser.fresh()
     sign_in(at, "06:05")
     at.browser.press("Done here")
@@ -316,50 +409,134 @@ def it_is_used_by_keyboard(at):
     same("the focus after the question", "No-show", at.browser.focused())
 
 
+# From now on no time passes on this phone but what the desk's answers tell.
+STOPPED = "const began = Date.now(); Date.now = () => began;"
+
+
 @check
-def an_open_no_show_learns_that_another_phone_has_the_rider(at):
+def a_wrong_aboard_is_undone_where_it_was_pressed(at: Place) -> None:
+    at.browser.fresh()
+    sign_in(at, "06:05")
+    at.browser.script(STOPPED)
+    at.browser.press("Done here")
+    shows_stop(at, "Pick up Rosa Álvarez")
+    at.browser.press("Aboard")
+    shows_stop(at, "Pick up Dorothy O'Neill")
+    at.browser.sees("Marked aboard: Rosa Álvarez.")
+    at.browser.press("Undo “aboard”")
+    shows_stop(at, "Pick up Rosa Álvarez")
+    at.browser.sees_no("Marked aboard: Rosa Álvarez.")
+    until(
+        lambda: f"the focus is on {at.browser.focused()!r} after the undoing",
+        lambda: at.browser.focused() == "Pick up Rosa Álvarez, rider 1001",
+    )
+    # (some seconds later the bar is gone, and the way back is in the stop)
+    at.browser.press("Aboard")
+    shows_stop(at, "Pick up Dorothy O'Neill")
+    at.browser.sees("Marked aboard: Rosa Álvarez.")
+    moves_to(at, "06:05:30")
+    at.browser.sees_no("Marked aboard: Rosa Álvarez.")
+    press(at, "Back to the last stop: Pick up Rosa Álvarez")
+    shows_stop(at, "Pick up Rosa Álvarez")
+    at.browser.press("Undo “aboard”")
+    is_next(at, "Pick up Rosa Álvarez")
+    # (a rider who was not aboard after all, found out at the drop)
+    at.browser.press("Aboard")
+    press_stop(at, "Drop off Rosa Álvarez")
+    press(at, "Undo “aboard”")
+    is_next(at, "Pick up Rosa Álvarez")
+
+
+@check
+def the_depot_asks_for_nothing_once_the_pull_out_was_entered(at: Place) -> None:
+    at.browser.fresh()
+    sign_in(at, "05:40")
+    shows_stop(at, "Leave the depot")
+    at.browser.press("Pull out: enter the odometer")
+    at.browser.fill("Odometer now, in whole miles", "48210")
+    at.browser.press("Save")
+    for _ in range(2):
+        shows_stop(at, "Pick up Rosa Álvarez")
+        is_next(at, "Pick up Rosa Álvarez")
+        same("what the depot asks", [], at.browser.all("button", "Done here"))
+        same(
+            "what the odometer asks",
+            [],
+            at.browser.all("button", "Pull out: enter the odometer"),
+        )
+        at.browser.reload()
+
+
+@check
+def an_open_no_show_learns_that_another_phone_has_the_rider(at: Place) -> None:
     at.browser.fresh()
     sign_in(at, "06:05")
     at.browser.press("Done here")
     at.browser.press("Arrived")
-    at.browser.press("No-show")
+    press(at, "No-show")
     at.browser.sees("Mark Rosa Álvarez, rider 1001 as a no-show?")
-    trip = int(re.search(r"PICK trip (\d+) rider 1001", at.town.get("dispatcher", f"/vehicles/1/manifest/{TOMORROW}"))[1])
-    at.town.write_file("drivers/1/outcomes.json", json.dumps({"outcomes": {}, "taps": {trip: {"kind": "aboard", "minute": 366}}}))
-    at.browser.press("No-show all the same")
+    trip = int(
+        matched(
+            r"PICK trip (\d+) rider 1001",
+            at.town.get("dispatcher", f"/vehicles/1/manifest/{TOMORROW}"),
+        )[1]
+    )
+    at.town.write_file(
+        "drivers/1/outcomes.json",
+        json.dumps({"outcomes": {}, "taps": {trip: {"kind": "aboard", "minute": 366}}}),
+    )
+    at.browser.press("Mark as a no-show anyway")
     at.browser.press("Yes: no-show")
-    at.browser.sees("Another phone has Rosa Álvarez, rider 1001: aboard.", "If you are not sure, call dispatch first.")
+    at.browser.sees(
+        "Another phone has Rosa Álvarez, rider 1001: aboard.",
+        "If you are not sure, call dispatch first.",
+    )
     at.browser.press("No, go back")
-    same("the no-show is not kept", [], [it["tap"]["what"] for it in kept(at)[0] if it["tap"]["what"] == "missed-rider"])
+    same(
+        "the no-show is not kept",
+        [],
+        [it["tap"]["what"] for it in kept(at)[0] if it["tap"]["what"] == "missed-rider"],
+    )
     at.town.write_drivers_files()
 
 
 @check
-def it_is_there_in_spanish(at):
+def it_is_there_in_spanish(at: Place) -> None:
     at.browser.fresh()
     sign_in(at, "06:05")
-    at.browser.fill("Language", "Español")
+    at.browser.switch_to("es")
     at.browser.sees("Próxima parada", "Todas las paradas", "Llamar a la central, 555-0100")
-    at.browser.press("Listo aquí")
-    at.browser.sees("Recoger: Rosa Álvarez", "A bordo", "No se presentó", "Fallamos en esta recogida", "Llegué")
+    at.browser.press("Listo")
+    shows_stop(at, "Recoger a Rosa Álvarez, pasajero 1001")
+    at.browser.press("Más para esta parada")
+    at.browser.sees("A bordo", "No se presentó", "Falla nuestra", "Llegué")
     same("axe", [], at.browser.axe()["violations"])
     at.browser.press("No se presentó")
-    at.browser.sees("¿Marcar que no se presentó? Rosa Álvarez")
+    at.browser.sees("¿No se presentó Rosa Álvarez, pasajero 1001?")
     at.browser.press("Seguir esperando")
-    at.browser.fill("Idioma", "English")
+    at.browser.switch_to("en")
 
 
 @check
-def the_drop_of_a_rider_aboard_is_next_in_its_order(at):
+def the_drop_of_a_rider_aboard_is_next_in_its_order(at: Place) -> None:
     at.browser.fresh()
     sign_in(at)
     at.browser.press("Done here")
-    at.browser.sees("Pick up Rosa Álvarez, rider 1001", "Pickup window\n5:49", "1 person", "speaks Spanish")
+    shows_stop(at, "Pick up Rosa Álvarez, rider 1001")
+    at.browser.sees("Pickup window", "1 person", "speaks Spanish")
+    largest = at.browser.script(
+        """const size = (it) => parseFloat(getComputedStyle(it).fontSize);
+        return [...document.querySelectorAll('.driver-stop *')].filter((it) => it.children.length === 0).sort((a, b) => size(b) - size(a))[0].textContent"""
+    )
+    holds(f"the largest line is the window: {largest}", largest.startswith("5:49"))
     at.browser.press("Aboard")
-    at.browser.sees("Pick up Dorothy O'Neill, rider 1002")
-    until(lambda: f"the focus is on {at.browser.focused()!r} after a tap", lambda: at.browser.focused() == "Pick up Dorothy O'Neill, rider 1002")
+    shows_stop(at, "Pick up Dorothy O'Neill, rider 1002")
+    until(
+        lambda: f"the focus is on {at.browser.focused()!r} after a tap",
+        lambda: at.browser.focused() == "Pick up Dorothy O'Neill, rider 1002",
+    )
     at.browser.press("Aboard")
-    at.browser.sees("Drop off Dorothy O'Neill, rider 1002")
+    shows_stop(at, "Drop off Dorothy O'Neill, rider 1002")
     tell(at, "Dropped off", "No, go back")
     same("an outcome that was not said yes to", "booked", status(at, 2))
     tell(at, "Dropped off", "Yes: dropped off")
@@ -367,40 +544,55 @@ def the_drop_of_a_rider_aboard_is_next_in_its_order(at):
     at.browser.sees("General Hospital", "door of the day clinic")
     becomes(at, 2, "ridden")
     same("the first rider", "booked", status(at, 1))
-    holds(f"aboard and ridden are shown: {rows(at)[:5]}", "aboard" in rows(at)[1] and "dropped off" in rows(at)[3])
+    holds(
+        f"aboard and ridden are shown: {rows(at)[:5]}",
+        "aboard" in rows(at)[1] and "dropped off" in rows(at)[3],
+    )
     tell(at, "Dropped off", "Yes: dropped off")
     becomes(at, 1, "ridden")
     same("stops that are shown", 28, len(rows(at)))
 
 
 @check
-def a_pickup_that_was_not_tapped_is_told_at_the_drop(at):
+def a_pickup_that_was_not_tapped_is_told_at_the_drop(at: Place) -> None:
     begin(at, "07:20", "7:26 AM Pick up Henry Park")
-    at.browser.press("Skip to next stop")
-    at.browser.sees("Drop off Henry Park")
-    for name in ["Dropped off", "No-show", "We missed this pickup"]:
+    press(at, "Skip to next stop")
+    shows_stop(at, "Drop off Henry Park")
+    for name in ["Dropped off", "No-show", "We missed it"]:
         at.browser.find("button", name)
     tell(at, "Dropped off", "Yes: dropped off")
     becomes(at, 3, "ridden")
 
 
 @check
-def the_wait_is_the_agencys_and_begins_with_the_promised_time(at):
+def the_wait_is_the_agencys_and_begins_with_the_promised_time(at: Place) -> None:
     with at.browser.clock(hurry=20):
         begin(at, "08:10", "8:19 AM Pick up Lucille Baker")
-        at.browser.sees("2 people, 1 in a wheelchair", "ramp needed", "tap “Arrived” and wait 5 minutes", "in 9 minutes")
+        at.browser.sees("2 people, 1 in a wheelchair", "ramp needed", "in 9 minutes")
+        at.browser.press("More for this stop")
+        at.browser.sees("tap “Arrived” and wait 5 minutes")
         at.browser.press("Arrived")
         at.browser.sees("Your 5-minute wait starts at 8:19 AM", "Arrived at 8:10 AM.")
-        at.browser.press("No-show")
+        press(at, "No-show")
         at.browser.sees("The pickup window has not opened.")
         at.browser.press("Keep waiting")
         at.town.set_clock(TOMORROW, "08:21")
-        at.browser.sees("Wait 2:", "2 minutes late")
-        at.browser.press("No-show")
+        at.browser.sees("Wait until 8:24 AM", "2 minutes ago")
+        timer, waited, whole = at.browser.script(
+            """const [timer, meter] = [document.querySelector('[role=timer]'), document.querySelector('.meter progress')];
+            return [timer.textContent, meter.value, meter.max]"""
+        )
+        holds(
+            f"the wait is a clock: {timer}, {waited} of {whole} seconds",
+            re.fullmatch(r"[23]:\d\d", timer) and 120 <= waited <= 180 and whole == 300,
+        )
+        press(at, "No-show")
         at.browser.sees("The 5-minute wait is not over.", "You arrived\n8:10 AM", "2 of 5 min")
         same("what has the focus", "Keep waiting", at.browser.focused())
-        at.browser.press("No-show all the same")
-        at.browser.sees("It counts as a no-show of the rider.", "You can undo it for 60 seconds.")
+        at.browser.press("Mark as a no-show anyway")
+        at.browser.sees(
+            "It counts as a no-show against the rider.", "You can undo this for 60 seconds."
+        )
         at.browser.press("No, go back")
         at.town.set_clock(TOMORROW, "08:25")
         at.browser.sees("The 5-minute wait is over.")
@@ -411,35 +603,51 @@ def the_wait_is_the_agencys_and_begins_with_the_promised_time(at):
         moves_to(at, "08:27")
         becomes(at, 4, "missed-rider")
     at.browser.sees_no("It is sent in")
-    holds(f"the drop stays in the list: {rows(at)[7:9]}", "no-show" in row(at, "Drop off Lucille.*88 Pine Road"))
+    holds(
+        f"the drop stays in the list: {rows(at)[7:9]}",
+        "no-show" in row(at, "Drop off Lucille.*88 Pine Road"),
+    )
 
 
 @check
-def two_outcomes_without_a_line_are_done_once_after_a_reload(at):
+def two_outcomes_without_a_line_are_done_once_after_a_reload(at: Place) -> None:
     begin(at, "09:10", "9:12 AM Pick up Samuel Grant")
     files_are_kept(at)
     at.town.middle.writes()
     with at.browser.no_line(at.town):
         at.browser.press("Aboard")
         tell(at, "Dropped off", "Yes: dropped off")
-        at.browser.sees("Pick up Ana María Núñez")
-        tell(at, "We missed this pickup", "Yes: we missed it")
-        at.browser.sees("2 outcomes wait to be sent")
-        holds(f"they wait where they belong: {rows(at)[10:12]}", all("waiting" in it for it in rows(at)[10:12]))
+        shows_stop(at, "Pick up Ana María Núñez")
+        tell(at, "We missed it", "Yes: we missed it")
+        at.browser.sees("2 outcomes are waiting to be sent")
+        holds(
+            f"they wait where they belong: {rows(at)[10:12]}",
+            all("waiting" in it for it in rows(at)[10:12]),
+        )
         at.browser.reload()
-        at.browser.sees("You’re offline", "loaded", "2 outcomes wait to be sent", "Pick up Walter Hughes")
+        at.browser.sees(
+            "You’re offline", "loaded", "2 outcomes are waiting to be sent", "Walter Hughes"
+        )
+        shows_stop(at, "Pick up Walter Hughes")
         at.browser.sees("General Hospital", "Call dispatch, 555-0100")
-        holds(f"they wait after a reload: {rows(at)[10:12]}", all("waiting" in it for it in rows(at)[10:12]))
+        holds(
+            f"they wait after a reload: {rows(at)[10:12]}",
+            all("waiting" in it for it in rows(at)[10:12]),
+        )
     becomes(at, 5, "ridden")
     becomes(at, 6, "missed-operator")
     at.browser.sees_no("to be sent")
-    same("the writes that the desk got", ["/trips/5/outcome", "/trips/6/outcome"], [it for it in at.town.middle.writes() if "outcome" in it])
+    same(
+        "the writes that the desk got",
+        ["/trips/5/outcome", "/trips/6/outcome"],
+        [it for it in at.town.middle.writes() if "outcome" in it],
+    )
     until("nothing waits", lambda: not waits(at))
     same("what waits", [], waits(at))
 
 
 @check
-def what_waits_can_be_taken_back(at):
+def what_waits_can_be_taken_back(at: Place) -> None:
     begin(at, "10:50", "10:58 AM Pick up Walter Hughes")
     at.browser.press("Aboard")
     is_next(at, "Drop off Walter Hughes")
@@ -448,7 +656,7 @@ def what_waits_can_be_taken_back(at):
     is_next(at, "Pick up Walter Hughes")
     at.town.middle.writes()
     with at.browser.no_line(at.town):
-        tell(at, "We missed this pickup", "Yes: we missed it")
+        tell(at, "We missed it", "Yes: we missed it")
         until("it waits", lambda: "missed by us, waiting" in row(at, "Pick up Walter Hughes"))
         press_stop(at, "Pick up Walter Hughes")
         at.browser.press("Undo “missed by us”")
@@ -461,62 +669,84 @@ def what_waits_can_be_taken_back(at):
 
 
 @check
-def a_denial_is_shown_at_its_stop_and_never_lost(at):
+def a_denial_is_shown_at_its_stop_and_never_lost(at: Place) -> None:
     begin(at, "10:55", "10:58 AM Pick up Walter Hughes")
     with at.browser.no_line(at.town):
-        tell(at, "We missed this pickup", "Yes: we missed it")
-        at.browser.sees("1 outcome waits to be sent")
+        tell(at, "We missed it", "Yes: we missed it")
+        at.browser.sees("1 outcome is waiting to be sent")
     pause(0)
     at.town.post("dispatcher", "/trips/8/outcome", {"outcome": "missed-rider"})
     becomes(at, 7, "missed-operator")
     is_next(at, "Pick up Visitor Ellen Stone")
-    tell(at, "We missed this pickup", "Yes: we missed it")
-    at.browser.sees("The desk did not take “missed by us”.", "Somebody else entered how this trip ended", "call dispatch now")
+    tell(at, "We missed it", "Yes: we missed it")
+    at.browser.sees(
+        "The desk did not take “missed by us”.",
+        "Somebody else entered how this trip ended",
+        "call dispatch now",
+    )
     at.browser.sees_no("Nothing has to be done")
     denied = at.browser.script("return document.querySelector('.driver-denied')")
-    same("the call", "tel:5550100", at.browser.find("link", "Call dispatch, 555-0100", within=denied).get_attribute("href"))
-    holds(f"it is shown at its stop: {row(at, 'Pick up Visitor')}", "missed by us: denied" in row(at, "Pick up Visitor"))
+    same(
+        "the call",
+        "tel:5550100",
+        at.browser.find("link", "Call dispatch, 555-0100", within=denied).get_attribute("href"),
+    )
+    holds(
+        f"it is shown at its stop: {row(at, 'Pick up Visitor')}",
+        "missed by us: denied" in row(at, "Pick up Visitor"),
+    )
     at.browser.reload()
     at.browser.sees("The desk did not take “missed by us”.")
     at.browser.press("Open this stop")
     at.browser.sees("Not taken by the desk: missed by us.")
-    holds("nothing is offered that is sure to be denied", not at.browser.all("button", "We missed this pickup"))
+    same(
+        "what is offered that is sure to be denied",
+        [],
+        [it for it in offered(at) if it in ("No-show", "We missed it", "Dropped off", "Aboard")],
+    )
     at.browser.press("I have read this")
     at.browser.sees_no("The desk did not take")
-    holds(f"the list still has it: {row(at, 'Pick up Visitor')}", "missed by us: denied" in row(at, "Pick up Visitor"))
+    holds(
+        f"the list still has it: {row(at, 'Pick up Visitor')}",
+        "missed by us: denied" in row(at, "Pick up Visitor"),
+    )
     same("the trip", "missed-rider", status(at, 8))
 
 
 @check
-def a_reply_that_is_lost_does_nothing_twice(at):
+def a_reply_that_is_lost_does_nothing_twice(at: Place) -> None:
     begin(at, "12:40", "12:44 PM Pick up Rosa Álvarez")
     at.town.middle.writes()
     at.town.middle.breaks(UNHEARD)
-    tell(at, "We missed this pickup", "Yes: we missed it")
+    tell(at, "We missed it", "Yes: we missed it")
     until("nothing waits any more", lambda: not waits(at) and len(kept(at)[0]) > 3)
     same("the trip", "missed-operator", status(at, 9))
     # (with another number the desk would not know it again, and deny it as told before)
-    same("what the phone says of it", ("done", None), tuple(kept(at)[0][-1][it] for it in ("state", "denied")))
+    same(
+        "what the phone says of it",
+        ("done", None),
+        tuple(kept(at)[0][-1][it] for it in ("state", "denied")),
+    )
     same("the writes that the desk got", ["/trips/9/outcome"] * 2, at.town.middle.writes())
 
 
 @check
-def another_device_with_a_higher_number_is_in_nobodys_way(at):
+def another_device_with_a_higher_number_is_in_nobodys_way(at: Place) -> None:
     begin(at, "13:30", "1:37 PM Pick up Dorothy")
     at.town.number += 3_000_000
     at.town.post("driver 1", "/trips/11/outcome", {"outcome": "missed-operator"})
-    tell(at, "We missed this pickup", "Yes: we missed it")
+    tell(at, "We missed it", "Yes: we missed it")
     becomes(at, 10, "missed-operator")
     until("nothing waits", lambda: not waits(at))
     at.browser.sees_no("The desk did not take")
 
 
 @check
-def a_closed_tab_sends_when_the_same_key_is_back_and_no_other_key_sees_it(at):
+def a_closed_tab_sends_when_the_same_key_is_back_and_no_other_key_sees_it(at: Place) -> None:
     begin(at, "15:20", "3:23 PM Pick up Lucille Baker")
     with at.browser.no_line(at.town):
-        tell(at, "We missed this pickup", "Yes: we missed it")
-        at.browser.sees("1 outcome waits to be sent")
+        tell(at, "We missed it", "Yes: we missed it")
+        at.browser.sees("1 outcome is waiting to be sent")
         close_tab(at)
     at.browser.sign_in(at.keys["dispatcher"], "driver")
     show_manifest(at)
@@ -528,11 +758,14 @@ def a_closed_tab_sends_when_the_same_key_is_back_and_no_other_key_sees_it(at):
     at.browser.sign_in(at.keys["driver 1"], "driver")
     at.browser.sees("All stops")
     becomes(at, 12, "missed-operator")
-    holds(f"the list has it: {row(at, '3:23 PM Pick up')}", "missed by us" in row(at, "3:23 PM Pick up"))
+    holds(
+        f"the list has it: {row(at, '3:23 PM Pick up')}",
+        "missed by us" in row(at, "3:23 PM Pick up"),
+    )
 
 
 @check
-def without_a_line_the_same_key_signs_in_to_its_copy_and_no_other_key_does(at):
+def without_a_line_the_same_key_signs_in_to_its_copy_and_no_other_key_does(at: Place) -> None:
     begin(at, "16:10", "4:16 PM Pick up Samuel Grant")
     with at.browser.no_line(at.town):
         at.browser.driver.get("about:blank")
@@ -541,7 +774,7 @@ def without_a_line_the_same_key_signs_in_to_its_copy_and_no_other_key_does(at):
         at.browser.reload()
         at.browser.fill("Key", at.keys["driver 1"])
         at.browser.press("Sign in")
-        at.browser.sees("You’re offline", "All stops", "Pick up Samuel Grant")
+        at.browser.sees("You’re offline", "All stops", "Samuel Grant")
         at.browser.script("sessionStorage.clear()")
         at.browser.reload()
         at.browser.fill("Key", at.keys["clerk"])
@@ -551,37 +784,43 @@ def without_a_line_the_same_key_signs_in_to_its_copy_and_no_other_key_does(at):
 
 
 @check
-def a_phone_without_room_says_so_and_does_not_show_it_as_kept(at):
+def a_phone_without_room_says_so_and_does_not_show_it_as_kept(at: Place) -> None:
     begin(at, "16:10", "4:16 PM Pick up Samuel Grant")
     at.browser.script(FULL)
     with at.browser.no_line(at.town):
-        tell(at, "We missed this pickup", "Yes: we missed it")
-        at.browser.sees("This phone has no room to keep this outcome. It is not kept, and it was not sent.")
+        tell(at, "We missed it", "Yes: we missed it")
+        at.browser.sees(
+            "This phone has no room to keep this outcome. It is not kept, and it was not sent."
+        )
         is_next(at, "4:16 PM Pick up Samuel Grant")
         holds("it is shown as kept", "waiting" not in " ".join(rows(at)))
     same("the trip", "booked", status(at, 13))
     at.browser.press("Aboard")
-    at.browser.sees("It is forgotten when this page is closed.", "Drop off Samuel Grant")
+    at.browser.sees("It is forgotten when this page is closed.", "Samuel Grant")
+    shows_stop(at, "Drop off Samuel Grant")
     tell(at, "Dropped off", "Yes: dropped off")
     becomes(at, 13, "ridden")
     is_next(at, "Back at the depot")
 
 
 @check
-def a_browser_without_a_database_says_so(at):
+def a_browser_without_a_database_says_so(at: Place) -> None:
     at.browser.fresh()
-    made = at.browser.devtools("Page.addScriptToEvaluateOnNewDocument", source="Object.defineProperty(window, 'indexedDB', { value: undefined });")
+    made = at.browser.devtools(
+        "Page.addScriptToEvaluateOnNewDocument",
+        source="Object.defineProperty(window, 'indexedDB', { value: undefined });",
+    )
     sign_in(at, "10:00", AFTER)
     at.browser.press("Done here")
     at.browser.sees("It is forgotten when this page is closed.")
     with at.browser.no_line(at.town):
-        tell(at, "We missed this pickup", "Yes: we missed it")
+        tell(at, "We missed it", "Yes: we missed it")
         at.browser.sees("This phone has no room to keep this outcome.")
     at.browser.devtools("Page.removeScriptToEvaluateOnNewDocument", identifier=made["identifier"])
 
 
 @check
-def two_windows_use_one_queue_and_no_number_twice(at):
+def two_windows_use_one_queue_and_no_number_twice(at: Place) -> None:
     at.browser.fresh()
     sign_in(at, "09:50", AFTER)
     press_stop(at, "Pick up Samuel Grant")
@@ -592,60 +831,86 @@ def two_windows_use_one_queue_and_no_number_twice(at):
             for window in [second, first]:
                 window()
                 at.browser.devtools("Page.bringToFront")
-                tell(at, "We missed this pickup", "Yes: we missed it")
-            at.browser.sees("2 outcomes wait to be sent")
+                tell(at, "We missed it", "Yes: we missed it")
+            at.browser.sees("2 outcomes are waiting to be sent")
             at.browser.driver.execute_async_script(AHEAD)
         until("something waits", lambda: not waits(at))
         numbers = [entry["write"]["number"] for entry in kept(at)[0] if entry["write"]]
-        holds(f"each has its number, and they rise: {numbers}", len(set(numbers)) == 2 and numbers == sorted(numbers))
+        holds(
+            f"each has its number, and they rise: {numbers}",
+            len(set(numbers)) == 2 and numbers == sorted(numbers),
+        )
     for trip in [14, 15]:
         same(f"trip {trip}", "missed-operator", status(at, trip, AFTER))
 
 
 @check
-def tomorrow_can_be_read_and_nothing_is_told_there(at):
+def tomorrow_can_be_read_and_nothing_is_told_there(at: Place) -> None:
     at.browser.fresh()
     sign_in(at, "12:00")
     at.browser.press("Tomorrow")
-    at.browser.sees("Wednesday, March 12, 2025", "This is a later day.", "Pick up Samuel Grant")
+    at.browser.sees("Wednesday, March 12, 2025", "This is a later day.")
     for name in ["Done here", "Aboard", "Dropped off", "No-show"]:
-        holds(f"{name} is offered for tomorrow", not at.browser.all("button", name))
+        holds(f"{name} is offered for tomorrow", name not in offered(at))
+    # (what came of them is on record already, and then they are no next stops)
+    at.browser.press("All stops")
+    at.browser.sees("Samuel Grant")
+    at.browser.press("Next stop")
     at.browser.press("Today")
     at.browser.sees("Tuesday, March 11, 2025", "Leave the depot")
 
 
 @check
-def a_phone_whose_clock_is_wrong_has_the_servers_day(at):
+def a_phone_whose_clock_is_wrong_has_the_servers_day(at: Place) -> None:
     at.browser.fresh()
     with at.browser.clock(seconds=400_000):
         sign_in(at, "06:05")
-        at.browser.sees("Tuesday, March 11, 2025", "5 minutes late")
+        at.browser.sees("Tuesday, March 11, 2025", "5 minutes ago")
         files_are_kept(at)
         with at.browser.no_line(at.town):
             at.browser.reload()
-            at.browser.sees("You’re offline", "Tuesday, March 11, 2025", "late")
+            at.browser.sees("You’re offline", "Tuesday, March 11, 2025", "ago")
 
 
 @check
-def the_place_is_in_the_phones_own_map_and_dispatch_is_a_call_away(at):
+def the_place_is_in_the_phones_own_map_and_dispatch_is_a_call_away(at: Place) -> None:
     at.browser.fresh()
     from people import agency_file
-    places = [{**it, "latitude": 42.5, "longitude": -73.25} if it["id"] == 9 else it for it in agency_file(1)["places"]]
+
+    places = [
+        {**it, "latitude": 42.5, "longitude": -73.25} if it["id"] == 9 else it
+        for it in agency_file(1)["places"]
+    ]
     at.town.write_files(places=places)
     sign_in(at, "06:05")
     at.browser.requests()
     press_stop(at, "Pick up Dorothy.*Senior Center")
     link = at.browser.find("link", "Directions to Senior Center").get_attribute("href")
     holds(f"the address of a place: {link}", "42.5" in link and "-73.25" in link)
-    same("the telephone", "tel:5550100", at.browser.find("link", "Call dispatch, 555-0100").get_attribute("href"))
+    same(
+        "the telephone",
+        "tel:5550100",
+        at.browser.find("link", "Call dispatch, 555-0100").get_attribute("href"),
+    )
     press_stop(at, "7:26 AM Pick up Henry")
-    holds("a place without coordinates has a map", not at.browser.all("link", re.compile("Directions")))
-    same("what is asked elsewhere", [], [it for it in at.browser.requests() if it.startswith("http") and not it.startswith(at.town.origin)])
+    holds(
+        "a place without coordinates has a map",
+        not at.browser.all("link", re.compile("Directions")),
+    )
+    same(
+        "what is asked elsewhere",
+        [],
+        [
+            it
+            for it in at.browser.requests()
+            if it.startswith("http") and not it.startswith(at.town.origin)
+        ],
+    )
     at.town.write_files()
 
 
 @check
-def a_driver_finds_private_places_where_the_site_has_the_file(at):
+def a_driver_finds_private_places_where_the_site_has_the_file(at: Place) -> None:
     at.browser.fresh()
     sign_in(at, "06:05")
     press_stop(at, "6:17 AM Pick up Rosa")
@@ -662,14 +927,14 @@ def a_driver_finds_private_places_where_the_site_has_the_file(at):
 
 
 @check
-def a_fare_is_shown_to_a_key_that_may_know_it(at):
+def a_fare_is_shown_to_a_key_that_may_know_it(at: Place) -> None:
     at.browser.fresh()
     sign_in(at, "06:05", holder="dispatcher")
     press_stop(at, "7:26 AM Pick up Henry")
     at.browser.sees("Fare due: $")
 
 
-def tallied(at):
+def tallied(at: Place) -> list[Any]:
     """What the site's log has of stops."""
     try:
         with open(f"{at.folder}/tally.log", encoding="utf-8") as log:
@@ -679,12 +944,13 @@ def tallied(at):
 
 
 @check
-def a_manifest_that_changes_says_what_is_gone(at):
+def a_manifest_that_changes_says_what_is_gone(at: Place) -> None:
     at.browser.fresh()
     at.town.set_clock(TOMORROW, "01:00")
     trip = at.town.book(1005, AFTER, 900, 7, 2)
     with at.browser.clock(hurry=20):
         sign_in(at, "09:00", AFTER)
+        at.browser.press("All stops")
         at.browser.sees("Public Library")
         at.town.post("clerk", f"/trips/{trip}/cancel", {})
         at.browser.sees("These stops are not in it any more")
@@ -693,17 +959,36 @@ def a_manifest_that_changes_says_what_is_gone(at):
 
 
 @check
-def the_files_are_the_sites_with_a_line_and_the_kept_ones_without(at):
+def the_files_are_the_sites_with_a_line_and_the_kept_ones_without(at: Place) -> None:
     at.browser.fresh()
     sign_in(at, "06:05")
     files_are_kept(at)
     names, paths = at.browser.driver.execute_async_script(FILES)
     same("sets of files", 1, len([it for it in names if it.startswith("desk-pages-")]))
-    strange = [it for it in paths if not re.search(r"\.(js|css|svg)$", it) and it not in ("/", "/whole", "/agency.json")]
+    strange = [
+        it
+        for it in paths
+        if not re.search(r"\.(js|css|svg)$", it) and it not in ("/", "/whole", "/agency.json")
+    ]
     same("what is kept beside the files of the pages", [], strange)
-    for path in ["/", "/parts/main.js", "/css/driver.css", "/words/en/driver.js", "/words/es/driver.js"]:
+    for path in [
+        "/",
+        "/parts/main.js",
+        "/css/phone.css",
+        "/css/driver.css",
+        "/words/en/driver.js",
+        "/words/es/driver.js",
+    ]:
         holds(f"{path} is kept", path in paths)
-    same("styles of other screens that are kept", [], [it for it in paths if it.startswith("/css/") and it != "/css/driver.css"])
+    same(
+        "styles of other screens that are kept",
+        [],
+        [
+            it
+            for it in paths
+            if it.startswith("/css/") and it not in ("/css/phone.css", "/css/driver.css")
+        ],
+    )
     at.browser.driver.execute_async_script(STALE)
     at.browser.reload()
     at.browser.sees("All stops")
@@ -717,8 +1002,15 @@ def the_files_are_the_sites_with_a_line_and_the_kept_ones_without(at):
 
 # A day of its own for what goes wrong: each check has a trip of it.
 BAD_DAY, GRANT, NUNEZ, HUGHES, ALVAREZ, ONEILL = "2025-03-13", 1005, 1006, 1007, 1001, 1002
-WISHES = [(GRANT, 500, 6, 8), (NUNEZ, 560, 3, 2), (HUGHES, 620, 9, 8), (ALVAREZ, 700, 11, 2), (ONEILL, 760, 12, 6), (GRANT, 840, 8, 6)]
-BOOKED = {}
+WISHES = [
+    (GRANT, 500, 6, 8),
+    (NUNEZ, 560, 3, 2),
+    (HUGHES, 620, 9, 8),
+    (ALVAREZ, 700, 11, 2),
+    (ONEILL, 760, 12, 6),
+    (GRANT, 840, 8, 6),
+]
+BOOKED: dict[int, int] = {}
 EVERYTHING = """
 const done = arguments[0];
 (async () => {
@@ -737,15 +1029,17 @@ const done = arguments[0];
     done(all.join("\\n"));
 })();
 """
-NAMES = re.compile("Álvarez|O'Neill|Samuel Grant|Núñez|Hughes|12 Oak Street|gate code|speaks Spanish|hard of hearing|VEHICLE 1")
+NAMES = re.compile(
+    "Álvarez|O'Neill|Samuel Grant|Núñez|Hughes|12 Oak Street|gate code|speaks Spanish|hard of hearing|VEHICLE 1"
+)
 
 
-def names_here(at):
+def names_here(at: Place) -> list[Any]:
     """The names, notes and manifests that are anywhere on this phone."""
     return sorted(set(NAMES.findall(at.browser.driver.execute_async_script(EVERYTHING))))
 
 
-def events(at, kind):
+def events(at: Place, kind: str) -> list[Any]:
     """What the site's log has of a kind of event, as its fields."""
     try:
         with open(f"{at.folder}/tally.log", encoding="utf-8") as log:
@@ -755,33 +1049,49 @@ def events(at, kind):
     return [dict(urllib.parse.parse_qsl(it[2])) for it in parts if it[1] == f"/tally/{kind}"]
 
 
-def put_key(at, key):
+def put_key(at: Place, key: str) -> None:
     """The admin gives driver 1 another key, by another device that the line of this phone does not matter to."""
     at.town.number += 1_000
-    fields = {"id": 101, "role": "driver", "subject": 1, "digest": hashlib.sha256(key.encode()).hexdigest()}
+    fields = {
+        "id": 101,
+        "role": "driver",
+        "subject": 1,
+        "digest": hashlib.sha256(key.encode()).hexdigest(),
+    }
     reply = at.town.desk.ask("POST", "/callers", at.keys["admin"], at.town.number, fields)
     holds(f"the key is put: {reply}", "denied" not in reply)
 
 
-def begin_bad(at, clock, index):
+def begin_bad(at: Place, clock: str, index: int) -> Any:
     """A phone whose next stop is the pickup of one of the trips of the bad day; the trip's number."""
     if not BOOKED:
         at.town.set_clock(AFTER, "12:00")
-        BOOKED.update({at_: at.town.book(rider, BAD_DAY, wish, start, end) for at_, (rider, wish, start, end) in enumerate(WISHES)})
+        BOOKED.update(
+            {
+                at_: at.town.book(rider, BAD_DAY, wish, start, end)
+                for at_, (rider, wish, start, end) in enumerate(WISHES)
+            }
+        )
     at.browser.fresh()
     sign_in(at, clock, BAD_DAY)
     name = f"stop-PICK-{BOOKED[index]}"
-    until(f"there is no {name}", lambda: at.browser.script("return Boolean(document.getElementById(arguments[0]))", name))
+    until(
+        f"there is no {name}",
+        lambda: at.browser.script("return Boolean(document.getElementById(arguments[0]))", name),
+    )
     at.browser.script("document.getElementById(arguments[0]).click()", name)
     if at.browser.all("button", "This is my next stop"):
         at.browser.press("This is my next stop")
         at.browser.press("Yes: go on from here")
-    until(f"{name} is not next", lambda: at.browser.script("return document.querySelector('.driver-row.next')?.id") == name)
+    until(
+        f"{name} is not next",
+        lambda: at.browser.script("return document.querySelector('.driver-row.next')?.id") == name,
+    )
     return BOOKED[index]
 
 
 @check
-def a_key_that_was_replaced_takes_all_names_off_the_phone(at):
+def a_key_that_was_replaced_takes_all_names_off_the_phone(at: Place) -> None:
     trip = begin_bad(at, "08:00", 0)
     files_are_kept(at)
     holds("the phone has names before", len(names_here(at)) > 3)
@@ -789,15 +1099,22 @@ def a_key_that_was_replaced_takes_all_names_off_the_phone(at):
     at.browser.fill("What dispatch has to know", "Mrs. O'Neill asks for a call")
     at.browser.press("Save note")
     with at.browser.no_line(at.town):
-        tell(at, "We missed this pickup", "Yes: we missed it")
-        at.browser.sees("1 outcome waits to be sent")
+        tell(at, "We missed it", "Yes: we missed it")
+        at.browser.sees("1 outcome is waiting to be sent")
         put_key(at, "another key of driver 1")
     try:
-        at.browser.sees("This key was replaced or canceled. 1 outcome was not sent: tell dispatch.", f"Trip {trip}, rider 1005: missed by us, Thu, Mar 13")
+        at.browser.sees(
+            "This key was replaced or canceled. 1 outcome was not sent: tell dispatch.",
+            f"Trip {trip}, rider 1005: missed by us, Thu, Mar 13",
+        )
         at.browser.find("button", "Sign in")
         same("names on the phone", [], names_here(at))
         entries, copies = kept(at)
-        same("what is left", [("waiting", trip)], [(it["state"], it["tap"]["trip"]) for it in entries])
+        same(
+            "what is left",
+            [("waiting", trip)],
+            [(it["state"], it["tap"]["trip"]) for it in entries],
+        )
         same("copies", [], copies)
         at.browser.press("I have told dispatch")
         until("it is forgotten once it was told", lambda: not kept(at)[0])
@@ -816,7 +1133,7 @@ def a_key_that_was_replaced_takes_all_names_off_the_phone(at):
 
 
 @check
-def a_phone_that_only_reads_forgets_all_names_with_its_key(at):
+def a_phone_that_only_reads_forgets_all_names_with_its_key(at: Place) -> None:
     # (nothing waits to be sent: the reading alone has to notice it)
     begin_bad(at, "08:00", 0)
     until("nothing waits", lambda: not waits(at))
@@ -835,7 +1152,9 @@ def a_phone_that_only_reads_forgets_all_names_with_its_key(at):
 
 
 @check
-def without_a_line_the_phone_locks_in_time_and_a_clock_that_is_set_back_does_not_open_it(at):
+def without_a_line_the_phone_locks_in_time_and_a_clock_that_is_set_back_does_not_open_it(
+    at: Place,
+) -> None:
     at.town.write_files(lock_minutes=60)
     try:
         with at.browser.clock(hurry=20):
@@ -843,7 +1162,9 @@ def without_a_line_the_phone_locks_in_time_and_a_clock_that_is_set_back_does_not
             files_are_kept(at)
             with at.browser.no_line(at.town):
                 at.browser.reload()
-                at.browser.sees("You’re offline.", "It stays on screen until 9:0", "Ana María Núñez")
+                at.browser.sees(
+                    "You’re offline.", "They stay on screen until 9:0", "Ana María Núñez"
+                )
                 at.browser.passes(59 * 60)
                 at.browser.settled(500)
                 at.browser.sees("Ana María Núñez")
@@ -854,7 +1175,9 @@ def without_a_line_the_phone_locks_in_time_and_a_clock_that_is_set_back_does_not
                 at.browser.settled(500)
                 same("names once the clock is set back", [], names_here(at))
                 at.browser.reload()
-                at.browser.sees("The clock of this phone was changed, so this phone no longer shows names.")
+                at.browser.sees(
+                    "The clock of this phone was changed, so this phone no longer shows names."
+                )
                 same("names after a reload", [], names_here(at))
             at.browser.sees("Ana María Núñez", "All stops")
             at.browser.sees_no("has not answered", "was changed")
@@ -863,11 +1186,14 @@ def without_a_line_the_phone_locks_in_time_and_a_clock_that_is_set_back_does_not
 
 
 @check
-def manifests_of_days_that_are_over_are_dropped_whoever_opens_the_page(at):
+def manifests_of_days_that_are_over_are_dropped_whoever_opens_the_page(at: Place) -> None:
     begin_bad(at, "08:00", 0)
     at.browser.press("Tomorrow")
     at.browser.sees("Friday, March 14, 2025")
-    until("both days are kept", lambda: {"manifest 1 2025-03-13", "manifest 1 2025-03-14"} <= set(kept(at)[1]))
+    until(
+        "both days are kept",
+        lambda: {"manifest 1 2025-03-13", "manifest 1 2025-03-14"} <= set(kept(at)[1]),
+    )
     at.town.set_clock("2025-03-14", "08:00")
     at.browser.reload()
     at.browser.sees("Friday, March 14, 2025")
@@ -881,19 +1207,25 @@ def manifests_of_days_that_are_over_are_dropped_whoever_opens_the_page(at):
 
 
 @check
-def a_no_show_after_a_late_van_is_asked_about_and_can_be_undone_also_after_a_reload(at):
+def a_no_show_after_a_late_van_is_asked_about_and_can_be_undone_also_after_a_reload(
+    at: Place,
+) -> None:
     before = len(events(at, "no-shows"))
     trip = begin_bad(at, "09:00", 1)
     until("the wait for the window", lambda: "Pickup window" in card(at))
     at.browser.sees("Arrived")
     moves_to(at, "09:58", BAD_DAY)
-    at.browser.sees("The pickup window has closed.")
     at.browser.press("Arrived")
-    at.browser.sees("Arrived at 9:58 AM")
-    big = at.browser.script("return [...document.querySelectorAll('.driver-choices button')].map((it) => [it.innerText, it.offsetWidth * it.offsetHeight])")
+    at.browser.sees("Arrived at 9:58 AM", "The pickup window has closed.")
+    big = at.browser.script(
+        "return [...document.querySelectorAll('.driver-choices button')].map((it) => [it.innerText, it.offsetWidth * it.offsetHeight])"
+    )
     names = [name for name, _ in big]
-    holds(f"our fault comes before a no-show, and is larger: {big}", names.index("We missed this pickup") < names.index("No-show")
-          and dict(big)["We missed this pickup"] > dict(big)["No-show"])
+    holds(
+        f"our fault comes before a no-show, and is larger: {big}",
+        names.index("We missed it") < names.index("No-show")
+        and dict(big)["We missed it"] > dict(big)["No-show"],
+    )
     moves_to(at, "10:05", BAD_DAY)
     at.browser.sees("wait is over")
     no_show(at, "You arrived after the pickup window closed.")
@@ -915,14 +1247,17 @@ def a_no_show_after_a_late_van_is_asked_about_and_can_be_undone_also_after_a_rel
     told = events(at, "no-shows")[before:]
     window = next(it for it in at.town.trips_of(NUNEZ) if it["trip"] == trip)
     same("no-shows of the log", 1, len(told))
-    same("its evidence", (str(trip), "1", str(window["window_from"]), str(window["window_to"]), str(9 * 60 + 58)),
-         tuple(told[0][it] for it in ("trip", "vehicle", "from", "to", "arrived")))
+    same(
+        "its evidence",
+        (str(trip), "1", str(window["window_from"]), str(window["window_to"]), str(9 * 60 + 58)),
+        tuple(told[0][it] for it in ("trip", "vehicle", "from", "to", "arrived")),
+    )
     # (the wait goes on until the yes, on a clock that hurries)
     holds(f"the wait of the evidence: {told[0]['wait']}", int(told[0]["wait"]) >= 7)
 
 
 @check
-def a_second_outcome_of_a_trip_reads_what_is_on_record_and_dispatch_sees_it(at):
+def a_second_outcome_of_a_trip_reads_what_is_on_record_and_dispatch_sees_it(at: Place) -> None:
     before = len(events(at, "disagreements"))
     trip = begin_bad(at, "10:20", 2)
     with at.browser.clock(hurry=20):
@@ -931,41 +1266,70 @@ def a_second_outcome_of_a_trip_reads_what_is_on_record_and_dispatch_sees_it(at):
         # (another phone of the same van)
         at.town.post("driver 1", f"/trips/{trip}/outcome", {"outcome": "missed-rider"})
         moves_to(at, "10:50", BAD_DAY)
-        at.browser.sees("Drop off Walter Hughes")
+        shows_stop(at, "Drop off Walter Hughes")
         # (a phone that reads the record before has no *Dropped off* any more, and one that reads it late tells dispatch that it is unknown)
         with at.browser.no_line(at.town):
             tell(at, "Dropped off", "Yes: dropped off")
             at.town.write_drivers_files()
         moves_to(at, "10:51", BAD_DAY)
-        at.browser.sees("The desk did not take “dropped off”.", "On record: no-show.", "If “dropped off” is right, call dispatch now.")
+        at.browser.sees(
+            "The desk did not take “dropped off”.",
+            "On record: no-show.",
+            "If “dropped off” is right, call dispatch now.",
+        )
         denied = at.browser.script("return document.querySelector('.driver-denied')")
-        same("the call", "tel:5550100", at.browser.find("link", "Call dispatch, 555-0100", within=denied).get_attribute("href"))
+        same(
+            "the call",
+            "tel:5550100",
+            at.browser.find("link", "Call dispatch, 555-0100", within=denied).get_attribute("href"),
+        )
         moves_to(at, "10:52", BAD_DAY)
         until("dispatch does not hear of it", lambda: len(events(at, "disagreements")) > before)
     told = events(at, "disagreements")[before:]
-    same("disagreements", [(str(trip), "missed-rider", "ridden")], [(it["trip"], it["record"], it["told"]) for it in told])
+    same(
+        "disagreements",
+        [(str(trip), "missed-rider", "ridden")],
+        [(it["trip"], it["record"], it["told"]) for it in told],
+    )
 
 
 @check
-def a_driver_who_takes_over_a_van_reads_how_its_trips_ended(at):
+def a_driver_who_takes_over_a_van_reads_how_its_trips_ended(at: Place) -> None:
     begin_bad(at, "09:30", 0)
     at.town.set_clock(BAD_DAY, "11:00")
     rider = next(it["trip"] for it in at.town.trips_of(GRANT) if it["trip"] == BOOKED[0])
     if status(at, rider, BAD_DAY) == "booked":
         at.town.post("driver 1", f"/trips/{rider}/outcome", {"outcome": "ridden"})
-    how = {"ridden": "dropped off", "missed-rider": "no-show", "missed-operator": "missed by us"}[status(at, rider, BAD_DAY)]
+    how = {"ridden": "dropped off", "missed-rider": "no-show", "missed-operator": "missed by us"}[
+        status(at, rider, BAD_DAY)
+    ]
     aboard = {"trip": BOOKED[3], "kind": "aboard", "minute": 640}
-    at.town.write_file("staff/today.json", json.dumps({"day": BAD_DAY, "made": f"{BAD_DAY}T15:00:00Z", "vehicles": {"1": {"taps": [aboard]}}}))
+    at.town.write_file(
+        "staff/today.json",
+        json.dumps(
+            {"day": BAD_DAY, "made": f"{BAD_DAY}T15:00:00Z", "vehicles": {"1": {"taps": [aboard]}}}
+        ),
+    )
     at.town.write_drivers_files()
     try:
         at.browser.fresh()
         sign_in(at, "11:00", BAD_DAY)
-        texts = lambda trip: at.browser.script("return [...document.querySelectorAll(`#stop-PICK-${arguments[0]}, #stop-DROP-${arguments[0]}`)].map((it) => it.querySelector('.driver-state').textContent)", trip)
+        texts: Callable[[int], Any] = lambda trip: at.browser.script(
+            "return [...document.querySelectorAll(`#stop-PICK-${arguments[0]}, #stop-DROP-${arguments[0]}`)].map((it) => it.querySelector('.driver-state').textContent)",
+            trip,
+        )
         until(lambda: f"trip {rider} reads {texts(rider)}", lambda: texts(rider) == [how, how])
-        until(lambda: f"trip {BOOKED[3]} reads {texts(BOOKED[3])}", lambda: texts(BOOKED[3])[0] == "aboard")
+        until(
+            lambda: f"trip {BOOKED[3]} reads {texts(BOOKED[3])}",
+            lambda: texts(BOOKED[3])[0] == "aboard",
+        )
         at.browser.script("document.getElementById(`stop-DROP-${arguments[0]}`).click()", rider)
         at.browser.sees(f"On record: {how}.")
-        same("what is sure to be denied", False, at.browser.is_there("button", "Dropped off"))
+        same(
+            "what is sure to be denied",
+            [],
+            [it for it in offered(at) if it in ("Dropped off", "No-show", "We missed it")],
+        )
         # (also where the driver goes on from a later stop, and without a line)
         at.browser.script("document.getElementById(`stop-DROP-${arguments[0]}`).click()", BOOKED[4])
         at.browser.press("This is my next stop")
@@ -983,22 +1347,36 @@ def a_driver_who_takes_over_a_van_reads_how_its_trips_ended(at):
 
 
 @check
-def a_tap_that_was_taken_back_is_not_read_as_one_of_another_phone(at):
+def a_tap_that_was_taken_back_is_not_read_as_one_of_another_phone(at: Place) -> None:
     trip = begin_bad(at, "13:40", 5)
     # (a phone that has tapped nothing else on this day)
     at.browser.fresh()
     sign_in(at, "13:40", BAD_DAY)
-    state_of = lambda it: at.browser.script("return document.querySelector(`#stop-PICK-${arguments[0]} .driver-state`)?.textContent ?? null", it)
+    state_of: Callable[[int], Any] = lambda it: at.browser.script(
+        "return document.querySelector(`#stop-PICK-${arguments[0]} .driver-state`)?.textContent ?? null",
+        it,
+    )
     for name in ["Aboard", "Undo “aboard”"]:
         at.browser.script("document.getElementById(`stop-PICK-${arguments[0]}`).click()", trip)
         at.browser.press(name)
         at.browser.settled()
-    taps = [{"trip": it, "kind": "aboard", "minute": minute} for it, minute in [(BOOKED[3], 640), (trip, 820)]]
-    at.town.write_file("staff/today.json", json.dumps({"day": BAD_DAY, "made": f"{BAD_DAY}T17:45:00Z", "vehicles": {"1": {"taps": taps}}}))
+    taps = [
+        {"trip": it, "kind": "aboard", "minute": minute}
+        for it, minute in [(BOOKED[3], 640), (trip, 820)]
+    ]
+    at.town.write_file(
+        "staff/today.json",
+        json.dumps(
+            {"day": BAD_DAY, "made": f"{BAD_DAY}T17:45:00Z", "vehicles": {"1": {"taps": taps}}}
+        ),
+    )
     at.town.write_drivers_files()
     try:
         at.browser.reload()
-        until(lambda: f"trip {BOOKED[3]} reads {state_of(BOOKED[3])!r}", lambda: state_of(BOOKED[3]) == "aboard")
+        until(
+            lambda: f"trip {BOOKED[3]} reads {state_of(BOOKED[3])!r}",
+            lambda: state_of(BOOKED[3]) == "aboard",
+        )
         same("what was taken back", "", state_of(trip).replace("next", ""))
         at.browser.script("document.getElementById(`stop-PICK-${arguments[0]}`).click()", trip)
         at.browser.find("button", "Aboard")
@@ -1009,22 +1387,28 @@ def a_tap_that_was_taken_back_is_not_read_as_one_of_another_phone(at):
 
 
 @check
-def no_tap_is_dropped_while_another_is_under_way(at):
+def no_tap_is_dropped_while_another_is_under_way(at: Place) -> None:
     begin_bad(at, "11:35", 3)
     at.browser.find("button", "Arrived")
-    at.browser.script("for (const name of ['Arrived', 'Aboard']) [...document.querySelectorAll('.driver-choices button')].find((it) => it.innerText === name).click()")
+    at.browser.script(
+        "for (const name of ['Arrived', 'Aboard']) [...document.querySelectorAll('.driver-choices button')].find((it) => it.innerText === name).click()"
+    )
     is_next(at, "Drop off Rosa Álvarez")
-    same("the taps", ["arrived", "aboard"], [it["tap"]["what"] for it in kept(at)[0] if it["tap"]["what"] != "left"])
+    same(
+        "the taps",
+        ["arrived", "aboard"],
+        [it["tap"]["what"] for it in kept(at)[0] if it["tap"]["what"] != "left"],
+    )
 
 
 @check
-def notes_and_lateness_are_there_and_the_log_has_the_moment_of_the_tap(at):
+def notes_and_lateness_are_there_and_the_log_has_the_moment_of_the_tap(at: Place) -> None:
     before = len(events(at, "notes"))
     trip = begin_bad(at, "12:30", 4)
     with at.browser.clock(hurry=20):
         at.browser.reload()
         at.browser.sees("Planned")
-        hour, minutes, half = re.search(r"Planned (\d+):(\d+) ([AP])M", card(at)).groups()
+        hour, minutes, half = matched(r"Planned (\d+):(\d+) ([AP])M", card(at)).groups()
         minute = (int(hour) % 12 + 12 * (half == "P")) * 60 + int(minutes) + 11
         moves_to(at, f"{minute // 60:02}:{minute % 60:02}", BAD_DAY)
         at.browser.sees("11 min late")
@@ -1033,19 +1417,26 @@ def notes_and_lateness_are_there_and_the_log_has_the_moment_of_the_tap(at):
         at.browser.sees("now about", "11 min late")
         press_stop(at, "Pick up Dorothy")
         with at.browser.no_line(at.town):
-            at.browser.press("Add a note")
+            press(at, "Add a note")
             at.browser.fill("What dispatch has to know", "left at the side door, señora dijo «sí»")
             at.browser.press("Save note")
             at.browser.sees("left at the side door, señora dijo «sí»")
         moves_to(at, f"{minute // 60 + 2:02}:{minute % 60:02}", BAD_DAY)
         until("the note is not told", lambda: len(events(at, "notes")) > before)
     told = events(at, "notes")[-1]
-    same("the note", (str(trip), "1", "left at the side door, señora dijo «sí»"), tuple(told[it] for it in ("trip", "vehicle", "text")))
-    holds(f"it has its own moment: {told['at']}", told["at"].startswith(f"{BAD_DAY}T{minute // 60:02}:{minute % 60:02}"))
+    same(
+        "the note",
+        (str(trip), "1", "left at the side door, señora dijo «sí»"),
+        tuple(told[it] for it in ("trip", "vehicle", "text")),
+    )
+    holds(
+        f"it has its own moment: {told['at']}",
+        told["at"].startswith(f"{BAD_DAY}T{minute // 60:02}:{minute % 60:02}"),
+    )
 
 
 @check
-def a_drivers_files_hold_the_riders_and_places_of_the_own_stops_alone(at):
+def a_drivers_files_hold_the_riders_and_places_of_the_own_stops_alone(at: Place) -> None:
     at.town.set_clock(BAD_DAY, "12:00")
     key = {"Desk-Key": at.keys["driver 1"]}
     _, _, roster = at.town.answer("/drivers/1/roster.csv", key)
@@ -1053,11 +1444,13 @@ def a_drivers_files_hold_the_riders_and_places_of_the_own_stops_alone(at):
     riders = [line.split(",")[0] for line in roster.splitlines()[1:]]
     same("riders of the own stops", ["1001", "1002", "1005", "1006", "1007"], sorted(riders))
     numbers = {it["id"] for it in json.loads(places)["places"]}
-    holds(f"places of the own stops: {numbers}", {5, 11, 12} <= numbers and not numbers & {10, 13, 14})
+    holds(
+        f"places of the own stops: {numbers}", {5, 11, 12} <= numbers and not numbers & {10, 13, 14}
+    )
     same("all riders", 404, at.town.answer("/drivers/roster.csv", key)[0])
 
 
-def types_van(at, typed):
+def types_van(at: Place, typed: str) -> bool:
     if at.browser.all("field", VAN_FIELD):
         at.browser.fill(VAN_FIELD, typed)
         at.browser.keys(Keys.ENTER)
@@ -1065,7 +1458,7 @@ def types_van(at, typed):
     return "All stops" in at.browser.text()
 
 
-def offers_van(at, name):
+def offers_van(at: Place, name: str) -> Any:
     """Whether the names of vans are there by now, which come after the first sight."""
     at.browser.fill(VAN_FIELD, name)
     at.browser.settled()
@@ -1073,7 +1466,7 @@ def offers_van(at, name):
 
 
 @check
-def a_van_is_typed_by_its_name_or_its_number(at):
+def a_van_is_typed_by_its_name_or_its_number(at: Place) -> None:
     at.town.write_files(vehicles=[{"id": 1, "name": "Van 30"}, {"id": 30, "name": "Van 130"}])
     try:
         for typed in ["Van 30", "1"]:
@@ -1086,17 +1479,17 @@ def a_van_is_typed_by_its_name_or_its_number(at):
         at.browser.sign_in(at.keys["driver 1"], "driver")
         until("no names of vans come", lambda: offers_van(at, "Van 30"))
         at.browser.fill(VAN_FIELD, "30")
-        at.browser.press("Show the manifest")
-        at.browser.sees("Several vans fit. Choose one of the list.")
+        at.browser.keys(Keys.ENTER)
+        at.browser.sees("Several vans fit. Choose one from the list.")
         at.browser.fill(VAN_FIELD, "130")
-        at.browser.press("Show the manifest")
+        at.browser.keys(Keys.ENTER)
         at.browser.sees("Your key is not for Van 130.")
     finally:
         at.town.write_files()
 
 
 @check
-def everything_that_is_tapped_on_a_drivers_phone_is_as_high_as_a_finger(at):
+def everything_that_is_tapped_on_a_drivers_phone_is_as_high_as_a_finger(at: Place) -> None:
     with at.browser.screen(390, 844, mobile=True):
         at.browser.fresh()
         sign_in(at)
@@ -1104,7 +1497,7 @@ def everything_that_is_tapped_on_a_drivers_phone_is_as_high_as_a_finger(at):
 
 
 # From nothing, over a phone's line: 400 kilobits a second, and 400 milliseconds to each answer.
-SLOW = {"milliseconds": 400, "bytes_a_second": 50_000}
+SLOW: dict[str, Any] = {"milliseconds": 400, "bytes_a_second": 50_000}
 SIGHT = """
 const watch = new MutationObserver(() => {
     const it = document.querySelector(%s);
@@ -1115,13 +1508,18 @@ const real = window.fetch;
 window.asked = [];
 window.fetch = (path, ...more) => { window.asked.push(String(path)); return real(path, ...more); };
 """
-# Seconds: 3 are aimed at, and the machine may be busy. Bytes are those of pages that esbuild has packed.
+# Seconds: 3 are aimed at, and the machine may be busy. Bytes and files are those of pages that esbuild has packed: a file costs a packet of its own,
+# so 34 files of 69,000 bytes took longer than 20 of 72,000.
 # (the form needs the browser's stores, for what a browser keeps that refuses them, and so far the addresses)
-MOST_SECONDS, MOST_BYTES = 6, {"the form to sign in": 49_500, "the next stop": 69_000}
+MOST_SECONDS, MOST_BYTES, MOST_FILES = (
+    6,
+    {"the form to sign in": 51_500, "the next stop": 73_000},
+    22,
+)
 
 
 @check
-def the_odometer_is_kept_and_told_the_sites_log_once(at):
+def the_odometer_is_kept_and_told_the_sites_log_once(at: Place) -> None:
     at.browser.fresh()
     before = {kind: len(events(at, kind)) for kind in ("pull_out", "pull_in")}
     with at.browser.clock(hurry=20):
@@ -1144,67 +1542,136 @@ def the_odometer_is_kept_and_told_the_sites_log_once(at):
         at.browser.sees("Pulled in", "odometer 48,310")
         at.town.set_clock(TOMORROW, "05:20")
         until("nothing is told", lambda: len(events(at, "pull_in")) > before["pull_in"])
-    out, back = events(at, "pull_out")[before["pull_out"]:], events(at, "pull_in")[before["pull_in"]:]
-    same("the pull-out", [("1", "48210", TOMORROW)], [(it["vehicle"], it["odometer"], it["day"]) for it in out])
-    same("the pull-in", [("48310", "48214", None)], [(it["odometer"], it["first_pickup"], it.get("last_drop")) for it in back])
+    out, back = (
+        events(at, "pull_out")[before["pull_out"] :],
+        events(at, "pull_in")[before["pull_in"] :],
+    )
+    same(
+        "the pull-out",
+        [("1", "48210", TOMORROW)],
+        [(it["vehicle"], it["odometer"], it["day"]) for it in out],
+    )
+    same(
+        "the pull-in",
+        [("48310", "48214", None)],
+        [(it["odometer"], it["first_pickup"], it.get("last_drop")) for it in back],
+    )
 
 
-def first_sight(at, what, selector, kept, wrong=0):
-    """The seconds until something is seen on a phone that has nothing of these pages, the bytes that came, and when each file for the van's
-    driver was asked for, in milliseconds. `wrong` is by how many seconds the phone's clock is wrong."""
+def first_sight(at: Place, what: str, selector: str, kept: Any, wrong: int = 0) -> Any:
+    """The seconds until something is seen on a phone that has nothing of these pages, the bytes of each file that came, and when each file for the van's
+    driver was asked for, in milliseconds. `wrong` is by how many seconds the phone's clock is wrong.
+    """
     at.browser.driver.get(f"{at.browser.origin}/icon.svg")
     at.browser.devtools("Storage.clearDataForOrigin", origin=at.browser.origin, storageTypes="all")
-    at.browser.script("sessionStorage.clear(); for (const [name, value] of Object.entries(arguments[0])) sessionStorage.setItem(name, value)", kept)
+    at.browser.script(
+        "sessionStorage.clear(); for (const [name, value] of Object.entries(arguments[0])) sessionStorage.setItem(name, value)",
+        kept,
+    )
     at.browser.devtools("Network.clearBrowserCache")
-    made = at.browser.devtools("Page.addScriptToEvaluateOnNewDocument", source=SIGHT % json.dumps(selector))
+    made = at.browser.devtools(
+        "Page.addScriptToEvaluateOnNewDocument", source=SIGHT % json.dumps(selector)
+    )
     at.browser.line(**SLOW)
     try:
         # (a phone whose clock has the agency's day, or another one)
         noon = datetime.datetime.fromisoformat(f"{TOMORROW}T12:00:00+00:00").timestamp()
         with at.browser.clock(seconds=round(noon - time.time()) + wrong):
             at.browser.go("#driver")
-            milliseconds = until(f"{what} is not seen", lambda: at.browser.script("return window.sight"))
-        loaded = at.browser.script("return performance.getEntriesByType('resource').map((it) => [it.name, it.transferSize, it.startTime])")
-        sent = sum(it[1] for it in loaded if it[2] < milliseconds)
+            milliseconds = until(
+                f"{what} is not seen", lambda: at.browser.script("return window.sight")
+            )
+        loaded = at.browser.script(
+            "return performance.getEntriesByType('resource').map((it) => [it.name, it.transferSize, it.startTime])"
+        )
+        early = [it[1] for it in loaded if it[2] < milliseconds]
         asked = {urllib.parse.urlsplit(it[0]).path: it[2] for it in loaded if "/drivers/" in it[0]}
     finally:
         at.browser.line()
-        at.browser.devtools("Page.removeScriptToEvaluateOnNewDocument", identifier=made["identifier"])
-    print(f"driver: {what} is seen from nothing after {milliseconds / 1000:.2f} s at 400 kbit/s and 400 ms; {len(loaded)} files, {sent} bytes", flush=True)
-    return milliseconds / 1000, sent, asked
+        at.browser.devtools(
+            "Page.removeScriptToEvaluateOnNewDocument", identifier=made["identifier"]
+        )
+    print(
+        f"driver: {what} is seen from nothing after {milliseconds / 1000:.2f} s at 400 kbit/s and 400 ms; {len(early)} files, {sum(early)} bytes",
+        flush=True,
+    )
+    return milliseconds / 1000, early, asked
 
 
 @check
-def each_screen_of_the_packed_pages_opens(at):
+def each_screen_of_the_packed_pages_opens(at: Place) -> None:
     at.town.set_clock(TOMORROW, "05:30")
-    for screen, holder in {"rider": "rider 1001", "clerk": "clerk", "examiner": "examiner", "officer": "officer", "dispatcher": "dispatcher", "admin": "admin"}.items():
+    for screen, holder in {
+        "rider": "rider 1001",
+        "clerk": "clerk",
+        "examiner": "examiner",
+        "officer": "officer",
+        "dispatcher": "dispatcher",
+        "admin": "admin",
+    }.items():
         parts = list(at.browser.each_part(at.keys[holder], screen))
         holds(f"{screen} has no part", parts)
         at.browser.sees_no("could not be loaded", "undefined")
-        at.browser.press("Sign out")
+        at.browser.sign_out()
         at.browser.find("button", "Sign in")
 
 
 @check
-def the_first_sight_on_a_phones_line_is_soon_there(at):
+def the_first_sight_on_a_phones_line_is_soon_there(at: Place) -> None:
     at.town.set_clock(TOMORROW, "05:30")
     at.town.write_file("drivers/1/addresses.json", json.dumps({"addresses": {}}))
     with at.browser.screen(**PHONE):
-        for what, selector, kept in [("the form to sign in", "input[type=password]", {}),
-                                     ("the next stop", ".driver-stop h2", {"desk.key": at.keys["driver 1"], "desk.subject.vehicle": "1"})]:
-            seconds, sent, asked = first_sight(at, what, selector, kept)
+        for what, selector, kept in [
+            ("the form to sign in", "input[type=password]", {}),
+            (
+                "the next stop",
+                ".driver-stop h2",
+                {"desk.key": at.keys["driver 1"], "desk.subject.vehicle": "1"},
+            ),
+        ]:
+            seconds, early, asked = first_sight(at, what, selector, kept)
             holds(f"{what} is seen after {seconds:.2f} s", seconds <= MOST_SECONDS)
-            holds(f"{what} takes {sent} bytes", sent <= MOST_BYTES[what] or not shutil.which("esbuild"))
+            holds(
+                f"{what} takes {len(early)} files of {sum(early)} bytes",
+                len(early) <= MOST_FILES
+                and sum(early) <= MOST_BYTES[what]
+                or not shutil.which("esbuild"),
+            )
             # (what is asked for late keeps the driver waiting for one more answer)
-            holds(f"the driver's files are not asked for at once: {asked}", not asked or max(asked.values()) - min(asked.values()) < SLOW["milliseconds"])
-    same("the driver's files", ["addresses.json", "outcomes.json", "places.json", "roster.csv"], sorted(path.rpartition("/")[2] for path in asked))
+            holds(
+                f"the driver's files are not asked for at once: {asked}",
+                not asked or max(asked.values()) - min(asked.values()) < SLOW["milliseconds"],
+            )
+    same(
+        "the driver's files",
+        ["addresses.json", "outcomes.json", "places.json", "roster.csv"],
+        sorted(path.rpartition("/")[2] for path in asked),
+    )
 
 
 @check
-def the_day_is_asked_for_before_the_agencys_file_is_there_and_a_wrong_date_costs_one_more_question(at):
+def the_day_is_asked_for_before_the_agencys_file_is_there_and_a_wrong_date_costs_one_more_question(
+    at: Place,
+) -> None:
     at.town.set_clock(TOMORROW, "05:30")
     with at.browser.screen(**PHONE):
-        for wrong, days in [(0, [TOMORROW]), (86_400, [AFTER, TOMORROW]), (-40 * 86_400, ["2025-01-30", TOMORROW])]:
-            first_sight(at, "the next stop", ".driver-stop h2", {"desk.key": at.keys["driver 1"], "desk.subject.vehicle": "1"}, wrong)
+        for wrong, days in [
+            (0, [TOMORROW]),
+            (86_400, [AFTER, TOMORROW]),
+            (-40 * 86_400, ["2025-01-30", TOMORROW]),
+        ]:
+            first_sight(
+                at,
+                "the next stop",
+                ".driver-stop h2",
+                {"desk.key": at.keys["driver 1"], "desk.subject.vehicle": "1"},
+                wrong,
+            )
             at.browser.sees("All stops", "Tuesday, March 11")
-            same(f"the manifests that are asked for, where the phone is {wrong} seconds wrong", days, [it[-10:] for it in at.browser.script("return window.asked") if "/manifest/" in it][:len(days)])
+            same(
+                f"the manifests that are asked for, where the phone is {wrong} seconds wrong",
+                days,
+                [it[-10:] for it in at.browser.script("return window.asked") if "/manifest/" in it][
+                    : len(days)
+                ],
+            )

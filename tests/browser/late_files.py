@@ -3,9 +3,11 @@ import contextlib
 import http.server
 import threading
 import time
+from collections.abc import Iterator
+from typing import Any
 
 from database import Trouble
-from town import PAGES
+from town import PAGES, Town
 
 KINDS = {"js": "application/javascript", "css": "text/css"}
 BEFORE = "    location / {\n        limit_conn desk_pages_at_once"
@@ -16,17 +18,25 @@ class Answers(http.server.ThreadingHTTPServer):
 
     daemon_threads = True
 
-    def __init__(self, path, content=None, refusals=0, seconds=0):
+    def __init__(
+        self, path: str, content: str | None = None, refusals: int = 0, seconds: float = 0
+    ) -> None:
         super().__init__(("127.0.0.1", 0), Answer)
         with open(f"{PAGES}{path}", "rb") as file:
             self.content = file.read() if content is None else content.encode()
-        self.kind, self.refusals, self.seconds, self.asked = KINDS[path.rpartition(".")[2]], refusals, seconds, 0
+        self.kind, self.refusals, self.seconds, self.asked = (
+            KINDS[path.rpartition(".")[2]],
+            refusals,
+            seconds,
+            0,
+        )
         threading.Thread(target=self.serve_forever, daemon=True).start()
 
 
 class Answer(http.server.BaseHTTPRequestHandler):
-    def do_GET(self):
+    def do_GET(self) -> None:
         site = self.server
+        assert isinstance(site, Answers)
         site.asked += 1
         if site.asked <= site.refusals:
             self.send_error(503)
@@ -38,7 +48,7 @@ class Answer(http.server.BaseHTTPRequestHandler):
         self.end_headers()
         self.wfile.write(site.content)
 
-    def log_message(self, *_):
+    def log_message(self, *_: object) -> None:
         """Nothing is said of a request."""
 
 
@@ -47,7 +57,7 @@ CUT = "        proxy_intercept_errors on;\n        error_page 503 = @cut;\n"
 
 
 @contextlib.contextmanager
-def given(town, path, is_cut=False, **how):
+def given(town: Town, path: str, is_cut: bool = False, **how: Any) -> Iterator[Answers]:
     """Meanwhile the site gives this file of the pages as Answers has it. is_cut: where that refuses, the connection is closed."""
     conf = f"{town.folder}/nginx.conf"
     with open(conf, encoding="utf-8") as text:
@@ -65,7 +75,7 @@ def given(town, path, is_cut=False, **how):
             answers.shutdown()
 
 
-def use(town, conf, text):
+def use(town: Town, conf: str, text: str) -> None:
     town.stop_site()
     with open(conf, "w", encoding="utf-8") as file:
         file.write(text)

@@ -1,14 +1,14 @@
 """Browsers that keep nothing: site data is blocked, or there is no room. The pages come up, say so, and lose nothing that was confirmed."""
 import contextlib
 import re
+from collections.abc import Iterator
 
-from booking import BOOK, LATE_VAN, LATER, last_trip, wish
+from booking import BOOK, LATER, last_trip, late_van, wish
 from browser import Browser
-from checks import check, holds, same
+from checks import Place, check, holds, same
 from database import until
 from counted import lines
 from left_open import write_file_of_the_day
-from people import EVERY_DAY
 
 VANS = 1
 FRIDAY = "2025-03-14"
@@ -17,13 +17,22 @@ BLOCKED = {"profile.default_content_setting_values.cookies": 2}
 # Each store is there and takes nothing.
 FULL = """Storage.prototype.setItem = () => { throw new DOMException("full", "QuotaExceededError"); };
 for (const name of ["put", "add"]) IDBObjectStore.prototype[name] = () => { throw new DOMException("full", "QuotaExceededError"); };"""
-KEEPS_NOTHING = "This browser stores nothing for these pages: it is full, or it is set to block site data."
-FIRST_OF_SCREENS = {"clerk": "clerk", "rider": "rider 1003", "dispatcher": "dispatcher", "driver": "driver 1", "examiner": "examiner",
-                    "officer": "officer", "admin": "admin"}
+KEEPS_NOTHING = (
+    "This browser stores nothing for these pages: it is full, or it is set to block site data."
+)
+FIRST_OF_SCREENS = {
+    "clerk": "clerk",
+    "rider": "rider 1003",
+    "dispatcher": "dispatcher",
+    "driver": "driver 1",
+    "examiner": "examiner",
+    "officer": "officer",
+    "admin": "admin",
+}
 
 
 @contextlib.contextmanager
-def blocked(at):
+def blocked(at: Place) -> Iterator[Browser]:
     """A browser whose site data is blocked, in place of the other."""
     first = at.browser
     with Browser(at.town.origin, at.folder, preferences=BLOCKED) as browser:
@@ -34,25 +43,27 @@ def blocked(at):
             at.browser = first
 
 
-def signed_in(at, holder, screen):
+def signed_in(at: Place, holder: str, screen: str) -> None:
     browser = at.browser
     browser.driver.get(f"{at.town.origin}/icon.svg")
     browser.driver.get(f"{at.town.origin}/#{screen}")
     browser.fill("Key", at.keys[holder])
-    browser.fill("Screen", screen)
+    browser.choose_job(screen)
     browser.press("Sign in")
-    browser.find("button", "Sign out")
+    browser.signed_in()
     browser.shown(screen)
 
 
-def refuses(at):
+def refuses(at: Place) -> None:
     """That this browser is one that refuses its stores."""
-    told = at.browser.script("""try { localStorage.getItem("x"); return "given"; } catch (error) { return error.name; }""")
+    told = at.browser.script(
+        """try { localStorage.getItem("x"); return "given"; } catch (error) { return error.name; }"""
+    )
     same("a look at the store", "SecurityError", told)
 
 
 @check
-def each_screen_comes_up_and_says_that_nothing_is_kept(at):
+def each_screen_comes_up_and_says_that_nothing_is_kept(at: Place) -> None:
     with blocked(at):
         for screen, holder in FIRST_OF_SCREENS.items():
             signed_in(at, holder, screen)
@@ -63,19 +74,14 @@ def each_screen_comes_up_and_says_that_nothing_is_kept(at):
             at.browser.no_errors()
 
 
-def rider_shown(at, number):
-    at.browser.fill("Rider number", number)
+def rider_shown(at: Place, number: str) -> None:
+    at.browser.fill("Find a rider", number)
     at.browser.press("Show")
-    at.browser.find("heading", re.compile("^Book a trip for"))
-
-
-def late_van(at):
-    at.town.post("dispatcher", "/vehicles", {"id": 1, "from_day": LATER, "days": EVERY_DAY, "depot": 5, "capacity": 6, "opens": LATE_VAN,
-                                             "closes": 1320, "duration": 960, "chairs": 1})
+    at.browser.find("heading", re.compile("^Book for"))
 
 
 @check
-def a_booking_is_made_and_counted_without_stores(at):
+def a_booking_is_made_and_counted_without_stores(at: Place) -> None:
     with blocked(at):
         signed_in(at, "second clerk", "clerk")
         rider_shown(at, "1002")
@@ -87,14 +93,21 @@ def a_booking_is_made_and_counted_without_stores(at):
         at.browser.press(re.compile(f"^Cancel trip {trip}"))
         at.browser.press(f"Yes, cancel trip {trip}")
         at.browser.sees(f"Trip {trip} of Dorothy O'Neill (1002) is canceled.")
-        until("the cancellation is in the log", lambda: [it for it in lines(at, f"trip={trip}&") if "cancellations" in it])
+        until(
+            "the cancellation is in the log",
+            lambda: [it for it in lines(at, f"trip={trip}&") if "cancellations" in it],
+        )
         at.browser.driver.refresh()
         at.browser.sees("Sign in", KEEPS_NOTHING)
-        same("the desk has it once", ["cancelled"], [it["status"] for it in at.town.trips_of(1002) if it["day"] == FRIDAY])
+        same(
+            "the desk has it once",
+            ["cancelled"],
+            [it["status"] for it in at.town.trips_of(1002) if it["day"] == FRIDAY],
+        )
 
 
 @check
-def an_offer_is_asked_again_after_a_reload_of_a_browser_without_stores(at):
+def an_offer_is_asked_again_after_a_reload_of_a_browser_without_stores(at: Place) -> None:
     late_van(at)
     with blocked(at):
         signed_in(at, "second clerk", "clerk")
@@ -111,11 +124,18 @@ def an_offer_is_asked_again_after_a_reload_of_a_browser_without_stores(at):
         at.browser.sees("An offer waits for an answer of Ana María Núñez (1006)")
         at.browser.press(re.compile("^No, cancel trip"))
         at.browser.sees("The offer was not taken, and is given up.")
-        until("it is the agency's", lambda: [it for it in lines(at, f"trip={trip}&") if "cancellations" in it and "by=agency" in it])
+        until(
+            "it is the agency's",
+            lambda: [
+                it
+                for it in lines(at, f"trip={trip}&")
+                if "cancellations" in it and "by=agency" in it
+            ],
+        )
 
 
 @check
-def a_browser_without_room_says_so_and_loses_nothing(at):
+def a_browser_without_room_says_so_and_loses_nothing(at: Place) -> None:
     made = at.browser.devtools("Page.addScriptToEvaluateOnNewDocument", source=FULL)
     try:
         at.browser.fresh()
@@ -130,8 +150,13 @@ def a_browser_without_room_says_so_and_loses_nothing(at):
         at.browser.fill("From", "Public Library")
         rider_shown(at, "1002")
         rider_shown(at, "1003")
-        same("what was typed is there as long as the page", "Public Library", at.browser.value("From"))
+        same(
+            "what was typed is there as long as the page",
+            "Public Library",
+            at.browser.value("From"),
+        )
     finally:
-        at.browser.devtools("Page.removeScriptToEvaluateOnNewDocument", identifier=made["identifier"])
+        at.browser.devtools(
+            "Page.removeScriptToEvaluateOnNewDocument", identifier=made["identifier"]
+        )
     at.browser.fresh()
-

@@ -2,6 +2,8 @@
 import base64
 import hashlib
 import zoneinfo
+from collections.abc import Iterator
+from typing import Any
 
 NAME = "Example Town Transit"
 ZONE = zoneinfo.ZoneInfo("America/New_York")
@@ -11,8 +13,16 @@ FIRST_DAY, TODAY, TOMORROW, GRANTED_UNTIL = "2025-02-17", "2025-03-10", "2025-03
 NOON = "12:00"
 ADMINS_KEY = "abc"
 EVERY_DAY = [1, 2, 3, 4, 5, 6, 7]
-POLICY = {"base": 175, "transfer": 50, "fare": 400, "service": 2, "extra_ride": 20, "min_missed": 1, "percent": 10,
-          "span_days": 30}
+POLICY = {
+    "base": 175,
+    "transfer": 50,
+    "fare": 400,
+    "service": 2,
+    "extra_ride": 20,
+    "min_missed": 1,
+    "percent": 10,
+    "span_days": 30,
+}
 
 # number, name, note, feet to the east and to the north, whether it is private: to staff (True) or to a rider.
 PLACES = [
@@ -39,15 +49,75 @@ VAN_NAMES = ["Van 1, blue", "Van 2, white", "Van 3, green"]
 
 # number, name, telephone, language, home, usual places, mobility aid, note, kind, attendant, wheelchair.
 RIDERS = [
-    (1001, "Rosa Álvarez", "555-0101", "es", 11, "6;2", "cane", "speaks Spanish", "resident", False, False),
-    (1002, "Dorothy O'Neill", "555-0102", "en", 12, "6", "walker", "hard of hearing", "resident", False, False),
+    (
+        1001,
+        "Rosa Álvarez",
+        "555-0101",
+        "es",
+        11,
+        "6;2",
+        "cane",
+        "speaks Spanish",
+        "resident",
+        False,
+        False,
+    ),
+    (
+        1002,
+        "Dorothy O'Neill",
+        "555-0102",
+        "en",
+        12,
+        "6",
+        "walker",
+        "hard of hearing",
+        "resident",
+        False,
+        False,
+    ),
     (1003, "Henry Park", "555-0103", "en", 13, "2;7", "white cane", "", "resident", True, False),
-    (1004, "Lucille Baker", "555-0104", "en", 14, "9", "power wheelchair", "ramp needed", "resident", False, True),
+    (
+        1004,
+        "Lucille Baker",
+        "555-0104",
+        "en",
+        14,
+        "9",
+        "power wheelchair",
+        "ramp needed",
+        "resident",
+        False,
+        True,
+    ),
     (1005, "Samuel Grant", "555-0105", "en", "", "6;8", "", "", "resident", False, False),
     (1006, "Ana María Núñez", "555-0106", "es", "", "3", "", "", "resident", False, False),
     (1007, "Walter Hughes", "555-0107", "en", "", "9;8", "scooter", "", "resident", False, True),
-    (1008, "Visitor Ellen Stone", "555-0108", "en", "", "1", "", "stays with her son", "visitor", False, False),
-    (1009, "Peter Lange", "555-0109", "en", "", "", "", "application waits", "resident", False, False),
+    (
+        1008,
+        "Visitor Ellen Stone",
+        "555-0108",
+        "en",
+        "",
+        "1",
+        "",
+        "stays with her son",
+        "visitor",
+        False,
+        False,
+    ),
+    (
+        1009,
+        "Peter Lange",
+        "555-0109",
+        "en",
+        "",
+        "",
+        "",
+        "application waits",
+        "resident",
+        False,
+        False,
+    ),
     (1010, "Grace Kim", "555-0110", "en", "", "7", "", "", "resident", False, False),
 ]
 # Those whose application is granted on the first day; 1009's waits, 1010's has a condition, 1008 is a visitor.
@@ -57,22 +127,31 @@ TRAVELERS = [*GRANTED, VISITOR]
 ALPHABET = str.maketrans("abcdefghijklmnopqrstuvwxyz234567", "0123456789abcdefghjkmnpqrstvwxyz")
 
 
-def key_for(holder):
+def key_for(holder: str) -> str:
     """A key of 26 signs, as the admin's page makes them; each holder has the same one in every run."""
     digest = hashlib.sha256(f"the key of {holder}".encode()).digest()[:16]
     return base64.b32encode(digest).decode().rstrip("=").lower().translate(ALPHABET)
 
 
-STAFF = [(2, "clerk"), (3, "dispatcher"), (4, "examiner"), (5, "officer"), (6, "second officer"), (7, "second clerk"),
-         (8, "third clerk")]
+STAFF = [
+    (2, "clerk"),
+    (3, "dispatcher"),
+    (4, "examiner"),
+    (5, "officer"),
+    (6, "second officer"),
+    (7, "second clerk"),
+    (8, "third clerk"),
+]
 
 
-def vans_of(count):
-    return [(number, VAN_NAMES[number - 1] if number <= len(VAN_NAMES) else f"Van {number}")
-            for number in range(1, count + 1)]
+def vans_of(count: int) -> list[tuple[int, str]]:
+    return [
+        (number, VAN_NAMES[number - 1] if number <= len(VAN_NAMES) else f"Van {number}")
+        for number in range(1, count + 1)
+    ]
 
 
-def callers_of(vans):
+def callers_of(vans: int) -> list[tuple[int, str, int, str]]:
     """Each caller as (number, role, subject, holder)."""
     staff = [(number, holder.split()[-1], 0, holder) for number, holder in STAFF]
     drivers = [(100 + van, "driver", van, f"driver {van}") for van, _ in vans_of(min(vans, 6))]
@@ -80,46 +159,93 @@ def callers_of(vans):
     return staff + drivers + riders
 
 
-def keys_of(vans):
+def keys_of(vans: int) -> dict[str, str]:
     return {"admin": ADMINS_KEY, **{holder: key_for(holder) for *_, holder in callers_of(vans)}}
 
 
-def agency_file(vans):
+def agency_file(vans: int) -> dict[str, Any]:
     """The agency's own file, from which bin/site-files makes what the site serves."""
-    places = [{"id": number, "name": name, "note": note, "x": x, "y": y, "core": False, "private": private}
-              for number, name, note, x, y, private in PLACES]
-    routes = [{"id": number, "name": name, "width": 3960, "points": points, "accessible": True, "days": EVERY_DAY,
-               "first": first, "last": last} for number, name, points, first, last in LINES]
+    places = [
+        {
+            "id": number,
+            "name": name,
+            "note": note,
+            "x": x,
+            "y": y,
+            "core": False,
+            "private": private,
+        }
+        for number, name, note, x, y, private in PLACES
+    ]
+    routes = [
+        {
+            "id": number,
+            "name": name,
+            "width": 3960,
+            "points": points,
+            "accessible": True,
+            "days": EVERY_DAY,
+            "first": first,
+            "last": last,
+        }
+        for number, name, points, first, last in LINES
+    ]
     vehicles = [{"id": number, "name": name} for number, name in vans_of(vans)]
-    return {"name": NAME, "telephone": "555-0100", "address": "1 Market Street\nExample Town, NY 12000",
-            "zone": str(ZONE), "first_weekday": 7, "place_word": "stop", "clock": 12, "languages": ["en", "es"],
-            "wait_minutes": 5, "idle_minutes": 30, "subscription_share": 50,
-            "appeal": {"to": "The Appeals Officer", "address": "1 Market Street\nExample Town, NY 12000",
-                       "telephone": "555-0199", "days": 60},
-            "places": places, "routes": routes, "vehicles": vehicles}
+    return {
+        "name": NAME,
+        "telephone": "555-0100",
+        "address": "1 Market Street\nExample Town, NY 12000",
+        "zone": str(ZONE),
+        "first_weekday": 7,
+        "place_word": "stop",
+        "clock": 12,
+        "languages": ["en", "es"],
+        "wait_minutes": 5,
+        "idle_minutes": 30,
+        "subscription_share": 50,
+        "appeal": {
+            "to": "The Appeals Officer",
+            "address": "1 Market Street\nExample Town, NY 12000",
+            "telephone": "555-0199",
+            "days": 60,
+        },
+        "places": places,
+        "routes": routes,
+        "vehicles": vehicles,
+    }
 
 
-def roster_file():
+def roster_file() -> str:
     head = "rider,name,telephone,language,home,usual,aid,note"
     return "\n".join([head, *(",".join(map(str, rider[:8])) for rider in RIDERS)]) + "\n"
 
 
-def drivers_file():
-    return "\n".join(["rider,name,note", *(f"{rider[0]},{rider[1]},{rider[7]}" for rider in RIDERS)]) + "\n"
+def drivers_file() -> str:
+    return (
+        "\n".join(["rider,name,note", *(f"{rider[0]},{rider[1]},{rider[7]}" for rider in RIDERS)])
+        + "\n"
+    )
 
 
-def minutes_between(one, other):
+def minutes_between(
+    one: tuple[int, str, str, int, int, int], other: tuple[int, str, str, int, int, int]
+) -> Any:
     """Minutes of driving: a mile in two, and three for the start and the stop."""
     east, north = one[3] - other[3], one[4] - other[4]
     return 3 + round((east * east + north * north) ** 0.5 / 2640)
 
 
-def travel_file():
-    rows = [f"{one[0]},{other[0]},{minutes_between(one, other)}" for one in PLACES for other in PLACES if one != other]
+def travel_file() -> str:
+    rows = [
+        f"{one[0]},{other[0]},{minutes_between(one, other)}"
+        for one in PLACES
+        for other in PLACES
+        if one != other
+    ]
     return "\n".join(["from,to,minutes", *rows]) + "\n"
 
 
-def wishes(vans):
+def wishes(vans: int) -> Iterator[dict[str, Any]]:
     """The trips that are asked for on the day after TODAY: some thirteen a van."""
     goals = [2, 6, 7, 9, 3, 8, 1]
     for at in range(13 * vans):
@@ -127,5 +253,12 @@ def wishes(vans):
         home = next((it[4] for it in RIDERS if it[0] == rider and it[4]), 5)
         goal = goals[(at * 3) % len(goals)]
         start, end = (home, goal) if at % 2 == 0 else (goal, home)
-        yield {"rider": rider, "day": TOMORROW, "wish": 400 + (at * 53) % 800, "from": start, "to": end,
-               "attendant": rider == 1003 and at % 3 == 0, "companions": 1 if at % 4 == 3 else 0}
+        yield {
+            "rider": rider,
+            "day": TOMORROW,
+            "wish": 400 + (at * 53) % 800,
+            "from": start,
+            "to": end,
+            "attendant": rider == 1003 and at % 3 == 0,
+            "companions": 1 if at % 4 == 3 else 0,
+        }

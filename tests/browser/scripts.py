@@ -21,15 +21,32 @@ const root = [...document.querySelectorAll("dialog[open]")].at(-1) ?? document;
 const those = (kind, within) => [...(within ?? root).querySelectorAll(KINDS[kind])]
     .filter((it) => seen(it) && !it.closest("[inert]"));
 """
-FINDER = NAMING + """
+FINDER = (
+    NAMING
+    + """
 const [kind, name, isPattern, within] = arguments;
 const fits = isPattern ? (it) => new RegExp(name).test(nameOf(it)) : (it) => nameOf(it) === name;
 return those(kind, within).filter(fits);
 """
-NAMES = NAMING + "return those(arguments[0], null).map((it) => nameOf(it).slice(0, 60)).slice(0, 60);"
+)
+NAMES = (
+    NAMING + "return those(arguments[0], null).map((it) => nameOf(it).slice(0, 60)).slice(0, 60);"
+)
 KIND = "const it = arguments[0]; return it.tagName === 'SELECT' ? 'select' : it.type;"
+CHOSEN = (
+    "return [...arguments[0].querySelectorAll('input:checked')].map((it) => it.value).join(' ')"
+)
 SETTER = """
 const [control, value] = arguments;
+if (control.tagName === "FIELDSET") {
+    const all = [...control.querySelectorAll("input")], names = (it) => [it.value, it.getAttribute("aria-label"), it.labels[0]?.textContent];
+    const one = all.find((it) => names(it).some((name) => name === String(value) || name?.startsWith(`${value}, `) || name?.startsWith(`${value}: `)));
+    if (!one) return all.map((it) => it.getAttribute("aria-label") ?? it.value).join("; ") || "none";
+    one.focus();
+    all.filter((it) => it.type === "checkbox" && it.checked && it !== one).forEach((it) => it.click());
+    if (!one.checked) one.click();
+    return null;
+}
 if (control.type === "checkbox" || control.type === "radio") {
     if (control.checked !== value) control.click();
     return null;
@@ -43,14 +60,26 @@ control.dispatchEvent(new Event("input", {bubbles: true}));
 control.dispatchEvent(new Event("change", {bubbles: true}));
 return null;
 """
-FOCUSED = NAMING + """
+# Moves what a bar at an edge of the window covers into its middle.
+UNCOVERED = """
+const [it] = arguments, { left, top, width, height } = it.getBoundingClientRect(), over = document.elementFromPoint(left + width / 2, top + height / 2);
+// (of what begins at the lower edge of the window, the middle is not in sight, and a bar may cover the rest)
+if (!over || over !== it && !it.contains(over) && !over.contains(it)) it.scrollIntoView({ block: "center" });
+"""
+FOCUSED = (
+    NAMING
+    + """
 const it = document.activeElement;
 return !it || it === document.body ? "" : nameOf(it).slice(0, 200);
 """
-FOCUS_SEEN = NAMING + """
+)
+FOCUS_SEEN = (
+    NAMING
+    + """
 const it = document.activeElement, style = getComputedStyle(it);
 return [it === document.body ? "" : nameOf(it), style.outlineStyle !== "none" && parseFloat(style.outlineWidth) >= 2];
 """
+)
 # Text spacing of WCAG 1.4.12: lines 1.5, paragraphs 2, letters 0.12, words 0.16.
 SPACING = """
 const sheet = new CSSStyleSheet();

@@ -1,16 +1,18 @@
 """Each part of each screen in Spanish: no text is missing, axe finds nothing, and nothing is too wide."""
 import re
+from collections.abc import Iterator
+from typing import Any
 
 from accessible import each_part, noted
-from checks import check, same
+from checks import Place, check, same
 from common import PARTS
 
 VANS = 1
 
 
 @check
-def each_screen_is_accessible_in_spanish(at):
-    faults = []
+def each_screen_is_accessible_in_spanish(at: Place) -> None:
+    faults: list[Any] = []
     at.browser.speak("es")
     try:
         for screen in PARTS:
@@ -20,7 +22,7 @@ def each_screen_is_accessible_in_spanish(at):
     same("faults in Spanish", [], faults)
 
 
-def faults_in_spanish(at, screen):
+def faults_in_spanish(at: Place, screen: str) -> Iterator[str]:
     """The keys of texts that are missing, axe, and the width, of each part."""
     for address in each_part(at, screen, "es"):
         found = at.browser.axe()

@@ -2,7 +2,13 @@
 
 import assert from "node:assert/strict";
 import { test } from "node:test";
-import { addressOfChoice, choiceOfAddress, mailingOf, meantOf, readBy } from "../../pages/parts/address-meant.js";
+import {
+    addressOfChoice,
+    choiceOfAddress,
+    mailingOf,
+    meantOf,
+    readBy
+} from "../../pages/parts/address-meant.js";
 
 const ALL = [
     { id: 1, street: "12 Oak St", place: 5 },
@@ -35,15 +41,25 @@ test("a rider reads the street of a home, and never the name of the group of hom
     assert.deepEqual(readBy(ALL, { place: 6, name: "Area 6" }, 102, undefined), []);
     assert.deepEqual(readBy(ALL, { place: 6, name: "Area 6" }, 101, undefined), ["9 Mill St"]);
     assert.deepEqual(readBy(ALL, { place: 6, name: "Mill Manor" }, 102, 4), ["11 Mill St"]);
-    assert.deepEqual(readBy(ALL, { place: 5, name: "Near 12 Oak St" }, 101, undefined), ["14 Oak St"]);
+    assert.deepEqual(
+        readBy(ALL, { place: 5, name: "Near 12 Oak St" }, 101, undefined),
+        ["14 Oak St"]
+    );
     assert.deepEqual(readBy(ALL, { place: 5, name: "Near 12 Oak St" }, 102, 1), ["12 Oak St"]);
     assert.deepEqual(readBy(ALL, { place: 5, name: "12 Oak St" }, 102, 1), ["12 Oak St"]);
 });
 
-test("a place with a name of its own keeps it beside the street, and alone where no address is meant", () => {
-    assert.deepEqual(readBy(ALL, { place: 5, name: "Mercy Hospital" }, 102, 1), ["12 Oak St", "Mercy Hospital"]);
-    assert.deepEqual(readBy(ALL, { place: 5, name: "Near North Clinic" }, 102, 1), ["12 Oak St", "Near North Clinic"]);
-    assert.deepEqual(readBy(ALL, { place: 5, name: "Mercy Hospital" }, 102, undefined), ["Mercy Hospital"]);
+test("a place's own name stands beside the street, and alone where no address is meant", () => {
+    assert.deepEqual(readBy(ALL, { place: 5, name: "Mercy Hospital" }, 102, 1), [
+        "12 Oak St", "Mercy Hospital"
+    ]);
+    assert.deepEqual(readBy(ALL, { place: 5, name: "Near North Clinic" }, 102, 1), [
+        "12 Oak St", "Near North Clinic"
+    ]);
+    assert.deepEqual(
+        readBy(ALL, { place: 5, name: "Mercy Hospital" }, 102, undefined),
+        ["Mercy Hospital"]
+    );
     assert.deepEqual(readBy([], { place: 7, name: "Area 9" }, 102, undefined), ["Area 9"]);
 });
 

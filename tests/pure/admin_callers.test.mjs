@@ -3,12 +3,32 @@ import { test } from "node:test";
 
 import { callersIn, joined, nextNumber, rowsOf } from "../../pages/screens/admin-callers.js";
 
-const ANA = { id: 2, name: "Ana", role: "clerk", subject: 0, day: "2026-01-02", until: "", digits: "0123456789ab" };
-const BO = { id: 105, name: "", role: "driver", subject: 5, day: "2026-03-04", until: "2026-05-06", digits: "" };
+const ANA = {
+    id: 2,
+    name: "Ana",
+    role: "clerk",
+    subject: 0,
+    day: "2026-01-02",
+    until: "",
+    digits: "0123456789ab"
+};
+const BO = {
+    id: 105,
+    name: "",
+    role: "driver",
+    subject: 5,
+    day: "2026-03-04",
+    until: "2026-05-06",
+    digits: ""
+};
 const asCells = (callers) => rowsOf(callers).map((row) => row.map(String));
 
 test("what is saved is what is loaded", () => {
-    assert.deepEqual(callersIn(asCells([ANA, BO])), { callers: [ANA, BO], wrong: [], isList: true });
+    assert.deepEqual(callersIn(asCells([ANA, BO])), {
+        callers: [ANA, BO],
+        wrong: [],
+        isList: true
+    });
 });
 
 test("the file has no key, and no digest whole", () => {
@@ -17,18 +37,29 @@ test("the file has no key, and no digest whole", () => {
 });
 
 test("a row that is wrong is named by its place and loses no other", () => {
-    const cells = [["Number", "Role", "Name"], ["2", "clerk", "Ana"], ["x", "clerk", "Bo"], ["3", "king", ""], ["0", "clerk", ""], ["4", "admin", "Eve"]];
+    const cells = [
+        ["Number", "Role", "Name"],
+        ["2", "clerk", "Ana"],
+        ["x", "clerk", "Bo"],
+        ["3", "king", ""],
+        ["0", "clerk", ""],
+        ["4", "admin", "Eve"]
+    ];
     const { callers, wrong } = callersIn(cells);
     assert.deepEqual(callers.map(({ id }) => id), [2, 4]);
     assert.deepEqual(wrong, [3, 4, 5]);
 });
 
 test("a file of other columns is no list", () => {
-    for (const cells of [[], [["rider", "name"], ["1", "Ana"]], [["number"]]]) assert.equal(callersIn(cells).isList, false);
+    for (const cells of [[], [["rider", "name"], ["1", "Ana"]], [["number"]]])
+        assert.equal(callersIn(cells).isList, false);
 });
 
 test("the record's last row names nobody and is no fault", () => {
-    const { callers, wrong } = callersIn([...asCells([ANA]), ["", "", "", "", "", "", "up to entry 8"]]);
+    const { callers, wrong } = callersIn([
+        ...asCells([ANA]),
+        ["", "", "", "", "", "", "up to entry 8"]
+    ]);
     assert.deepEqual([callers.length, wrong], [1, []]);
 });
 

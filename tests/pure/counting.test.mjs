@@ -1,19 +1,40 @@
-// What is told to the site, without a browser: forms of fields, spelled paths, and what each answer of the site means.
+// What is told to the site, without a browser: forms of fields, spelled paths, and what each answer
+// of the site means.
 
 import assert from "node:assert/strict";
 import { test } from "node:test";
-import { endOf, faultOf, isDue, lineOf, namedIn, pathOf, pauseAfter } from "../../pages/parts/counting.js";
+import {
+    endOf,
+    faultOf,
+    isDue,
+    lineOf,
+    namedIn,
+    pathOf,
+    pauseAfter
+} from "../../pages/parts/counting.js";
 import { EVENTS } from "../../pages/parts/events.js";
 
 const ID = "0123456789abcdefghjkmnpqrs", AT = "2026-11-28T09:24:00";
-const DENIAL = { id: ID, day: "2026-12-01", minute: 540, rule: "no vehicle", channel: "page", mode: "around", at: AT };
+const DENIAL = {
+    id: ID,
+    day: "2026-12-01",
+    minute: 540,
+    rule: "no vehicle",
+    channel: "page",
+    mode: "around",
+    at: AT
+};
 
 test("an event leaves at 204 alone, and each answer of the site has one end", () => {
     for (let status = 0; status < 600; status += 1) {
         for (const isOwn of [true, false]) {
             const end = endOf(status, isOwn), isClient = status >= 400 && status < 500;
             assert.equal(end === "kept", status === 204, `${status}`);
-            assert.equal(end === "later", status !== 204 && (!isClient || [401, 408, 425, 429].includes(status)), `${status}`);
+            assert.equal(
+                end === "later",
+                status !== 204 && (!isClient || [401, 408, 425, 429].includes(status)),
+                `${status}`
+            );
             assert.equal(end === "other", status === 403 && !isOwn, `${status}`);
         }
     }
@@ -37,8 +58,10 @@ test("what is held back waits for its moment, and not for a clock that was put b
 });
 
 test("a blank, a bracket and a colon are percent-encoded", () => {
-    assert.equal(pathOf("denials", { ...DENIAL, rule: "37.131(a)" }),
-        `/tally/denials?id=${ID}&day=2026-12-01&minute=540&rule=37.131(a)&channel=page&mode=around&at=2026-11-28T09%3A24%3A00`);
+    assert.equal(
+        pathOf("denials", { ...DENIAL, rule: "37.131(a)" }),
+        `/tally/denials?id=${ID}&day=2026-12-01&minute=540&rule=37.131(a)&channel=page&mode=around&at=2026-11-28T09%3A24%3A00`
+    );
     assert.match(pathOf("denials", DENIAL), /&rule=no%20vehicle&/);
 });
 
@@ -53,14 +76,23 @@ test("each field of each kind that is left out or wrong is named", () => {
 });
 
 test("a text is one line of whole signs, counted as people count them", () => {
-    const note = (text) => faultOf("notes", { id: ID, vehicle: 1, day: "2026-12-01", trip: 0, text, at: AT });
+    const note = (text) =>
+        faultOf("notes", { id: ID, vehicle: 1, day: "2026-12-01", trip: 0, text, at: AT });
     assert.equal(note("🚐".repeat(200)), null);
-    for (const text of ["🚐".repeat(201), "", "   ", "a\nb", "a\u2028b", "\ud83d", "\ude90x"]) assert.equal(note(text), "text");
+    for (const text of ["🚐".repeat(201), "", "   ", "a\nb", "a\u2028b", "\ud83d", "\ude90x"])
+        assert.equal(note(text), "text");
     assert.equal(note(lineOf(`  left at\nthe\tside \ud83d door${" 🚐".repeat(200)}`, 200)), null);
     assert.equal(lineOf("  a \n b\u0000 ", 200), "a b");
 });
 
 test("the kind and the id of a path are read, of events alone", () => {
     assert.deepEqual(namedIn(pathOf("denials", DENIAL)), { kind: "denials", id: ID });
-    for (const path of ["", "/tally/denials", `/tally/other?id=${ID}`, `/x?id=${ID}`, "/tally/denials?id=1"]) assert.equal(namedIn(path), null);
+    for (const path of [
+        "",
+        "/tally/denials",
+        `/tally/other?id=${ID}`,
+        `/x?id=${ID}`,
+        "/tally/denials?id=1"
+    ])
+        assert.equal(namedIn(path), null);
 });

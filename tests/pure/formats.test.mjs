@@ -1,11 +1,16 @@
-// To make a format of moments takes longer than a hundred readings of the clock: one is made for a zone, however often the clock is read.
+// To make a format of moments takes longer than a hundred readings of the clock: one is made for a
+// zone, however often the clock is read.
 
 import assert from "node:assert/strict";
 import { test } from "node:test";
 
 /** Storage as a browser has it, where nothing is kept. */
 const storage = () => ({ getItem: () => null, setItem: () => {}, removeItem: () => {} });
-Object.assign(globalThis, { localStorage: storage(), sessionStorage: storage(), document: { documentElement: {}, addEventListener: () => {} } });
+Object.assign(globalThis, {
+    localStorage: storage(),
+    sessionStorage: storage(),
+    document: { documentElement: {}, addEventListener: () => {} }
+});
 const { keepClocksOf, minuteNow, momentAt, today } = await import("../../pages/parts/clock.js");
 
 let made = 0;

@@ -2,15 +2,56 @@ import assert from "node:assert/strict";
 import { test } from "node:test";
 
 /** A store that is there, one that refuses each look, and one that has no room. */
-const storeOf = (kept = {}) => Object.defineProperties(kept, { getItem: { value: (name) => kept[name] ?? null }, setItem: { value: (name, text) => { kept[name] = text; } },
-    removeItem: { value: (name) => { delete kept[name]; } } });
-const full = (kept = {}) => Object.defineProperties(kept, { getItem: { value: (name) => kept[name] ?? null }, removeItem: { value: (name) => { delete kept[name]; } },
-    setItem: { value: () => { throw new Error("QuotaExceededError"); } } });
+const storeOf = (kept = {}) =>
+    Object.defineProperties(kept, {
+        getItem: { value: (name) => kept[name] ?? null },
+        setItem: {
+            value: (name, text) => {
+                kept[name] = text;
+            }
+        },
+        removeItem: {
+            value: (name) => {
+                delete kept[name];
+            }
+        }
+    });
+const full = (kept = {}) =>
+    Object.defineProperties(kept, {
+        getItem: { value: (name) => kept[name] ?? null },
+        removeItem: {
+            value: (name) => {
+                delete kept[name];
+            }
+        },
+        setItem: {
+            value: () => {
+                throw new Error("QuotaExceededError");
+            }
+        }
+    });
 const use = (local, session = storeOf()) => {
-    Object.defineProperty(globalThis, "localStorage", { configurable: true, get: local === null ? () => { throw new Error("SecurityError"); } : () => local });
+    Object.defineProperty(globalThis, "localStorage", {
+        configurable: true,
+        get:
+            local === null
+                ? () => {
+                      throw new Error("SecurityError");
+                  }
+                : () => local
+    });
     Object.defineProperty(globalThis, "sessionStorage", { configurable: true, get: () => session });
 };
-const { dropNames, dropText, keepObject, keepText, keptObject, keptText, namesKept, whenNotKept } = await import("../../pages/parts/kept.js");
+const {
+    dropNames,
+    dropText,
+    keepObject,
+    keepText,
+    keptObject,
+    keptText,
+    namesKept,
+    whenNotKept
+} = await import("../../pages/parts/kept.js");
 
 test("what is kept is in the store, and is dropped from it", () => {
     const local = storeOf();
@@ -22,11 +63,16 @@ test("what is kept is in the store, and is dropped from it", () => {
     assert.equal(keptText("local", "a"), null);
 });
 
-for (const [what, local] of [["refuses each look", null], ["has no room", full({ old: "1", a: "before" })]]) {
+for (const [what, local] of [
+    ["refuses each look", null],
+    ["has no room", full({ old: "1", a: "before" })]
+]) {
     test(`a store that ${what} leaves all of it to the page, and says so`, () => {
         use(local);
         let told = 0;
-        whenNotKept(() => { told += 1; });
+        whenNotKept(() => {
+            told += 1;
+        });
         assert.equal(told, 1);
         assert.equal(keepText("local", "a", "now"), false);
         assert.equal(told, 2);

@@ -14,13 +14,24 @@ test("a row that is higher than a page has one of its own", () => {
 });
 
 test("every row is on one page, in order, and no page of two rows is too full", () => {
-    for (let first = 5; first <= 40; first += 5) for (let other = first; other <= 60; other += 5) for (let count = 0; count < 30; count += 1) {
-        const heights = Array.from({ length: count }, (_, at) => 3 + (at * 7) % 17), pages = pagesOf(heights, first, other);
-        assert.deepEqual(pages.flatMap(([from, to]) => heights.slice(from, to)), heights);
-        pages.forEach(([from, to], at) => {
-            const full = heights.slice(from, to).reduce((sum, it) => sum + it, 0), room = at === 0 ? first : other;
-            assert.ok(to - from === 1 || count === 0 || full <= room, `page ${at + 1} has ${full} of ${room}`);
-            if (to < count) assert.ok(full + heights[to] > room, `page ${at + 1} has room for one more`);
-        });
-    }
+    for (let first = 5; first <= 40; first += 5)
+        for (let other = first; other <= 60; other += 5)
+            for (let count = 0; count < 30; count += 1) {
+                const heights = Array.from({ length: count }, (_, at) => 3 + (at * 7) % 17),
+                    pages = pagesOf(heights, first, other);
+                assert.deepEqual(pages.flatMap(([from, to]) => heights.slice(from, to)), heights);
+                pages.forEach(([from, to], at) => {
+                    const full = heights.slice(from, to).reduce((sum, it) => sum + it, 0),
+                        room = at === 0 ? first : other;
+                    assert.ok(
+                        to - from === 1 || count === 0 || full <= room,
+                        `page ${at + 1} has ${full} of ${room}`
+                    );
+                    if (to < count)
+                        assert.ok(
+                            full + heights[to] > room,
+                            `page ${at + 1} has room for one more`
+                        );
+                });
+            }
 });

@@ -5,17 +5,25 @@ import { test } from "node:test";
 import { fitting } from "../../pages/parts/place-order.js";
 import { searchable } from "../../pages/parts/roster.js";
 
-const place = (id, text, note = "") => ({ id, text: `${text} (${id})`, sought: ` ${searchable(`${text} (${id}) ${note}`)}` });
+const place = (id, text, note = "") => ({
+    id,
+    text: `${text} (${id})`,
+    sought: ` ${searchable(`${text} (${id}) ${note}`)}`
+});
 const address = (id, text, note = "") => ({ ...place(id, text, note), isAddress: true });
 const ids = (all, typed) => fitting(all, typed).map(({ id }) => id);
 
 // (own and usual places stand first, as the field gives them)
-const MALL = place(14, "Greenway Mall", "door 4, near the pharmacy"), PLAZA = place(19, "Pharmacy Plaza"), CITY = place(20, "City Pharmacy"),
-    INSIDE = place(21, "Bio-Megapharmacy"), STREET = address(22, "4 Pharmacy Rd");
+const MALL = place(14, "Greenway Mall", "door 4, near the pharmacy"),
+    PLAZA = place(19, "Pharmacy Plaza"),
+    CITY = place(20, "City Pharmacy"),
+    INSIDE = place(21, "Bio-Megapharmacy"),
+    STREET = address(22, "4 Pharmacy Rd");
 const TOWN = [MALL, INSIDE, STREET, CITY, PLAZA];
 
-test("a name that begins so comes first, then a word, then a name that has it, then addresses, and notes last", () => {
-    for (const typed of ["Pharmacy", "pharm", " PHARMACY "]) assert.deepEqual(ids(TOWN, typed), [19, 20, 21, 22, 14]);
+test("a name's beginning comes first, then a word's, any part, addresses, and notes", () => {
+    for (const typed of ["Pharmacy", "pharm", " PHARMACY "])
+        assert.deepEqual(ids(TOWN, typed), [19, 20, 21, 22, 14]);
     assert.deepEqual(ids([MALL, PLAZA], "Pharmacy"), [19, 14]);
 });
 

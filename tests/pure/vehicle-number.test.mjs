@@ -4,11 +4,13 @@ import test from "node:test";
 import { vehicleMeant, vehiclesFor } from "../../pages/parts/vehicle-number.js";
 
 const HIGHEST = 4_294_967_295;
-const APART = [{ id: 30, name: "van 130" }, { id: 31, name: "van 131, white" }], MIXED = [{ id: 12, name: "van 30" }, { id: 30, name: "van 130" }];
+const APART = [{ id: 30, name: "van 130" }, { id: 31, name: "van 131, white" }],
+    MIXED = [{ id: 12, name: "van 30" }, { id: 30, name: "van 130" }];
 const meant = (typed, named = APART) => vehicleMeant(typed, named, HIGHEST);
 
 test("a name, a number, or both", () => {
-    for (const typed of ["130", "van 130", "30", "van 130 (30)"]) assert.equal(meant(typed), 30, typed);
+    for (const typed of ["130", "van 130", "30", "van 130 (30)"])
+        assert.equal(meant(typed), 30, typed);
     assert.equal(meant("white"), 31);
 });
 
@@ -21,7 +23,8 @@ test("a number that is one vehicle's and another one's name is neither", () => {
 });
 
 test("what fits several, or nothing, is none", () => {
-    for (const typed of ["van", "", "blue", "0", "99999999999"]) assert.equal(meant(typed), null, typed);
+    for (const typed of ["van", "", "blue", "0", "99999999999"])
+        assert.equal(meant(typed), null, typed);
 });
 
 test("a vehicle without a name goes by its number", () => {

@@ -1,14 +1,34 @@
 """Callers: who asks, what each role may ask, and the last write of each that was accepted."""
-import collections
+
+from __future__ import annotations
+
 import hashlib
+from typing import TYPE_CHECKING, Any, NamedTuple
 
 from second.replies import Denied
 
+if TYPE_CHECKING:
+    from second.desk import Desk
+    from second.requests import Request
+
 MOST_CALLERS = 1000
 
-Caller = collections.namedtuple("Caller", "role subject digest")
-# The last accepted write of a caller: its number, what was asked, and what was told.
-Kept = collections.namedtuple("Kept", "number request reply")
+
+class Caller(NamedTuple):
+    """Who asks, and of which rider or vehicle."""
+
+    role: str
+    subject: int
+    digest: bytes
+
+
+class Kept(NamedTuple):
+    """The last accepted write of a caller: its number, what was asked, and what was told."""
+
+    number: int
+    request: Request | None
+    reply: bytes | None
+
 
 OFFICE = ["rider", "clerk", "dispatcher"]
 RIGHTS = ["rider", "clerk", "examiner", "officer"]
@@ -40,11 +60,11 @@ MAY_ENTER = {
 }
 
 
-def digest_of(key):
+def digest_of(key: str) -> bytes:
     return hashlib.sha256(key.encode()).digest()
 
 
-def caller_with(desk, key):
+def caller_with(desk: Desk, key: str) -> int:
     """The number of the caller with this key."""
     digest = digest_of(key)
     for number, caller in desk.callers.items():
@@ -53,7 +73,7 @@ def caller_with(desk, key):
     raise Denied("desk.key")
 
 
-def kept_reply(desk, number_of_caller, number, request):
+def kept_reply(desk: Desk, number_of_caller: int, number: int, request: Request) -> bytes | None:
     """What the last accepted write was told, where this is that write again; else None, or `desk.number` is named."""
     kept = desk.kept.get(number_of_caller, Kept(0, None, None))
     if (number, request) == (kept.number, kept.request):
@@ -63,22 +83,22 @@ def kept_reply(desk, number_of_caller, number, request):
     return None
 
 
-def rider_of(desk, values):
+def rider_of(desk: Desk, values: dict[str, Any]) -> int | None:
     """Whose rider's request it is: of a trip that is not there, nobody's."""
     if "trip" in values:
         trip = desk.trips.get(values["trip"])
-        return trip and trip.rider
-    return values["rider"]
+        return trip.rider if trip else None
+    return int(values["rider"])
 
 
-def vehicle_of(desk, values):
+def vehicle_of(desk: Desk, values: dict[str, Any]) -> int | None:
     if "trip" in values:
         trip = desk.trips.get(values["trip"])
-        return trip and trip.vehicle
-    return values["vehicle"]
+        return trip.vehicle if trip else None
+    return int(values["vehicle"])
 
 
-def allow(desk, caller, request):
+def allow(desk: Desk, caller: Caller, request: Request) -> None:
     """Denies what the caller's role may not ask, and what is another's."""
     kind, values = request
     roles = MAY_ENTER.get(values["entry"], ["officer"]) if kind == "entry" else MAY[kind]
@@ -91,9 +111,14 @@ def allow(desk, caller, request):
         raise Denied("desk.caller")
 
 
-def put(desk, values):
+def put(desk: Desk, values: dict[str, Any]) -> None:
     number, role, subject, digest = (values[name] for name in ("id", "role", "subject", "digest"))
-    if role == "rider" and subject not in desk.riders or role == "driver" and subject not in desk.vehicles:
+    if (
+        role == "rider"
+        and subject not in desk.riders
+        or role == "driver"
+        and subject not in desk.vehicles
+    ):
         raise Denied("desk.unknown")
     if any(caller.digest == digest for other, caller in desk.callers.items() if other != number):
         raise Denied("desk.exists")

@@ -1,5 +1,11 @@
 """The fields of bodies: each reader gives the value of one, or raises `Bad`."""
+
+from __future__ import annotations
+
+import datetime
 import re
+from collections.abc import Callable
+from typing import Any
 
 from second import days
 
@@ -10,8 +16,8 @@ class Bad(Exception):
     """A field that is missing, of another kind or out of range."""
 
 
-def whole(low, high):
-    def read(value):
+def whole(low: int, high: int) -> Callable[[Any], int]:
+    def read(value: Any) -> Any:
         if isinstance(value, bool) or not isinstance(value, int) or not low <= value <= high:
             raise Bad
         return value
@@ -23,8 +29,8 @@ number = whole(1, LAST_NUMBER)
 minute = whole(0, days.LAST_MINUTE)
 
 
-def one_of(*words):
-    def read(value):
+def one_of(*words: str) -> Callable[[Any], str]:
+    def read(value: Any) -> Any:
         if not isinstance(value, str) or value not in words:
             raise Bad
         return value
@@ -32,63 +38,64 @@ def one_of(*words):
     return read
 
 
-def truth(value):
+def truth(value: Any) -> bool:
     if not isinstance(value, bool):
         raise Bad
     return value
 
 
-def truth_if_any(value):
+def truth_if_any(value: Any) -> bool:
     return value is not None and truth(value)
 
 
-def whole_if_any(low, high):
+def whole_if_any(low: int, high: int) -> Callable[[Any], int]:
     """A whole number, or 0 where there is none."""
     return lambda value: 0 if value is None else whole(low, high)(value)
 
 
-def day(value):
+def day(value: Any) -> datetime.date:
     found = days.day_in(value)
     if found is None:
         raise Bad
     return found
 
 
-def minute_or_none(value):
+def minute_or_none(value: Any) -> int | None:
     return None if value is None else minute(value)
 
 
-def digest(value):
+def digest(value: Any) -> bytes:
     if not isinstance(value, str) or not re.fullmatch(r"[0-9A-Fa-f]{64}", value):
         raise Bad
     return bytes.fromhex(value)
 
 
-def listed(value, least, most):
+def listed(value: Any, least: int, most: int) -> list[Any]:
     if not isinstance(value, list) or not least <= len(value) <= most:
         raise Bad
     return value
 
 
-def points(value):
+def points(value: Any) -> list[tuple[int, int]]:
     coordinate = whole(-1_000_000, 1_000_000)
-    return [tuple(coordinate(it) for it in listed(point, 2, 2)) for point in listed(value, 2, 200)]
+    pairs = [listed(point, 2, 2) for point in listed(value, 2, 200)]
+    return [(coordinate(x), coordinate(y)) for x, y in pairs]
 
 
-def weekdays(value):
+def weekdays(value: Any) -> list[int]:
     """Weekdays from 0, Monday, each once."""
     if not isinstance(value, list):
         raise Bad
     return sorted({whole(1, 7)(it) - 1 for it in value})
 
 
-def words(value):
+def words(value: Any) -> str:
     if not isinstance(value, str) or not re.fullmatch(r"[ -~]{1,500}", value):
         raise Bad
     return value
 
 
-def condition(value):
+def condition(value: Any) -> str:
     """A text of a condition: `always`, `nolift`, `months:..` or `farther:..`."""
     if not isinstance(value, str):
         raise Bad
@@ -104,5 +111,5 @@ def condition(value):
     raise Bad
 
 
-def conditions(value):
+def conditions(value: Any) -> list[str]:
     return [condition(it) for it in listed(value, 1, 4)]

@@ -1,14 +1,26 @@
 """Places: made once, and never replaced."""
-import collections
+
+from __future__ import annotations
+
+from typing import TYPE_CHECKING, Any, NamedTuple
 
 from second.replies import Denied
 
+if TYPE_CHECKING:
+    from second.desk import Desk
+
 MOST_PLACES = 100
 
-Place = collections.namedtuple("Place", "x y core")
+
+class Place(NamedTuple):
+    """A place, in feet, and whether it lies in a core area."""
+
+    x: int
+    y: int
+    core: bool
 
 
-def put(desk, values):
+def put(desk: Desk, values: dict[str, Any]) -> None:
     if values["id"] in desk.places:
         raise Denied("desk.exists")
     if len(desk.places) >= MOST_PLACES:
@@ -16,6 +28,6 @@ def put(desk, values):
     desk.places[values["id"]] = Place(values["x"], values["y"], values["core"])
 
 
-def need(desk, *numbers):
+def need(desk: Desk, *numbers: int) -> None:
     if any(number not in desk.places for number in numbers):
         raise Denied("desk.unknown")

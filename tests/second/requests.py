@@ -1,16 +1,27 @@
 """What a method, a path, a number and a body ask, or the first fault in them."""
-import collections
+
+from __future__ import annotations
+
 import json
 import re
+from collections.abc import Sequence
+from typing import Any, NamedTuple
 
 from second import days, fields
 from second.replies import Denied
 
-# What is asked: the kind of request, and its values by their names. Two requests with the same of both are the same write.
-Request = collections.namedtuple("Request", "kind values")
+
+class Request(NamedTuple):
+    """What is asked, and its values by their names. Two requests with the same of both are the same write."""
+
+    kind: str
+    values: dict[str, Any]
+
 
 ROLES = ["rider", "clerk", "examiner", "officer", "dispatcher", "driver", "admin"]
-WISH = [
+# A field by its name, and what reads it.
+Field = tuple[str, Any]
+WISH: list[Field] = [
     ("day", fields.day),
     ("wish", fields.minute),
     ("from", fields.number),
@@ -21,8 +32,13 @@ WISH = [
 ]
 CENTS = fields.whole(0, 100_000)
 # The fields of each kind of write, in the order in which they are looked at.
-FIELDS = {
-    "caller": [("id", fields.number), ("role", fields.one_of(*ROLES)), ("subject", None), ("digest", fields.digest)],
+FIELDS: dict[str, list[Field]] = {
+    "caller": [
+        ("id", fields.number),
+        ("role", fields.one_of(*ROLES)),
+        ("subject", None),
+        ("digest", fields.digest),
+    ],
     "policy": [
         ("base", CENTS),
         ("transfer", CENTS),
@@ -72,10 +88,10 @@ FIELDS = {
     "cancel": [],
     "outcome": [("outcome", fields.one_of("ridden", "missed-rider", "missed-operator"))],
 }
-GRANT = [("until", fields.day), ("conditions", fields.conditions)]
-REASONS = [("reasons", fields.words)]
+GRANT: list[Field] = [("until", fields.day), ("conditions", fields.conditions)]
+REASONS: list[Field] = [("reasons", fields.words)]
 # The kinds of entries, in the order in which they are counted, and their further fields.
-ENTRIES = {
+ENTRIES: dict[str, list[Field]] = {
     "complete": [],
     "grant": GRANT,
     "refuse": REASONS,
@@ -110,23 +126,23 @@ PATHS = [
 ]
 
 
-def number_in(text, low, high):
+def number_in(text: str, low: int, high: int) -> int | None:
     """The number that these one to ten digits are, or None."""
     return int(text) if re.fullmatch(r"[0-9]{1,10}", text) and low <= int(text) <= high else None
 
 
-def value_in_path(name, text):
+def value_in_path(name: str, text: str) -> Any:
     if name == "day":
         return days.day_in(text)
     return number_in(text, 0, 199) if name == "entry" else number_in(text, 1, fields.LAST_NUMBER)
 
 
-def values_in_path(pattern, path):
+def values_in_path(pattern: str, path: str) -> dict[str, Any] | None:
     """The values that the path has in the pattern's places, or None."""
     parts, pieces = pattern.split("/"), path.split("/")
     if len(parts) != len(pieces):
         return None
-    values = {}
+    values: dict[str, Any] = {}
     for part, piece in zip(parts, pieces):
         if part.startswith("{"):
             values[part[1:-1]] = value_in_path(part[1:-1], piece)
@@ -135,7 +151,7 @@ def values_in_path(pattern, path):
     return None if None in values.values() else values
 
 
-def found_path(path):
+def found_path(path: str) -> tuple[str, str, dict[str, Any]]:
     for pattern, method, kind in PATHS:
         values = values_in_path(pattern, path.partition("?")[0])
         if values is not None:
@@ -143,7 +159,7 @@ def found_path(path):
     raise Denied("http.path")
 
 
-def members_of(body):
+def members_of(body: str) -> dict[str, Any]:
     try:
         members = json.loads(body) if body else {}
     except ValueError:
@@ -153,15 +169,15 @@ def members_of(body):
     return members
 
 
-def reader_of(name, reader, values):
+def reader_of(name: str, reader: Any, values: dict[str, Any]) -> Any:
     """A caller's subject is a number for a rider and a driver, and 0 for others."""
     if name == "subject":
         return fields.number if values["role"] in ("rider", "driver") else fields.whole(0, 0)
     return reader
 
 
-def read_fields(wanted, members):
-    values = {}
+def read_fields(wanted: Sequence[Field], members: dict[str, Any]) -> dict[str, Any]:
+    values: dict[str, Any] = {}
     for name, reader in wanted:
         # (a text in a reader's place names the field that this one may not pass)
         if isinstance(reader, str):
@@ -175,12 +191,12 @@ def read_fields(wanted, members):
     return values
 
 
-def entry_in(members):
+def entry_in(members: dict[str, Any]) -> dict[str, Any]:
     kind = read_fields([("entry", fields.one_of(*ENTRIES))], members)["entry"]
     return {"entry": kind, **read_fields(ENTRIES[kind], members)}
 
 
-def write_number(text):
+def write_number(text: str | None) -> int:
     """The number of a write, which the header Desk-Number has."""
     number = None if text is None else number_in(text, 0, fields.LAST_NUMBER)
     if number is None:
@@ -188,7 +204,7 @@ def write_number(text):
     return number
 
 
-def read(method, path, number, body):
+def read(method: str, path: str, number: str | None, body: str) -> tuple[Request, int | None]:
     """The request, and the number of a write or None."""
     allowed, kind, values = found_path(path)
     if method != allowed:
@@ -196,6 +212,6 @@ def read(method, path, number, body):
     if method == "GET":
         return Request(kind, values), None
     members = members_of(body)
-    number = write_number(number)
+    of_write = write_number(number)
     values.update(entry_in(members) if kind == "entry" else read_fields(FIELDS[kind], members))
-    return Request(kind, values), number
+    return Request(kind, values), of_write

@@ -1,14 +1,26 @@
 """Records of riders."""
-import collections
+
+from __future__ import annotations
+
+from typing import TYPE_CHECKING, Any, NamedTuple
 
 from second.replies import Denied
 
+if TYPE_CHECKING:
+    from second.desk import Desk
+
 MOST_RIDERS = 100_000
 
-Rider = collections.namedtuple("Rider", "kind attendant wheelchair")
+
+class Rider(NamedTuple):
+    """A rider's record."""
+
+    kind: str
+    attendant: bool
+    wheelchair: bool
 
 
-def put(desk, values):
+def put(desk: Desk, values: dict[str, Any]) -> None:
     there = desk.riders.get(values["id"])
     if there and there.kind != values["kind"]:
         raise Denied("desk.exists")
@@ -17,7 +29,7 @@ def put(desk, values):
     desk.riders[values["id"]] = Rider(values["kind"], values["attendant"], values["wheelchair"])
 
 
-def need(desk, number):
+def need(desk: Desk, number: int) -> Rider:
     if number not in desk.riders:
         raise Denied("desk.unknown")
     return desk.riders[number]

@@ -1,11 +1,23 @@
 """Travel tables and driving times: the least total of any chain of rows."""
+
+from __future__ import annotations
+
+import datetime
+from typing import TYPE_CHECKING
+
 from second import days, places
 from second.replies import Denied
+
+if TYPE_CHECKING:
+    from second.desk import Desk
+
+# The minutes by pairs of places.
+Rows = dict[tuple[int, int], int]
 
 MOST_TABLES = 50
 
 
-def rows_in(text):
+def rows_in(text: str) -> Rows:
     """The minutes by pairs of places of a table's CSV that has no fault."""
     header, *lines = text.splitlines()
     assert header == "from,to,minutes"
@@ -13,7 +25,7 @@ def rows_in(text):
     return {(start, goal): minutes for start, goal, minutes in rows}
 
 
-def put(desk, first, rows):
+def put(desk: Desk, first: datetime.date, rows: Rows) -> None:
     for pair in rows:
         places.need(desk, *pair)
     if any(it.wish.day >= first and it.status != "cancelled" for it in desk.trips.values()):
@@ -24,13 +36,13 @@ def put(desk, first, rows):
     desk.tables = {**earlier, first: rows}
 
 
-def table_on(desk, day):
+def table_on(desk: Desk, day: datetime.date) -> Rows:
     """The rows that hold on the day: those of the greatest first day that is not after it."""
     first = max((it for it in desk.tables if it <= day), default=None)
-    return desk.tables.get(first, {})
+    return desk.tables[first] if first else {}
 
 
-def least_from(start, rows):
+def least_from(start: int, rows: Rows) -> dict[int, int]:
     """The least minutes from a place to each that can be reached: rows are tried until nothing changes."""
     least = {start: 0}
     is_changed = True
@@ -46,10 +58,11 @@ def least_from(start, rows):
 class Times:
     """The driving times of one day, each worked out when it is first asked for."""
 
-    def __init__(self, desk, day):
-        self.rows, self.known = table_on(desk, day), {}
+    def __init__(self, desk: Desk, day: datetime.date) -> None:
+        self.rows = table_on(desk, day)
+        self.known: dict[int, dict[int, int]] = {}
 
-    def between(self, origin, goal):
+    def between(self, origin: int, goal: int) -> int | None:
         """The driving time, or None where there is no way or it takes longer than a day."""
         if origin not in self.known:
             self.known[origin] = least_from(origin, self.rows)

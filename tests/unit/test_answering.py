@@ -1,15 +1,12 @@
 """A desk that was started serves once the same process answers twice; else one sentence says what is so."""
 
 import http.server
-import pathlib
-import sys
 import threading
 from collections.abc import Iterator
 
 import pytest
 
-sys.path.append(str(pathlib.Path(__file__).parents[2] / "deploy"))
-from desk_ops import answering  # noqa: E402
+from desk_tools.ops import answering
 
 
 class Told:

@@ -68,5 +68,5 @@ def test_words_and_machines_that_are_wrong(
     assert capsys.readouterr().err == "bin/check: crates.txt has no crate nothing\n"
     monkeypatch.undo()
     monkeypatch.setattr(crate_check.shutil, "which", lambda _: None)
-    assert crate_check.run(["pt_base"]) == 2
+    assert crate_check.run(["pt_base_values"]) == 2
     assert "rattle is not installed" in capsys.readouterr().err

@@ -1,6 +1,7 @@
 """The files of each van's driver: what is in them, and what never is."""
 
 import csv
+import datetime
 import io
 import json
 import os
@@ -11,7 +12,7 @@ from hypothesis import given
 from hypothesis import strategies as st
 
 from desk_tools import driver_files
-from desk_tools.driver_files import Need, Wrong, needs_in, put, texts_of
+from desk_tools.driver_files import Need, Wrong, needs_in, plans_in, put, texts_of
 
 SHEET = """VEHICLE 1 DAY 2025-03-11
 08:00 DEPOT 5
@@ -54,6 +55,23 @@ def test_a_van_has_the_riders_and_places_of_its_own_stops() -> None:
     }
     assert needs[1].outcomes == {3: "missed-rider"}
     assert needs[3].outcomes == {}
+
+
+def test_the_plans_have_times_and_outcomes_and_no_rider_and_no_place() -> None:
+    made = datetime.datetime(2025, 3, 11, 13, 4, 20, tzinfo=datetime.timezone.utc)
+    plans = plans_in("2025-03-11", SHEET, EXPORT, made)
+    assert (plans["day"], plans["made"]) == ("2025-03-11", "2025-03-11T13:04:20Z")
+    assert plans["outcomes"] == {"3": "missed-rider", "5": "cancelled"}
+    assert plans["vehicles"]["3"] == [
+        {"at": 600, "what": "DEPOT"},
+        {"at": 605, "what": "PICK", "trip": 4, "load": 1, "chairs": 0, "window": [605, 620]},
+        {"at": 620, "what": "DROP", "trip": 4, "load": 0, "chairs": 0},
+        {"at": 630, "what": "DEPOT"},
+    ]
+    assert [it.get("chairs") for it in plans["vehicles"]["1"]] == [None, 1, 0, None]
+    # (a van without stops has no plan)
+    assert set(plans["vehicles"]) == {"1", "3"}
+    assert "rider" not in json.dumps(plans["vehicles"]) and "place" not in json.dumps(plans)
 
 
 def test_two_days_are_one_need() -> None:
@@ -150,6 +168,8 @@ def test_a_desk_that_does_not_answer_leaves_the_files(
     tmp_path: Path, caplog: pytest.LogCaptureFixture
 ) -> None:
     put(tmp_path, {1: {"roster.csv": "x\n"}})
+    (tmp_path / "staff").mkdir()
+    (tmp_path / "staff/places.json").write_text('{"places": []}\n')
     key = tmp_path / "key"
     key.write_text("hello\n")
     words = [str(tmp_path), "--key", str(key), "--url", "http://127.0.0.1:9"]
@@ -157,3 +177,16 @@ def test_a_desk_that_does_not_answer_leaves_the_files(
     assert "does not answer" in caplog.text
     assert (tmp_path / "drivers/1/roster.csv").read_text() == "x\n"
     assert driver_files.main([str(tmp_path), "--key", str(tmp_path / "none")]) == 1
+
+
+def test_a_folder_that_is_not_the_sites_gets_no_files(
+    tmp_path: Path, caplog: pytest.LogCaptureFixture
+) -> None:
+    key = tmp_path / "key"
+    key.write_text("hello\n")
+    folder = tmp_path / "elsewhere"
+    folder.mkdir()
+    words = [str(folder), "--key", str(key), "--url", "http://127.0.0.1:9"]
+    assert driver_files.main(words) == 1
+    assert "has no staff/places.json of bin/site-files" in caplog.text
+    assert not list(folder.iterdir())

@@ -6,7 +6,6 @@ import random
 import re
 import shutil
 import subprocess
-import sys
 from typing import Any
 
 import pytest
@@ -16,8 +15,7 @@ from hypothesis import strategies as some
 from desk_tools import event_log, events
 from desk_tools.events import EVENTS, TOP, Event, Form
 
-sys.path.append(str(TOP / "bin"))
-from moving.rules import RULES
+from desk_tools.setup.rules import RULES
 
 AT = "2026-11-28T09:24:40-06:00"
 SIGNS = [

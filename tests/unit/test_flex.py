@@ -74,6 +74,14 @@ def files(corridors: list[Corridor]) -> dict[str, str]:
     )
 
 
+def test_who_waits_sees_how_many_zones_are_drawn() -> None:
+    hours = [feed.Hours((1,), first, 1_200) for first in (300, 360, 420)]
+    lines = Line(((0.0, 0.0), (9_000.0, 0.0)), 3_960)
+    shown: list[int] = []
+    feed.geojson_of({it: [lines] for it in hours}, lambda x, y: (x, y), shown.append)
+    assert shown == [0, 1, 2]
+
+
 @settings(max_examples=25)
 @given(some.lists(some.builds(Corridor, LINE, HOURS), min_size=1, max_size=4))
 def test_each_feed_passes_its_checks(corridors: list[Corridor]) -> None:

@@ -4,10 +4,12 @@ import json
 import time
 from pathlib import Path
 
+from desk_tools import agencies
 from desk_tools.health.access_log import Follower, request_of
 from desk_tools.health.command import Desks
 from desk_tools.health.figures import Figures, text_of
 
+MAIN = agencies.Agency()
 LINE = '127.0.0.1 - - [29/Nov/2026:21:55:01 +0000] "{} {} HTTP/2.0" {} 17 "-" "curl" desk.test 0.250 0.125'
 
 
@@ -49,25 +51,29 @@ def test_figures(tmp_path: Path) -> None:
     log, seen = tmp_path / "access.log", tmp_path / "seen.json"
     log.write_text(line() + line(status=401) + line("GET", "/riders/1/trips"), encoding="utf-8")
     now = time.time()
-    told = {"moment": now, "backups": {"desk": now - 60}, "written": {"desk": now - 5}}
-    told |= {"sizes": {"desk": 4096}, "copies": {"desk": [2, 9, now]}, "ports": {"desk": "1"}}
-    seen.write_text(json.dumps({**told, "troubles": [["desk", "backup"]]}), encoding="utf-8")
+    told = {"moment": now, "backups": {MAIN.unit: now - 60}, "written": {MAIN.unit: now - 5}}
+    told |= {
+        "sizes": {MAIN.unit: 4096},
+        "copies": {MAIN.unit: [2, 9, now]},
+        "ports": {MAIN.unit: "1"},
+    }
+    seen.write_text(json.dumps({**told, "troubles": [[MAIN.unit, "backup"]]}), encoding="utf-8")
     figures = Figures(Follower(log), seen)
     figures.look()
-    text = text_of(figures, {"desk": False})
+    text = text_of(figures, {MAIN.unit: False})
     for wanted in (
-        'desk_up{desk="desk"} 0',
+        f'desk_up{{desk="{MAIN.unit}"}} 0',
         'desk_requests_total{site="desk.test",path="trips",status="200"} 1',
         "desk_refused_keys_total 1",
         'desk_request_seconds_bucket{path="riders",le="1"} 1',
-        'desk_file_bytes{desk="desk"} 4096',
-        'desk_upgrade_copies{desk="desk"} 2',
-        'desk_trouble{desk="desk",kind="backup"} 1',
+        f'desk_file_bytes{{desk="{MAIN.unit}"}} 4096',
+        f'desk_upgrade_copies{{desk="{MAIN.unit}"}} 2',
+        f'desk_trouble{{desk="{MAIN.unit}",kind="backup"}} 1',
     ):
         assert wanted in text
     # By the log alone: a start of the desk moves the moment of its file, and answers no write.
     told_by_log = time.time() - 1795989301
-    since = figures.seconds_since_write("desk", True)
+    since = figures.seconds_since_write(MAIN.unit, True)
     assert since is not None and abs(since - max(0.0, told_by_log)) < 30
     assert figures.seconds_since_write("desk@north", False) is None
     seen.write_text(json.dumps({"sites": {"desk@north": "desk.test"}}), encoding="utf-8")
@@ -78,10 +84,10 @@ def test_no_write_in_the_log(tmp_path: Path) -> None:
     """Where the log has no answered write nobody knows, whatever the file's moment is."""
     log, seen = tmp_path / "access.log", tmp_path / "seen.json"
     log.write_text(line(status=401), encoding="utf-8")
-    seen.write_text(json.dumps({"written": {"desk": time.time()}}), encoding="utf-8")
+    seen.write_text(json.dumps({"written": {MAIN.unit: time.time()}}), encoding="utf-8")
     figures = Figures(Follower(log), seen)
     figures.look()
-    assert figures.seconds_since_write("desk", True) is None
+    assert figures.seconds_since_write(MAIN.unit, True) is None
 
 
 def test_health_of_a_desk_that_is_down(tmp_path: Path) -> None:

@@ -4,16 +4,16 @@ import itertools
 import json
 import os
 import pathlib
-import sys
 import types
 from collections.abc import Iterator
 
 import pytest
 
-sys.path.append(str(pathlib.Path(__file__).parents[2] / "deploy"))
-from desk_ops import fences, interrupted, standby, watching  # noqa: E402
-from desk_ops.locking import alone  # noqa: E402
+from desk_tools import agencies
+from desk_tools.ops import fences, interrupted, standby, watching
+from desk_tools.ops.locking import alone
 
+MAIN = agencies.Agency()
 ENDS = ("", "-wal", "-shm")
 
 
@@ -99,9 +99,9 @@ def test_the_watch_starts_it_again(tmp_path: pathlib.Path) -> None:
     """The unit is wanted, and the line says why."""
     wanted: list[str] = []
     said = {"what": "a restore", "starts_old": True}
-    found = list(watching.troubles_of_interruption(said, "desk", wanted))
-    assert wanted == ["desk"] and "a restore was killed after it had stopped" in found[0][1]
-    assert not list(watching.troubles_of_interruption(None, "desk", wanted))
+    found = list(watching.troubles_of_interruption(said, MAIN.unit, wanted))
+    assert wanted == [MAIN.unit] and "a restore was killed after it had stopped" in found[0][1]
+    assert not list(watching.troubles_of_interruption(None, MAIN.unit, wanted))
 
 
 def test_nobody_waits_for_a_desk_that_was_stopped(
@@ -115,9 +115,9 @@ def test_nobody_waits_for_a_desk_that_was_stopped(
     told = {"moment": 1e9, "uptime": 9.0, "units": {}, "backups": {}, "sizes": {}, "standby": {}}
     said = {"what": "a restore", "starts_old": True}
     found, wanted = watching.troubles(
-        {**told, "interrupted": {"desk": said}}, {}, str(tmp_path), 45
+        {**told, "interrupted": {MAIN.unit: said}}, {}, str(tmp_path), 45
     )
-    assert wanted == ["desk"] and any(it[1] == "killed" for it in found)
+    assert wanted == [MAIN.unit] and any(it[1] == "killed" for it in found)
     watching.troubles(told, {}, str(tmp_path), 45)
     assert waited == [0, 45]
 
@@ -138,7 +138,7 @@ def test_a_fenced_machine_says_what_is_missing(
     """A machine that fenced itself may have what the other lacks; once that was listed the watch is silent."""
     fence = tmp_path / "fenced"
     fence.write_text(text)
-    desk = types.SimpleNamespace(fence=str(fence), agency=None)
+    desk = types.SimpleNamespace(fence=str(fence), agency=agencies.Agency())
     assert fences.is_compared(str(fence)) is is_well
     assert (not list(watching.troubles_of_fence(desk))) is is_well
     standby.note_compared(desk)

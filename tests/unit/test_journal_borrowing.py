@@ -151,7 +151,19 @@ def test_a_name_is_no_mark_and_steers_nothing(tmp_path: Path, name: str, shown: 
         (b"number,name,role,digits\n11,Rosa \xff\xfe\x81\x8d,clerk,abc\n", "row 2"),
         (b"number,name,role,subject,from,to,digits\n11,Rosa,clerk,,2026-11-2", "row 2"),
         (b"what,ever\n1,2\n", "number"),
-        (b"number,name,role,subject,from,to,digits\n11,Rosa,clerk,,,,abc\n\xff", "row 3"),
+        (b"number,name,role,subject,from,to,digits\n11,Rosa,clerk,,,,abcabcabcabc\n\xff", "row 3"),
+        (
+            b"number,name,role,digits\n11,Rosa,clerk,1.23457E+11\n",
+            "row 2: its digits '1.23457E+11'",
+        ),
+        (
+            b"number,name,role,digits\n11,Rosa,clerk,12345678901\n",
+            "row 2: its digits '12345678901'",
+        ),
+        (
+            b"number,name,role,from,digits\n11,Rosa,clerk,11/29/2026,abcabcabcabc\n",
+            "row 2: from is",
+        ),
     ],
 )
 def test_a_damaged_callers_csv_is_named_by_its_row(
@@ -167,10 +179,10 @@ def test_a_damaged_callers_csv_is_named_by_its_row(
 def test_callers_csv_with_semicolons_is_read(tmp_path: Path) -> None:
     path = tmp_path / "callers.csv"
     path.write_text(
-        "number;name;role;subject;from;to;digits\n11;Rosa;clerk;;;;ABC\n;;;;;;up to entry 7\n"
+        "number;name;role;subject;from;to;digits\n11;Rosa;clerk;;;;ABCABCABCABC\n;;;;;;up to entry 7\n"
     )
     known = people.read(path)
-    assert known.rows == [Person(11, "Rosa", "clerk", 0, "", "", "abc")] and known.upto == 7
+    assert known.rows == [Person(11, "Rosa", "clerk", 0, "", "", "abc" * 4)] and known.upto == 7
 
 
 def test_an_answer_from_a_changed_record_says_so_first(tmp_path: Path) -> None:

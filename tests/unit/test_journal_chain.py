@@ -6,6 +6,7 @@ import json
 import os
 import re
 import subprocess
+import zlib
 from datetime import date, datetime, timedelta, timezone
 from pathlib import Path
 
@@ -13,7 +14,16 @@ import pytest
 from hypothesis import given
 from hypothesis import strategies as some
 
-from desk_tools.journal import chain, lines, reading, retention, signing, taking, verifying
+from desk_tools.journal import (
+    corrections,
+    chain,
+    lines,
+    reading,
+    retention,
+    signing,
+    taking,
+    verifying,
+)
 from desk_tools.journal.places import Places, Wrong
 
 TOP = Path(__file__).resolve().parents[2]
@@ -172,12 +182,36 @@ def changed(path: Path, old: bytes, new: bytes) -> None:
     path.write_bytes(gzip.compress(content) if path.suffix == ".gz" else content)
 
 
+def unpacked(path: Path) -> bytes:
+    """What is packed in a file; nothing where that can't be read."""
+    try:
+        return gzip.decompress(path.read_bytes())
+    except (EOFError, OSError, zlib.error):
+        return b""
+
+
 @pytest.mark.parametrize("at", [0, 1, 2])
 def test_a_changed_line_is_named(office: Office, at: int) -> None:
     three_days(office)
     changed(office.file(at), b"/riders/", b"/Riders/")
     status, said = office.verify()
     assert status == verifying.BROKEN and f"{at + 1:06}-" in said and "line 3" in said, said
+
+
+def test_a_packed_day_with_any_byte_changed_is_named_and_hides_no_other_day(office: Office) -> None:
+    """A disk that loses a byte of a closed day, or a hand that changes one, gets a sentence and never a traceback."""
+    three_days(office)
+    path, whole = office.file(1), office.file(1).read_bytes()
+    others = {f"/riders/{it}/trips" for it in (8, 18, 10, 20)}
+    for at in range(len(whole)):
+        path.write_bytes(whole[:at] + bytes([whole[at] ^ 0x55]) + whole[at + 1 :])
+        reader = reading.Reader(office.places, checks=True)
+        assert others <= {it.path for it in reader.lines()}, at
+        assert not [*reading.notes_of(office.places, "corrections")]
+        status, said = office.verify()
+        # (a byte that changes nothing of the lines, such as the moment in gzip's head, breaks nothing)
+        wanted = verifying.HOLDS if unpacked(path) == gzip.decompress(whole) else verifying.BROKEN
+        assert (status, bool(reader.broken)) == (wanted, wanted != verifying.HOLDS), (at, said)
 
 
 def test_a_line_left_out_or_put_in_is_named(office: Office) -> None:
@@ -208,8 +242,10 @@ def test_the_last_days_gone_is_another_status(office: Office, tmp_path: Path) ->
     assert status == verifying.ENDS_EARLY and "a head names entry" in said
     for path in (office.places.folder / "heads").iterdir():
         path.unlink()
-    # (the closed file is not followed by another one, so it is the last)
-    assert office.verify(today=TODAY + timedelta(days=3))[0] == verifying.ENDS_EARLY
+    # (the closed file is not followed by another one, so it is the last: also on the day itself)
+    for days in range(4):
+        status, said = office.verify(today=TODAY + timedelta(days=days))
+        assert status == verifying.ENDS_EARLY, (days, said)
     elsewhere = tmp_path / "elsewhere"
     elsewhere.mkdir()
 
@@ -376,11 +412,29 @@ def test_backups_are_kept_by_the_agency_s_rule(
 
 def test_one_place_says_how_long_backups_are_kept() -> None:
     """The unit of the backup removes none: two limits would make the shorter one the true one."""
-    for name in ("desk-backup.service", "desk-backup@.service"):
-        text = (TOP / "deploy" / name).read_text(encoding="utf-8")
-        removing = [it for it in text.splitlines() if "-delete" in it or "rm -rf" in it]
-        assert [it for it in removing if ".db.part" not in it and ".before-" not in it] == []
+    text = (TOP / "deploy/desk-backup@.service").read_text(encoding="utf-8")
+    removing = [it for it in text.splitlines() if "-delete" in it or "rm -rf" in it]
+    assert [it for it in removing if ".db.part" not in it and ".before-" not in it] == []
     assert "rotate -1" in (TOP / "deploy/desk.logrotate").read_text(encoding="utf-8")
+
+
+def test_each_agency_keeps_its_own_tally(office: Office, tmp_path: Path) -> None:
+    """What was rotated out of one agency's log goes by its rule; another agency's stays."""
+    old = datetime.combine(TODAY - timedelta(days=5_000), datetime.min.time()).timestamp()
+    for name in (
+        "tally-main.log",
+        "tally-main.log-2010",
+        "tally-main.log-2026",
+        "tally-north.log-2010",
+    ):
+        (tmp_path / name).write_text("a count")
+        if name.endswith("2010"):
+            os.utime(tmp_path / name, (old, old))
+    rules = [it for it in retention.rules_of({}) if it.kind == "tally"]
+    log = {"tally": tmp_path / "tally-main.log"}
+    said = retention.keep(office.places, log, rules, TODAY, is_plan=False)
+    assert said[0].endswith("1 file removed: tally-main.log-2010")
+    assert (tmp_path / "tally-north.log-2010").exists()
 
 
 def test_retention_of_a_record_that_has_not_begun(office: Office) -> None:
@@ -500,3 +554,22 @@ def test_a_day_that_does_not_hold_is_not_signed(office: Office, tmp_path: Path) 
     path.write_bytes(path.read_bytes().replace(b"/riders/9/trips", b"/riders/2/trips"))
     assert verifying.close(office.places, chain.files_in(office.places.record)[0], key) == ""
     assert list(office.places.record.glob("*.sig"))
+
+
+def test_corrections_take_no_reading_of_the_whole_record(office: Office, tmp_path: Path) -> None:
+    """The unit comes each five minutes, and a record has years: an old day that can't be read is no matter to it."""
+    table = tmp_path / "corrections.csv"
+    row = "{},ridden,Rosa,it was there\n"
+    table.write_text("trip,outcome,who,why\n" + row.format(3), encoding="utf-8")
+    three_days(office)
+    assert [corrections.take(office.places, table) for _ in range(3)] == [1, 0, 0]
+    office.file(0).write_bytes(b"no gzip")
+    assert corrections.take(office.places, table) == 0
+    with table.open("a", encoding="utf-8") as file:
+        file.write(row.format(4))
+    assert [corrections.take(office.places, table) for _ in range(3)] == [1, 0, 0]
+    # (without the file of what was noted the record itself says it)
+    for content in (b"", b"[]", b'{"upto":"x","rows":[]}', b'{"upto":7,"rows":7}'):
+        (office.places.folder / corrections.NOTED).write_bytes(content)
+        with pytest.raises(chain.Broken):
+            corrections.take(office.places, table)

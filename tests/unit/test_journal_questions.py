@@ -127,6 +127,17 @@ def test_a_lost_key_that_is_replaced_once_is_not_borrowed(tmp_path: Path) -> Non
     )
 
 
+def test_keys_that_nobody_is_named_for_say_what_to_do(tmp_path: Path) -> None:
+    """Without a row of the admin each change of a key is nobody's, also who borrowed one."""
+    found = [put_key(1, "abc", 11, "own"), put_key(2, "abc", 11, "new", 422)]
+    assert any(
+        "journal callers" in it for it in questions.of_keys(asked_of(tmp_path, found, [])).notes
+    )
+    known = questions.of_keys(asked_of(tmp_path, found, [ADMIN])).notes
+    refused = questions.of_keys(asked_of(tmp_path, found[1:], [])).notes
+    assert not any("journal callers" in it for it in known + refused), (known, refused)
+
+
 def test_a_key_that_was_refused_is_no_deed(tmp_path: Path) -> None:
     asked = asked_of(tmp_path, [put_key(1, "abc", 11, "own", 422)], [ADMIN])
     [row] = questions.of_keys(asked).rows
@@ -167,6 +178,8 @@ def test_a_person_keeps_what_was_done_under_an_earlier_key_and_role(tmp_path: Pa
     own = questions.of_own(asked, 7)
     assert [it[1] for it in own.rows][:2] == ["the agency (examiner)", "the agency (clerk)"]
     assert "Rosa" not in sheets.as_csv(own.columns, own.rows)
+    # (who read a manifest is no row, and the rider has to know that)
+    assert own.notes[-1].endswith("Who read them is not in this copy.")
 
 
 def test_taking_in_the_callers_twice_changes_nothing(tmp_path: Path) -> None:
@@ -190,12 +203,25 @@ def test_taking_in_the_callers_twice_changes_nothing(tmp_path: Path) -> None:
 def test_rows_by_hand_stay(tmp_path: Path) -> None:
     path = tmp_path / "callers.csv"
     path.write_text(
-        'number,name,role,subject,from,to,digits\n11,"Peña, Rosa",examiner,,,,ABC\n,,,,,,\n',
+        'number,name,role,subject,from,to,digits\n11,"Peña, Rosa",examiner,,,,ABCABCABCABC\n,,,,,,\n',
         encoding="utf-8-sig",
     )
     known = people.read(path)
     people.keep(path, known)
-    assert people.read(path).rows == [Person(11, "Peña, Rosa", "examiner", 0, "", "", "abc")]
+    assert people.read(path).rows == [Person(11, "Peña, Rosa", "examiner", 0, "", "", "abc" * 4)]
+
+
+@pytest.mark.parametrize("question", ["trip", "rider", "caller", "standing", "own"])
+@pytest.mark.parametrize("number", ["0", "-1", "4294967296", "9" * 5000, "٣", "1.0"])
+def test_a_question_is_about_a_number(
+    tmp_path: Path, capsys: pytest.CaptureFixture[str], question: str, number: str
+) -> None:
+    """A line that names nobody has 0: a rider's own copy of rider 0 would be everybody's lines."""
+    asked_of(tmp_path, [request(1, "own", "POST", "/policy", body={}, reply={})], [ADMIN])
+    with pytest.raises(SystemExit) as ended:
+        command.main(["--folder", str(tmp_path), question, "--", number])
+    said = capsys.readouterr()
+    assert ended.value.code == 2 and not said.out and "number" in said.err
 
 
 def test_a_change_shows_what_was_promised_before(tmp_path: Path) -> None:
@@ -390,6 +416,7 @@ def test_an_answer_without_lines_says_what_it_cannot_know(tmp_path: Path) -> Non
         assert answer.title.endswith(", from 2026-10-01 on"), answer.title
         assert answer.rows and "begins on 2026-11-29" in answer.notes[0], answer
     assert "begins on" in questions.of_trip(asked, 5).notes[0]
+    assert "begins on 2026-11-29" in questions.of_keys(asked).notes[0]
     assert not questions.of_rider(asked, 7, False).notes
 
 
@@ -415,3 +442,44 @@ def test_days_that_are_turned_around_are_wrong_words(
     with pytest.raises(SystemExit) as ended:
         command.main(said)
     assert ended.value.code == 2 and "is after --to" in capsys.readouterr().err
+
+
+def test_a_folder_without_a_record_is_named(
+    tmp_path: Path, capsys: pytest.CaptureFixture[str]
+) -> None:
+    assert command.main(["--folder", str(tmp_path), "keys"]) == 1
+    assert capsys.readouterr().err == f"bin/journal: there is no record in {tmp_path}\n"
+
+
+def took(folder: Path, *more: str) -> int:
+    """The status of `journal take` over a folder without nginx."""
+    words = ["--folder", str(folder / "journal"), "--agency", str(folder / "none"), "take"]
+    files = ["--nginx-pid", str(folder / "none"), "--key", str(folder / "none")]
+    return command.main([*words, *files, "--corrections", str(folder / "corrections.csv"), *more])
+
+
+@pytest.mark.parametrize("sep, encoding", [(",", "utf-8-sig"), (";", "cp1252"), ("\t", "utf-16")])
+def test_corrections_are_read_as_a_spreadsheet_saves_them(
+    tmp_path: Path, sep: str, encoding: str
+) -> None:
+    asked = asked_of(tmp_path / "journal", [request(1, "own", "POST", "/trips/3/cancel")], [ADMIN])
+    rows = [("Trip", "Outcome", "Who", "Why"), ("3", "ridden", "Rosa Peña", "it was there")]
+    text = "".join(sep.join(it) + "\r\n" for it in rows)
+    (tmp_path / "corrections.csv").write_bytes(text.encode(encoding))
+    assert (took(tmp_path), took(tmp_path)) == (0, 0)
+    told = [it for it in questions.of_trip(asked, 3).rows if it[2] == "corrected the outcome"]
+    assert [(it[1], it[4]) for it in told] == [
+        ("Rosa Peña", "outcome: ridden; who: Rosa Peña; why: it was there")
+    ]
+
+
+def test_corrections_that_are_no_table_keep_nothing_from_being_sent(
+    tmp_path: Path, caplog: pytest.LogCaptureFixture
+) -> None:
+    asked_of(tmp_path / "journal", [put_key(1, "abc", 11, "own")], [ADMIN])
+    (tmp_path / "corrections.csv").write_bytes(b"PK\x03\x04 a workbook")
+    (tmp_path / "elsewhere").mkdir()
+    assert took(tmp_path, "--offsite", str(tmp_path / "elsewhere")) == 1
+    assert "save it as CSV" in caplog.text
+    assert list((tmp_path / "elsewhere").glob("*.now"))
+    assert people.read(tmp_path / "journal" / "callers.csv").now(11)

@@ -8,7 +8,7 @@ import pytest
 DEPLOY = Path(__file__).resolve().parents[2] / "deploy"
 # A unit that has a key of a caller who may write. The drivers' files only read.
 WRITES = re.compile(r"--(clerk|dispatcher|admin|examiner|officer)\b")
-READS_ALONE = ("desk-driver-files.service", "desk-driver-files@.service")
+READS_ALONE = ("desk-driver-files@.service",)
 
 
 @pytest.mark.parametrize("path", sorted(DEPLOY.glob("*.service")), ids=lambda it: it.name)

@@ -8,6 +8,7 @@ import sqlite3
 import pytest
 
 from desk_tools import keys_of_then, left_behind, theft
+from desk_tools.ops import places, restoring
 from desk_tools.theft import BOOKED, CANCELED, MISSED, RIDDEN, Caller, Trip
 
 DAY = datetime.date(2026, 12, 3)
@@ -113,3 +114,11 @@ def test_keys_of_a_restore() -> None:
     assert not keys_of_then.lines_of(before, before)
     moved = keys_of_then.lines_of({1: Caller("admin", 0, b"k")}, {1: clerk})
     assert moved == ["caller 1 was an admin and is a clerk again, as in the backup"]
+
+
+def test_a_lost_file_leaves_the_keys_unknown() -> None:
+    """A key that was stolen and replaced holds again, and no file is there that says which."""
+    restored = restoring.Restore(places.Desk(), "/nowhere/desk.db")
+    assert restored.keys_not_known() == [keys_of_then.UNKNOWN]
+    restored.kept = "/nowhere/before"
+    assert not restored.keys_not_known()

@@ -283,7 +283,7 @@ def test_a_roster_is_read_as_a_spreadsheet_saved_it(
 @pytest.mark.parametrize(
     "text, said",
     [
-        ("Rider,Language\n101,es\n", "has no column name in its first row"),
+        ("Rider,Language\n101,es\n", "has no column name in row 1"),
         ("rider,name\n101,Ana,one too many\n", "row 2: it has 3 cells"),
         ("PK", "is a workbook and no CSV"),
     ],

@@ -2,13 +2,12 @@
 
 import shutil
 import subprocess
-import sys
 from pathlib import Path
 
 import pytest
 
 from desk_tools import page_packing
-from desk_tools.page_packing import Unpackable, bundle_of, index_of
+from desk_tools.page_packing import CORE, Graph, Unpackable, bundle_of, graph_of, grouped, index_of
 
 TOP = Path(__file__).resolve().parents[2]
 PAGES = TOP / "pages"
@@ -71,6 +70,50 @@ def test_a_page_without_preloads_is_refused() -> None:
         index_of("<head></head>\n", bundle_of(TOLD))
 
 
+def test_the_graph_is_read_of_what_esbuild_tells() -> None:
+    imports = [
+        {"path": "parts/b.js", "kind": "import-statement"},
+        {"path": "screens/c.js", "kind": "dynamic-import"},
+    ]
+    told = {
+        "inputs": {"parts/a.js": {"imports": imports}, "parts/b.js": {"imports": []}},
+        "outputs": {"x/a.js": {"entryPoint": "parts/a.js"}, "x/part-1.js": {}},
+    }
+    graph = graph_of(told)
+    assert (graph.imports["parts/a.js"], graph.entries) == (["parts/b.js"], {"parts/a.js"})
+    assert graph.taken_by("parts/a.js") == {"parts/a.js", "parts/b.js"}
+
+
+def test_what_every_screen_takes_is_one_group_and_what_an_early_one_shares_is_another() -> None:
+    graph = Graph(
+        {
+            "parts/early.js": ["parts/kept.js"],
+            "parts/main.js": ["parts/early.js", "parts/desk.js"],
+            "parts/desk.js": ["parts/kept.js"],
+            "parts/kept.js": [],
+            "parts/draw.js": [],
+            "parts/own.js": [],
+            "screens/driver.js": ["parts/desk.js", "parts/draw.js", "parts/own.js"],
+            "screens/clerk.js": ["parts/draw.js"],
+            "screens/admin.js": [],
+        },
+        frozenset(
+            {
+                "parts/early.js",
+                "parts/main.js",
+                "screens/driver.js",
+                "screens/clerk.js",
+                "screens/admin.js",
+            }
+        ),
+    )
+    screens = ["screens/admin.js", "screens/clerk.js", "screens/driver.js"]
+    assert grouped(graph, ["screens/driver.js"]) == {
+        CORE: (["parts/desk.js", "parts/early.js", "parts/kept.js"], ["parts/main.js", *screens]),
+        "parts/with-driver.js": (["parts/draw.js"], ["screens/clerk.js", "screens/driver.js"]),
+    }
+
+
 def test_without_esbuild_the_pages_are_copied_as_they_are(
     tmp_path: Path, monkeypatch: pytest.MonkeyPatch, capsys: pytest.CaptureFixture[str]
 ) -> None:
@@ -97,6 +140,8 @@ def test_the_pages_are_packed_the_same_way_each_time_and_each_file_is_there(tmp_
     ]
     assert asked and ahead and all((first / name).is_file() for name in [*asked, *ahead])
     assert not (first / "screens").exists()
+    # (a phone waits for each file by itself)
+    assert len(asked) <= 2 and len(ahead) <= 4
     assert {it.stat().st_mode & 0o777 for it in first.rglob("*")} == {0o644, 0o755}
 
 
@@ -114,7 +159,9 @@ def test_what_cannot_be_packed_is_one_sentence(
 def test_no_package_is_made_without_esbuild(tmp_path: Path) -> None:
     for name in ("dpkg-deb", "git", "rt"):
         (tmp_path / name).symlink_to("/bin/true")
-    words = [sys.executable, str(TOP / "bin/package"), "--for-trial", "--program", "/bin/true"]
+    for name in ("python3", "dirname", "readlink"):
+        (tmp_path / name).symlink_to(shutil.which(name) or name)
+    words = [str(TOP / "bin/package"), "--for-trial", "--program", "/bin/true"]
     ran = subprocess.run(
         [*words, "--output", str(tmp_path)],
         env={"PATH": str(tmp_path)},

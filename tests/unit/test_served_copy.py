@@ -6,7 +6,7 @@ import sqlite3
 from pathlib import Path
 
 import pytest
-from desk_tools import served_copy
+from desk_tools import installed, served_copy
 from hypothesis import given
 from hypothesis import strategies as draw
 
@@ -78,7 +78,7 @@ def test_what_a_fault_says(said: str, told: str) -> None:
 
 def test_no_program(monkeypatch: pytest.MonkeyPatch, tmp_path: Path) -> None:
     monkeypatch.delenv("DESK", raising=False)
-    monkeypatch.setattr(served_copy, "INSTALLED", (tmp_path / "desk",))
+    monkeypatch.setattr(installed, "PROGRAMS", (tmp_path / "desk",))
     for given_one in (None, tmp_path / "other"):
         with pytest.raises(served_copy.Refused, match="--program"):
             served_copy.program_of(given_one)

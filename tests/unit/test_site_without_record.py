@@ -1,25 +1,15 @@
 """deploy/site over a machine that has no Lua in nginx: the settings name nothing that is not there."""
 
-import importlib.machinery
-import importlib.util
 import re
 from pathlib import Path
-from types import ModuleType
+
+from desk_tools.commands import site
 
 TOP = Path(__file__).resolve().parents[2]
 
 
-def maker() -> ModuleType:
-    loader = importlib.machinery.SourceFileLoader("site_maker", str(TOP / "deploy" / "site"))
-    spec = importlib.util.spec_from_loader("site_maker", loader)
-    assert spec
-    found = importlib.util.module_from_spec(spec)
-    loader.exec_module(found)
-    return found
-
-
 def settings() -> str:
-    text: str = maker().without_record((TOP / "deploy" / "desk.nginx").read_text(encoding="utf-8"))
+    text: str = site.without_record((TOP / "deploy" / "desk.nginx").read_text(encoding="utf-8"))
     return text
 
 

@@ -3,14 +3,12 @@
 import http.client
 import socket
 import struct
-import sys
 import time
 from pathlib import Path
 
 import pytest
 
-sys.path.append(str(Path(__file__).parents[2] / "bin"))
-from office_parts import proxy  # noqa: E402
+from desk_tools.demo import proxy
 
 
 def _reset(port: int) -> None:

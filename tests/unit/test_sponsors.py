@@ -77,6 +77,13 @@ def test_a_table_is_read_as_a_spreadsheet_saved_it(
     assert found.rows == [Row(2, 7, "Señor Center", DAY, sponsors.LAST, 1450, "trip")]
 
 
+def test_who_waits_sees_how_many_rows_are_read(tmp_path: Path) -> None:
+    path, shown = tmp_path / "sponsors.csv", list[tuple[int, int]]()
+    path.write_text(HEAD + 2 * "7,Aging,,,14.50,trip\n", encoding="utf-8")
+    sponsors.read(path, {7}, lambda *it: shown.append(it))
+    assert shown == [(0, 2), (1, 2)]
+
+
 def test_an_hour_is_billed_by_the_second() -> None:
     row = Row(2, 7, "Aging", sponsors.FIRST, sponsors.LAST, 4_000, "hour")
     it = sponsors.charge_of(Trip(1, 7, DAY, 1, 2, 0, 17 * 60 + 35), row)
@@ -156,3 +163,11 @@ def test_names_of_files_are_each_their_own() -> None:
         and sponsors.dollars(7) == "0.07"
         and sponsors.cents_in("$12.5") == 1250
     )
+
+
+def test_a_trip_without_taps_has_no_amount() -> None:
+    trip = Trip(1, 7, DAY, 1, 2, 15_840, None)
+    row = Row(2, 7, "Aging", DAY, DAY, 3_000, sponsors.HOUR)
+    assert sponsors.amount(sponsors.charge_of(trip, row)) == ""
+    free = Row(2, 7, "Aging", DAY, DAY, 0, sponsors.MILE)
+    assert sponsors.amount(sponsors.charge_of(trip, free)) == "0.00"

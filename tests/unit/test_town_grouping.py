@@ -17,6 +17,8 @@ from desk_tools.town import (
     drawing,
     gather,
     grouping,
+    homes,
+    many_points,
     medoids,
     sheets,
 )  # noqa: E402
@@ -57,7 +59,7 @@ def scattered(count: int, seed: int, spread: int = 8_000) -> list[Address]:
     ]
 
 
-def quiet(_done: int, _of: int) -> None:
+def quiet(_done: int, _of: int, _what: str = "") -> None:
     """Shows nothing."""
 
 
@@ -242,10 +244,17 @@ def test_a_line_denies_where_the_grant_holds_at_the_home_alone(
 
 @pytest.mark.parametrize(
     "text, is_so",
-    [("always; nolift", False), ("months:1,2", False), ("NoLift", True), ("farther:5280", True)],
+    [
+        ("always; nolift", False),
+        ("months:1, 2", False),
+        ("No Lift", True),
+        ("no-lift ; Always", False),
+        ("Farther: 5280", True),
+    ],
 )
 def test_for_which_grants_the_place_matters(text: str, is_so: bool) -> None:
     assert conditional.matters(conditional.conditions_in(text)) == is_so
+    assert conditional.matters(conditional.grant_in(text)) == is_so
 
 
 @pytest.mark.parametrize("most", [12, 30])
@@ -266,7 +275,8 @@ def test_no_home_is_put_where_its_grant_holds_less(most: int) -> None:
         mask = lines_at(it.point or (0, 0), False, CROSS)
         assert is_served_alike(mask, lines_at(found.places[it.place or 0].point, False, CROSS))
     told = "\n".join(gather.told(known, found))
-    assert f"{found.alone} of them have places of their own" in told
+    alone = sum(len(it.homes) for it in found.own)
+    assert f"{alone} of them at {len(found.own)} places that are for homes alone" in told
 
 
 def denied_in(found: gather.Gathered, grants: dict[int, tuple[str, ...]]) -> list[int]:
@@ -284,30 +294,163 @@ def denied_in(found: gather.Gathered, grants: dict[int, tuple[str, ...]]) -> lis
 
 
 def test_a_place_of_its_own_is_private() -> None:
-    """Nobody else reads where such a home is, and no other address is there."""
-    grants = {it: (("nolift",) if it % 8 else ("farther:3000", "nolift")) for it in range(4, 49, 4)}
-    known = Town([], CROSS, None, most=12, grants=grants)
+    """Nobody else reads where such homes are, no other address is there, and several homes are at no home's point."""
+    grants = {it: ("nolift", f"farther:{it * 60}") for it in range(4, 49, 4)}
+    known = Town([], CROSS, None, most=8, grants=grants)
     found = gather.gathered(known, scattered(120, 7, 5_000), quiet)
-    homes = {it.point: it for it in found.addresses if it.riders}
-    own = [it for it in found.places.values() if it.point in homes]
-    assert found.alone == len(own) > 0
-    for place in own:
-        assert place.private == homes[place.point].riders
-        assert [it.number for it in found.addresses if it.place == place.number] == [
-            homes[place.point].number
-        ]
+    homes = {it.point for it in found.addresses if it.riders}
+    made = [(one, it) for one in found.own for it in found.places.values() if it.point == one.point]
+    assert len(made) == len(found.own) > 0
+    for one, place in made:
+        assert place.private == one.riders and set(one.riders) <= {*grants}
+        there = [it.number for it in found.addresses if it.place == place.number]
+        assert sorted(there) == sorted(it.number for it in one.homes)
+        assert (place.point in homes) == (len(there) == 1)
+
+
+def test_homes_that_one_place_fits_share_it() -> None:
+    """A building of riders takes one place and not one for each of its apartments, as long as that is near enough."""
+    near = [
+        Address(at, f"Apt {at}", (9_003 + at, 2_101), riders=(at,), row=at + 1) for at in (1, 2)
+    ]
+    far = Address(3, "Far St", (-9_003, 2_101), riders=(3,), row=4)
+    grants = {1: ("nolift",), 2: ("farther:1000", "nolift"), 3: ("nolift",)}
+    found = homes.own_places([*near, far], CROSS, grants, 1_000.0, 5)
+    assert [[it.number for it in one.homes] for one in found] == [[1, 2], [3]]
+    assert found[0].point not in {it.point for it in near} and found[1].point == far.point
+    assert [it.riders for it in found] == [(1, 2), (3,)]
+    assert len(homes.own_places([*near, far], CROSS, grants, 1_000.0, 1)) == 1
+    assert homes.own_places([*near, far], CROSS, grants, 1_000.0, 0) == []
+    both = homes.own_places([*near, far], CROSS, grants, 20_000.0, 5)
+    assert [len(it.homes) for it in both] == [3]
+
+
+@given(LINES, st.lists(st.tuples(POINT, POINT), min_size=2, max_size=8))
+def test_trips_that_a_grouping_denies_are_counted(
+    lines: list[Line], ends: list[tuple[tuple[int, int], tuple[int, int]]]
+) -> None:
+    """Of each home to each address, by the rules' own words."""
+    kinds, grants = ["nolift", "farther:2640"], {1: ("nolift",), 2: ("nolift", "farther:2640")}
+    rows = [
+        Address(at, "Oak", here, riders=(at,) if at < 3 else (), row=at)
+        for at, (here, _) in enumerate(ends, 1)
+    ]
+    counted = [
+        many_points.counted_of(np.array(those, dtype=np.int64), lines, kinds)
+        for those in zip(*ends)
+    ]
+    found = homes.trips_of(rows, *counted, kinds, grants)
+
+    def holds(one: tuple[int, int], other: tuple[int, int], conditions: tuple[str, ...]) -> bool:
+        both = lines_at(one, False, lines) & lines_at(other, False, lines)
+        is_far = any(
+            min(feet_from_line(it, l.points) for l in lines) > 2_640 for it in (one, other)
+        )
+        return ("nolift" in conditions and not both) or ("farther:2640" in conditions and is_far)
+
+    owed = [
+        (at, other)
+        for at in range(min(2, len(ends)))
+        for other in range(len(ends))
+        if holds(ends[at][0], ends[other][0], grants[at + 1])
+    ]
+    assert found.owed == len(owed)
+    lost = [at for at, other in owed if not holds(ends[at][1], ends[other][1], grants[at + 1])]
+    assert found.denied == len(lost) and found.riders == tuple(sorted({at + 1 for at in lost}))
+
+
+GRANT = st.lists(
+    st.one_of(
+        st.just("nolift"), st.sampled_from(["farther:500", "farther:2640"]), st.just("months:1,2")
+    ),
+    min_size=1,
+    max_size=3,
+)
+
+
+@settings(max_examples=25, deadline=None)
+@given(
+    LINES, st.integers(0, 1_000_000), st.integers(4, 20), st.lists(GRANT, min_size=15, max_size=15)
+)
+def test_no_grant_holds_less_by_the_grouping(
+    lines: list[Line], seed: int, most: int, grants: list[list[str]]
+) -> None:
+    """Over any lines, of which some are not accessible, and any grants: each home is right or is refused by its row."""
+    lines = [replace(it, accessible=at % 3 != 2) for at, it in enumerate(lines)]
+    given_ = scattered(60, seed, 20_000)
+    whose = {it.riders[0]: tuple(one) for it, one in zip(given_[3::4], grants)}
+    known = Town([Place(7, "Depot", (0, 0))], lines, None, most=most, grants=whose)
+    try:
+        found = gather.gathered(known, given_, quiet)
+    except sheets.Unreadable as error:
+        assert "new places are needed" in str(error)
+        return
+    assert len(found.places) <= most
+    rows = [it.row for it in found.addresses] + [it.number for it in found.refused]
+    assert sorted(rows) == [it.row for it in given_]
+    for it in found.addresses:
+        place = found.places[it.place or 0]
+        mask = lines_at(it.point or (0, 0), False, lines)
+        assert is_served_alike(mask, lines_at(place.point, False, lines)) and mask
+        assert not place.private or set(it.riders) <= set(place.private)
+        conditions = conditional.conditions_of(it.riders, whose)
+        assert it.point and not conditional.line_that_denies(
+            it.point, place.point, conditions, lines
+        )
+
+
+@given(LINES, st.lists(st.tuples(FAR, FAR), min_size=1, max_size=8), st.integers(-2, 2))
+def test_conditions_of_many_points_are_counted_as_of_one(
+    lines: list[Line], points: list[tuple[int, int]], aside: int
+) -> None:
+    """Also at the foot to which a condition reaches; and where there are too many points to try at once."""
+    lines = [replace(it, accessible=at % 2 == 0) for at, it in enumerate(lines)]
+    x, y = lines[0].points[0]
+    points = [*points, (x, y + 2_640 + aside), (x - lines[0].width - aside, y)]
+    for many in (points, points * (many_points.FEW // len(points) + 1)):
+        at = np.array(many, dtype=np.int64)
+        found = many_points.counted_of(at, lines, ["nolift", "farther:2640"]).tolist()
+        for (lifts, near), point in zip(found[: len(points)], points):
+            wanted = [(1 << at, it) for at, it in enumerate(lines)]
+            served = lines_at(point, False, lines)
+            assert lifts == sum(bit for bit, it in wanted if it.accessible and bit & served)
+            assert near == sum(
+                bit for bit, it in wanted if feet_from_line(point, it.points) <= 2_640
+            )
 
 
 def test_more_such_homes_than_places_are_refused_by_their_rows() -> None:
-    grants = {it: ("farther:100", "nolift") for it in range(4, 400, 4)}
+    grants = {it: (f"farther:{it * 20}", "nolift") for it in range(4, 400, 4)}
     known = Town([], CROSS, None, most=4, grants=grants)
     rows = scattered(400, 7, 5_000)
     found = gather.gathered(known, rows, quiet)
-    named = {
-        it.number
-        for it in found.refused
-        if "does the grant (farther:100; nolift) hold" in it.reason
-    }
+    named = {it.number for it in found.refused if "; nolift) hold as at the home" in it.reason}
     kept = {it.row for it in found.addresses}
     assert named and not named & kept and not denied_in(found, grants)
-    assert len(found.places) <= 4 and found.alone <= 2
+    assert len(found.places) <= 4 and len(found.own) <= 2
+
+
+def told_of(known: Town, rows: list[Address]) -> str:
+    return "\n".join(gather.told(known, gather.gathered(known, rows, quiet)))
+
+
+def test_riders_without_a_home_are_not_counted_as_homes() -> None:
+    rows = [replace(it, riders=()) for it in scattered(40, 3, 3_000)]
+    grants = {901: ("nolift",), 902: ("nolift",), 903: ("always",)}
+    told = told_of(Town([], CROSS, None, grants=grants), rows)
+    assert "2 riders with nolift or farther have no home among these addresses" in told
+    assert "holds as at the home" not in told and "of a hundred" not in told
+
+
+def test_more_places_than_there_may_be_are_no_way_out() -> None:
+    assert gather.enough_places(101, 100).endswith("same lines, and 100 places are the most")
+    assert gather.enough_places(98, 100).endswith("of the same lines")
+
+
+def test_an_address_that_stands_twice_is_named() -> None:
+    twice = [Address(1, "12 Elm St.", (0, 0), row=2), Address(7, "12 elm st", (0, 0), row=9)]
+    other = Address(8, "12 Elm St", (40, 0), row=10)
+    told = told_of(Town([], CROSS, None), [*twice, other])
+    assert "STANDS MORE THAN ONCE: 12 Elm St., in rows 2, 9" in told
+    assert "10" not in told.split("STANDS MORE THAN ONCE")[1].splitlines()[0]
+    assert "MORE THAN ONCE" not in told_of(Town([], CROSS, None), [twice[0], other])

@@ -14,7 +14,6 @@ pytest.importorskip("scipy")
 from desk_tools.town import streets  # noqa: E402
 
 SOUTH, WEST, STEP = 44.9, -93.3, 0.002
-Edge = tuple[int, int, float, bool]
 
 
 def position(node: int, side: int) -> tuple[float, float]:

@@ -1,18 +1,22 @@
 """The rules of tests/walk without a browser: what a page may say, what an entry allows, and that no reload forgets a reply."""
 
-import sys
 from pathlib import Path
 from typing import Any
 
 import pytest
 
 TOP = Path(__file__).resolve().parents[2]
-sys.path[:0] = [str(TOP / "tests"), str(TOP / "tests/browser")]
 
-from walk_parts import asked, cases, speech  # pylint: disable=wrong-import-position
+from walk_parts import (
+    asked,
+    cases,
+    shown as screens,
+    speech,
+)  # pylint: disable=wrong-import-position
 from walk_parts.ledger import Ledger, Permit, Write
 from walk_parts.recorder import Exchange, Recorder
 from walk_parts.words import Words, read_words
+from suites import walk as gate
 
 KEY, OTHER = "a" * 26, "b" * 26
 REFUSED = "RIDER 7\nDATE 2025-05-01\nDECISION refused\nREASONS It is near.\n"
@@ -84,7 +88,7 @@ def shown(text: str, heading: str, *parts: str, offers: bool = False) -> dict[st
     return {"age": "", "says": "", "letters": [letter]}
 
 
-BY = "An appeal against this decision is taken until Monday, June 30, 2025."
+BY = "This decision can be appealed through Monday, June 30, 2025."
 DAY = "Thursday, May 1, 2025: We refused your application"
 
 
@@ -107,6 +111,18 @@ def test_a_letter_is_the_desks_with_its_days(words: Words) -> None:
         shown(REFUSED, DAY, BY), [(1, REFUSED), (3, GRANTED)], set(), "2025-05-20", words, "en"
     )
     assert gone is not None and "1 letters are shown" in gone
+
+
+def test_a_case_file_offers_the_letters_of_the_desk(words: Words) -> None:
+    def fault(entries: list[int], record: str, *parts: str, age: str = "") -> str | None:
+        file = {"age": age, "entries": entries, "records": [record.strip()], "parts": list(parts)}
+        return cases.fault_of_file(file, [(1, REFUSED), (3, GRANTED)], words, "en")
+
+    assert fault([3, 1], REFUSED, BY) is None
+    assert fault([1], REFUSED, age="as of 9:00 AM") is None
+    assert "letters are shown" in str(fault([1], REFUSED, BY))
+    assert "letters are shown" in str(fault([1, 3], REFUSED.replace("refused", "denied")))
+    assert "it is refused of" in str(fault([1, 3], REFUSED, BY.replace("30", "29")))
 
 
 def test_a_standing_is_that_of_its_day(words: Words) -> None:
@@ -144,6 +160,35 @@ def test_a_standing_is_that_of_its_day(words: Words) -> None:
     assert "days" in str(cases.fault_of_standing(shown, suspended, words, "en", None))
     assert "suspension" in str(cases.fault_of_standing(shown, desk, words, "en", None))
     assert "denies" in str(fault(text, {"denied": "desk.unknown"}))
+
+
+def trip(number: int, day: str, status: str = "booked") -> dict[str, Any]:
+    """A trip as the desk lists it."""
+    ends = {"window_from": 560, "window_to": 590, "from": 1, "to": 2}
+    return {"trip": number, "day": day, "status": status, **ends}
+
+
+def test_trips_that_are_folded_away_are_counted(words: Words) -> None:
+    trips = [trip(1, "2025-05-18", "ridden"), trip(2, "2025-05-19", "cancelled")]
+    trips += [trip(3, "2025-05-19"), trip(4, "2025-05-20")]
+    row = "9:20–9:50 AM Town Hall → General Hospital"
+
+    def fault(numbers: list[int], *folds: str) -> str | None:
+        card = {"rider": 7, "age": "", "denied": False, "folds": list(folds), "text": ""}
+        names = screens.Names({1: "Town Hall", 2: "General Hospital"})
+        when = ("2025-05-19", ("AM", "PM"))
+        card["rows"] = [[it, row] for it in numbers]
+        return screens.fault_of_trips(card, trips, names, words, when)
+
+    assert fault([1, 2, 3, 4]) is None
+    assert fault([3, 4], "1 earlier", "1 canceled") is None
+    assert fault([3, 4], "1 anterior", "1 cancelado") is None
+    assert fault([1, 3, 4], "1 canceled") is None
+    assert "lacks trips [4]" in str(fault([3], "1 earlier", "1 canceled"))
+    assert "lacks trips [3]" in str(fault([4], "2 earlier", "1 canceled"))
+    assert "away for [2, 1]" in str(fault([3, 4], "1 earlier"))
+    assert "away for [0]" in str(fault([1, 2, 3, 4], "1 earlier"))
+    assert "has [9]" in str(fault([1, 2, 3, 4, 9]))
 
 
 def test_a_window_in_a_sentence_has_its_article() -> None:
@@ -186,3 +231,19 @@ def test_what_waits_is_the_nights_list() -> None:
     assert of_day("Monday, May 19, 2025", "2026-01-02") is None
     assert "lacks" in str(of_day("Mon, May 19", "2026-01-02"))
     assert of_day("lun, 19 may", "2025-05-20", "es") is None
+    day = "<section id=first><table><tbody><tr><td>presumed since 2025-05-19, 22 days</td></tr></tbody></table></section>"
+    assert of_day("presumed since Mon, May 19, 22 days", "2025-05-20") is None
+    assert "lacks" in str(of_day("presumed since 2025-05-19, 22 days", "2025-05-20"))
+    assert "lacks" in str(of_day("presumed since Mon, May 19, 23 days", "2025-05-20"))
+    assert of_day("presumed since lun, 19 may, 22 days", "2025-05-20", "es") is None
+    assert "lacks" in str(of_day("presumed since lun, 18 may, 22 days", "2025-05-20", "es"))
+    assert cases.is_cell("every trip", "always", "2025-05-20", "en")
+    both = "trips in January, February, and December; trips with one end more than 2,640 feet from any bus line that is running"
+    assert cases.is_cell(both, "months:1,2,12;farther:2640", "2025-05-20", "en")
+    assert not cases.is_cell("nolift", "nolift", "2025-05-20", "en")
+
+
+def test_the_steps_that_a_walk_took_are_read_from_what_it_printed() -> None:
+    said = "walk: seed 11, clerk,rider: 120 steps in 34 s"
+    assert gate.steps_of(["walk: held: words: 7", said, "9 passed, 0 failed"]) == 120
+    assert gate.steps_of(["walk: held: words: 7"]) == 0

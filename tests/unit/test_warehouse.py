@@ -13,6 +13,8 @@ from hypothesis import given
 from hypothesis import strategies as some
 
 from desk_tools import warehouse
+from desk_tools.reports import copies
+from desk_tools.setup.limits import Wrong
 from desk_tools.tables import ENTRIES, FIRST_TABLES, KEYS, LISTS, TABLES, Form
 
 TOP = Path(__file__).resolve().parents[2]
@@ -245,3 +247,13 @@ def test_any_text_comes_back(texts: list[str]) -> None:
         folder.write("a.csv", [["x", it] for it in texts])
         with open(Path(room, "a.csv"), encoding="utf-8", newline="") as file:
             assert [it[1] for it in csv.reader(file)] == texts
+
+
+def test_a_plain_copy_without_its_log_is_named(tmp_path: Path) -> None:
+    """What `cp desk.db` makes after an orderly stop: a file of SQLite's with no table."""
+    path = tmp_path / "copy.db"
+    with contextlib.closing(sqlite3.connect(path)) as database:
+        database.execute("VACUUM")
+        database.execute("PRAGMA user_version = 1")
+    with pytest.raises(Wrong, match="has no tables: .* ends in -wal. Copy with deploy/backup"):
+        copies.Copy(str(path))

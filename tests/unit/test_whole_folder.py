@@ -2,14 +2,12 @@
 
 import errno
 import os
-import sys
 from pathlib import Path
 
 import pytest
 
-sys.path.append(str(Path(__file__).parents[2] / "bin"))
-from moving import whole_file  # noqa: E402
-from moving.limits import Wrong  # noqa: E402
+from desk_tools.setup import whole_file
+from desk_tools.setup.limits import Wrong
 
 
 def _write(path: Path, fails: bool = False) -> None:

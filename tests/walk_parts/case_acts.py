@@ -16,16 +16,39 @@ if TYPE_CHECKING:
 # What each role enters, and on which part of the screen.
 PARTS: dict[str, list[tuple[str, str]]] = {
     "clerk": [("complete", "clerk.file"), ("notice", "clerk.file")],
-    "examiner": [(it, "cases.applications") for it in ("grant", "refuse", "in-part", "rest")],
-    "officer": [*((it, "cases.appeals") for it in ("heard", "appeal-granted", "appeal-denied", "overturn")), ("notice-heard", "cases.suspensions"), ("suspend", "cases.suspensions")],
+    "examiner": [(it, "cases.cases") for it in ("grant", "refuse", "in-part", "rest")],
+    "officer": [
+        (it, "cases.cases")
+        for it in (
+            "heard",
+            "appeal-granted",
+            "appeal-denied",
+            "overturn",
+            "notice-heard",
+            "suspend",
+        )
+    ],
 }
 # Whose case fits an entry, by the standing on the first day.
-FITS = {"complete": ("refused", "refused sixty", "refused long", "appeal denied", "temporary"), "grant": ("waits", "presumed", "presumed tomorrow"),
-        "refuse": ("waits", "presumed", "presumed tomorrow"), "in-part": ("waits", "presumed", "presumed tomorrow"), "heard": ("appeal waits",),
-        "appeal-granted": ("appeal waits", "appeal overdue"), "appeal-denied": ("appeal waits", "appeal overdue"), "overturn": ("suspension appealed",),
-        "notice": ("noticed", "suspended", "suspension appealed"), "notice-heard": ("noticed",), "suspend": ("noticed",)}
-REASONS = ["The rider can reach each bus stop near the home, and each bus of these lines has a ramp.", "no", "Missed on May 2, 5 and 9 – “without” a call; the van waited.",
-           "The hearing of the appeal showed that the stairs at the stop cannot be climbed in winter."]
+FITS = {
+    "complete": ("refused", "refused sixty", "refused long", "appeal denied", "temporary"),
+    "grant": ("waits", "presumed", "presumed tomorrow"),
+    "refuse": ("waits", "presumed", "presumed tomorrow"),
+    "in-part": ("waits", "presumed", "presumed tomorrow"),
+    "heard": ("appeal waits",),
+    "appeal-granted": ("appeal waits", "appeal overdue"),
+    "appeal-denied": ("appeal waits", "appeal overdue"),
+    "overturn": ("suspension appealed",),
+    "notice": ("noticed", "suspended", "suspension appealed"),
+    "notice-heard": ("noticed",),
+    "suspend": ("noticed",),
+}
+REASONS = [
+    "The rider can reach each bus stop near the home, and each bus of these lines has a ramp.",
+    "no",
+    "Missed on May 2, 5 and 9 – “without” a call; the van waited.",
+    "The hearing of the appeal showed that the stairs at the stop cannot be climbed in winter.",
+]
 
 
 def fitting_rider(walker: "Walker", kind: str) -> int:
@@ -48,21 +71,37 @@ def show_case(walker: "Walker", number: int) -> Task:
 
 def of_form(walker: "Walker", kind: str) -> list[Control]:
     """The fields of the form of a kind."""
-    return [it for it in walker.look.controls if it.form and walker.words.is_text(it.form, f"cases.heading-{kind}")]
+    return [
+        it
+        for it in walker.look.controls
+        if it.form and walker.words.is_text(it.form, f"cases.heading-{kind}")
+    ]
 
 
 def day_after(walker: "Walker", days: int, first: str = "") -> str:
     """A day so many days after another one, or after today."""
-    return (datetime.date.fromisoformat(first or walker.town.today) + datetime.timedelta(days=days)).isoformat()
+    return (
+        datetime.date.fromisoformat(first or walker.town.today) + datetime.timedelta(days=days)
+    ).isoformat()
 
 
 def fill_day(walker: "Walker", control: Control) -> Iterator[Act]:
     """Chooses a day of a form: what is there stays where it is a first day; at times it is a wrong one."""
     if walker.choice.random() < 0.1:
         yield acts.choose(walker, control, day_after(walker, -3))
-    elif walker.words.is_text(control.name, "cases.ends") or walker.words.is_text(control.name, "cases.ends-proposed"):
-        starts = [it.value for it in walker.look.controls if it.form == control.form and it.type == "date" and it.value and it.at < control.at]
-        yield acts.choose(walker, control, day_after(walker, walker.choice.choice([0, 6, 20, 29]), starts[-1] if starts else ""))
+    elif walker.words.is_text(control.name, "cases.ends") or walker.words.is_text(
+        control.name, "cases.ends-proposed"
+    ):
+        starts = [
+            it.value
+            for it in walker.look.controls
+            if it.form == control.form and it.type == "date" and it.value and it.at < control.at
+        ]
+        yield acts.choose(
+            walker,
+            control,
+            day_after(walker, walker.choice.choice([0, 6, 20, 29]), starts[-1] if starts else ""),
+        )
     elif not control.value or walker.choice.random() < 0.3:
         yield acts.choose(walker, control, day_after(walker, walker.choice.choice([20, 60, 300])))
 
@@ -81,7 +120,11 @@ def fill_entry(walker: "Walker", kind: str) -> Task:
         elif not walker.words.is_text(name, "cases.basis-more") or walker.choice.random() < 0.2:
             yield acts.type_into(walker, control, walker.choice.choice(REASONS))
     ticks = [it for it in of_form(walker, kind) if it.kind == "checkbox" and not it.checked]
-    if ticks and (kind in ("in-part", "rest", "appeal-granted", "notice")) and walker.choice.random() < 0.7:
+    if (
+        ticks
+        and (kind in ("in-part", "rest", "appeal-granted", "notice"))
+        and walker.choice.random() < 0.7
+    ):
         yield acts.press(walker, walker.choice.choice(ticks))
 
 
@@ -90,7 +133,16 @@ def decide(walker: "Walker") -> Task:
     kind, part = walker.choice.choice(PARTS[walker.here.role])
     yield from acts.to_part(walker, part)
     yield from show_case(walker, fitting_rider(walker, kind))
-    heads = [it for it in walker.look.of("summary") if walker.words.is_text(it.name, f"cases.heading-{kind}")]
+    heads = [
+        it
+        for it in walker.look.of("summary")
+        if walker.words.is_text(it.name, f"cases.heading-{kind}")
+    ]
+    heads += [
+        it
+        for it in walker.look.of("radio")
+        if walker.words.is_text(it.name, f"cases.choice-{kind}") and not it.checked
+    ]
     if heads and not of_form(walker, kind):
         yield acts.press(walker, heads[0])
     yield from fill_entry(walker, kind)
@@ -103,9 +155,18 @@ def decide(walker: "Walker") -> Task:
 
 def standing_on_a_day(walker: "Walker") -> Task:
     """Asks for the standing on another day."""
-    control = next((it for it in walker.look.controls if it.type == "date" and walker.words.is_text(it.name, "cases.day")), None)
+    control = next(
+        (
+            it
+            for it in walker.look.controls
+            if it.type == "date" and walker.words.is_text(it.name, "cases.day")
+        ),
+        None,
+    )
     if control:
-        yield acts.choose(walker, control, day_after(walker, walker.choice.choice([-30, 0, 1, 8, 30, 120, 400])))
+        yield acts.choose(
+            walker, control, day_after(walker, walker.choice.choice([-30, 0, 1, 8, 30, 120, 400]))
+        )
         if shows := acts.button(walker, "cases.show-standing", submits=True):
             yield acts.press(walker, shows[0])
 
@@ -119,9 +180,15 @@ def what_waits(walker: "Walker") -> Task:
 
 def reads_letters(walker: "Walker") -> Task:
     """A rider, or a clerk of a case, looks at the letters and opens one as it is on record."""
-    yield from acts.to_part(walker, "rider.letters", "clerk.file", "cases.applications", "cases.appeals")
-    if opens := [it for it in walker.look.of("summary") if walker.words.is_text(it.name, "cases.on-record")]:
+    yield from acts.to_part(walker, "rider.letters", "clerk.file", "cases.cases")
+    if reads := acts.button(walker, "cases.line-letter"):
+        yield acts.press(walker, walker.choice.choice(reads))
+    if opens := [
+        it for it in walker.look.of("summary") if walker.words.is_text(it.name, "cases.on-record")
+    ]:
         yield acts.press(walker, walker.choice.choice(opens))
-    languages = [it for it in walker.look.of("list") if walker.words.is_text(it.name, "cases.print-language")]
+    languages = [
+        it for it in walker.look.of("list") if walker.words.is_text(it.name, "cases.print-language")
+    ]
     if languages and walker.choice.random() < 0.3:
         yield acts.choose(walker, languages[0], walker.choice.choice(languages[0].choices))

@@ -6,7 +6,9 @@ from collections.abc import Iterator
 from walk_parts.page import Look
 from walk_parts.words import Words
 
-BROKEN = re.compile(r"\bNaN\b|\bundefined\b|\[object |\bInfinity\b|Invalid Date|(?<![\w.])null(?![\w.])|\$\{")
+BROKEN = re.compile(
+    r"\bNaN\b|\bundefined\b|\[object |\bInfinity\b|Invalid Date|(?<![\w.])null(?![\w.])|\$\{"
+)
 
 
 def broken_words(look: Look, words: Words) -> Iterator[str]:
@@ -26,12 +28,19 @@ def other_language(look: Look, foreign: dict[str, dict[str, str]]) -> Iterator[s
             yield f"{text[:120]!r} ({key}) is not in {language}"
 
 
-def denials_without_reply(look: Look, denied: set[str], ever: set[str], words: Words) -> Iterator[str]:
+def denials_without_reply(
+    look: Look, denied: set[str], ever: set[str], words: Words
+) -> Iterator[str]:
     """A denial is shown only where the desk gave it to this key: since the page was loaded, or ever where the page keeps what was sent."""
     for says, whole, is_kept in look.denials:
         told = ever if is_kept else denied
-        names = [key.removeprefix("denials.").split(" ")[0] if not key.startswith("denials.no vehicle") else "no vehicle"
-                 for table in words.patterns.values() for key, pattern in table.items()
-                 if key.startswith("denials.") and not key.endswith("/help") and pattern.fullmatch(says)]
+        names = [
+            key.removeprefix("denials.").split(" ")[0]
+            if not key.startswith("denials.no vehicle")
+            else "no vehicle"
+            for table in words.patterns.values()
+            for key, pattern in table.items()
+            if key.startswith("denials.") and not key.endswith("/help") and pattern.fullmatch(says)
+        ]
         if says and names and not any(it in told for it in names):
             yield f"{whole[:200]!r} is shown ({names[0]}), and no reply had it; replies had {sorted(told)}"

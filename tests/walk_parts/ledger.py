@@ -6,13 +6,13 @@ from typing import Any
 
 Leg = tuple[str, int, int]
 TRIP = re.compile(r"/trips/(\d+)/(change|cancel|outcome)")
-MAKES = re.compile(r"/trips|/trips/\d+/change|/trips/\d+/cancel|/trips/\d+/outcome|/riders|/riders/\d+/entries")
 
 
 @dataclass
 class Permit:
     """A yes of somebody: to book some legs, to do one thing with a trip, to enter something in a case, or to send a form. same says that a trip which is there already
-    was asked about, both that the form has a minute to be there by beside that of the pickup."""
+    was asked about, both that the form has a minute to be there by beside that of the pickup. modes says
+    what matters of each leg."""
 
     what: str
     key: str
@@ -26,6 +26,7 @@ class Permit:
     entry: str = ""
     same: bool = False
     both: bool = False
+    modes: dict[Leg, str] = field(default_factory=dict)
 
     def __str__(self) -> str:
         return f"{self.what} of step {self.step}"
@@ -88,7 +89,11 @@ def uses(permit: Permit, write: Write) -> bool:
 
 def uses_entry(permit: Permit, write: Write) -> bool:
     """An entry in a case is what was asked about, and is made once."""
-    if permit.left <= 0 or write.path != f"/riders/{permit.rider}/entries" or write.fields.get("entry") != permit.entry:
+    if (
+        permit.left <= 0
+        or write.path != f"/riders/{permit.rider}/entries"
+        or write.fields.get("entry") != permit.entry
+    ):
         return False
     permit.left -= 1
     return True
@@ -104,4 +109,9 @@ def uses_leg(permit: Permit, write: Write) -> bool:
             return True
         return False
     found = TRIP.fullmatch(write.path)
-    return bool(found) and found is not None and found[2] == "change" and int(found[1]) in permit.legs.values()
+    return (
+        bool(found)
+        and found is not None
+        and found[2] == "change"
+        and int(found[1]) in permit.legs.values()
+    )

@@ -17,7 +17,9 @@ QUIET, MOST = 60, 2500
 # Seconds that a script may take.
 SCRIPT = 20
 
-LOOK = scripts.NAMING + """
+LOOK = (
+    scripts.NAMING
+    + """
 const shown = (it) => it && seen(it) && !it.closest("[inert]");
 const within = root === document ? document.body : root;
 const controls = [], elements = [];
@@ -29,7 +31,7 @@ for (const it of within.querySelectorAll(ROLES)) {
         : tag === "a" || role === "tab" ? "link" : ["checkbox", "radio"].includes(type) ? type : tag === "select" ? "list" : role === "combobox" ? "combo" : "text";
     const form = it.closest("form"), group = it.closest("fieldset"), row = it.closest("[data-trip], tr, li, section");
     elements.push(it);
-    controls.push({ kind, name: nameOf(it).slice(0, 160), value: ["list", "combo", "text"].includes(kind) ? it.value : "", checked: it.checked === true,
+    controls.push({ kind, name: nameOf(it).slice(0, 160), value: ["list", "combo", "text"].includes(kind) || it.closest(".day-grid") ? it.value : "", checked: it.checked === true,
         off: it.disabled === true || it.getAttribute("aria-disabled") === "true", submits: tag === "button" && it.type === "submit", type,
         form: form ? nameOf(form) || form.getAttribute("aria-label") || "" : "", group: group ? nameOf(group) : "",
         expanded: it.getAttribute("aria-expanded") ?? "", choices: tag === "select" ? [...it.options].map((one) => one.textContent) : [] });
@@ -50,8 +52,11 @@ return { controls, texts, denials, address: location.hash, language: document.do
     sign: plain(document.querySelector("#line")?.textContent), notes: plain(document.querySelector("#notes")?.innerText),
     signedIn: !document.body.classList.contains("signed-out") && Boolean(sessionStorage.getItem("desk.key")), busy: [...document.querySelectorAll(".legs .waiting")].some((it) => it.textContent.includes("…")),
     subject: Number(sessionStorage.getItem("desk.subject.rider")) || null, vehicle: Number(sessionStorage.getItem("desk.subject.vehicle")) || null,
-    loaded: performance.timeOrigin, shown: """ + shown.ALL + """ };
+    loaded: performance.timeOrigin, shown: """
+    + shown.ALL
+    + """ };
 """
+)
 STILL = """
 const [quiet, most, done] = arguments;
 let waits = setTimeout(end, quiet);
@@ -119,12 +124,44 @@ class Look:
 
 def look_of(given: dict[str, Any]) -> Look:
     """A look of what the script gave."""
-    controls = [Control(at, it["kind"], it["name"], it["value"], it["checked"], it["off"], it["submits"], it["form"], it["group"],
-                        it["expanded"], tuple(it["choices"]), it["type"]) for at, it in enumerate(given["controls"])]
+    controls = [
+        Control(
+            at,
+            it["kind"],
+            it["name"],
+            it["value"],
+            it["checked"],
+            it["off"],
+            it["submits"],
+            it["form"],
+            it["group"],
+            it["expanded"],
+            tuple(it["choices"]),
+            it["type"],
+        )
+        for at, it in enumerate(given["controls"])
+    ]
     texts = [(text, language) for text, language in given["texts"]]
-    return Look(controls, texts, [(a, b, c) for a, b, c in given["denials"]], given["address"], given["language"],
-                given["dialog"], given["focus"], given["sign"], given["notes"], given["signedIn"], given["hidden"], given["busy"],
-                given["subject"], given["vehicle"], given["loaded"], given["at"], given["shown"], "\n".join(text for text, _ in texts))
+    return Look(
+        controls,
+        texts,
+        [(a, b, c) for a, b, c in given["denials"]],
+        given["address"],
+        given["language"],
+        given["dialog"],
+        given["focus"],
+        given["sign"],
+        given["notes"],
+        given["signedIn"],
+        given["hidden"],
+        given["busy"],
+        given["subject"],
+        given["vehicle"],
+        given["loaded"],
+        given["at"],
+        given["shown"],
+        "\n".join(text for text, _ in texts),
+    )
 
 
 class Page:
@@ -173,7 +210,12 @@ class Page:
     def type_into(self, control: Control, text: str) -> None:
         """Replaces what is in a field by a text, by keys."""
         self.browser.script(FOCUSED, control.at)
-        keys = ActionChains(self.browser.driver).key_down(Keys.CONTROL).send_keys("a").key_up(Keys.CONTROL)
+        keys = (
+            ActionChains(self.browser.driver)
+            .key_down(Keys.CONTROL)
+            .send_keys("a")
+            .key_up(Keys.CONTROL)
+        )
         keys.send_keys(Keys.DELETE).send_keys(text).perform()
 
     def choose(self, control: Control, text: str) -> None:

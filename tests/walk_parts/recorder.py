@@ -92,9 +92,16 @@ class Recorder(Middle):
             status = reply_head.split(b" ", 2)
             number = header_of(head, "Desk-Number")
             kept = Exchange(
-                words[0].decode(), path, header_of(head, "Desk-Key"), int(number) if number.isdigit() else 0,
-                object_in(body), int(status[1]) if len(status) > 1 else 0,
-                object_in(reply_body) if b"application/json" in reply_head else {}, "", time.time())
+                words[0].decode(),
+                path,
+                header_of(head, "Desk-Key"),
+                int(number) if number.isdigit() else 0,
+                object_in(body),
+                int(status[1]) if len(status) > 1 else 0,
+                object_in(reply_body) if b"application/json" in reply_head else {},
+                "",
+                time.time(),
+            )
             with self.lock:
                 self.exchanges.append(kept)
         return whole

@@ -54,7 +54,10 @@ class Report:
     def summary(self) -> list[str]:
         """How often each rule held, and how often each breach came."""
         held = ", ".join(f"{rule}: {count}" for rule, count in sorted(self.by_rule.items()))
-        return [f"walk: held: {held}", *(f"walk: {count} times: {kind}" for kind, count in self.kinds.items())]
+        return [
+            f"walk: held: {held}",
+            *(f"walk: {count} times: {kind}" for kind, count in self.kinds.items()),
+        ]
 
     def is_known(self, rule: str, text: str) -> bool:
         """Whether such a breach was printed already."""
@@ -62,12 +65,22 @@ class Report:
 
     def breaks(self, rule: str, text: str, role: str) -> None:
         """Something does not hold. What was found before is counted and not printed again."""
-        breach = Breach(rule, " ".join(text.split())[:700], self.seed, self.steps, role, tuple(self.actions[-LAST:]))
+        breach = Breach(
+            rule,
+            " ".join(text.split())[:700],
+            self.seed,
+            self.steps,
+            role,
+            tuple(self.actions[-LAST:]),
+        )
         self.kinds[breach.kind] = self.kinds.get(breach.kind, 0) + 1
         if self.kinds[breach.kind] > 1:
             return
         self.breaches.append(breach)
-        print(f"walk: FAILED: {breach.rule}: {breach.text}\n    --seed {breach.seed} --steps {breach.step}, as {role}; before it:", flush=True)
+        print(
+            f"walk: FAILED: {breach.rule}: {breach.text}\n    --seed {breach.seed} --steps {breach.step}, as {role}; before it:",
+            flush=True,
+        )
         for action in breach.actions:
             print(f"        {action}", flush=True)
         sys.stdout.flush()

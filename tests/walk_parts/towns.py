@@ -12,7 +12,7 @@ from typing import Any
 
 import people
 import town as base
-from database import Trouble
+from database import ROOT, Trouble
 from serving import free_port
 
 from walk_parts.cases import WITHOUT_LETTER
@@ -21,14 +21,51 @@ from walk_parts.recorder import Recorder
 EARLIEST, START = datetime.date.fromisoformat(people.TODAY), datetime.date(2025, 5, 19)
 FIRST_RIDER, FIRST_CALLER = 1100, 500
 # First name, last name: two pairs have the same, and names are written in many ways.
-NAMES = ["Mary McDonald", "Mary McDonald", "José Núñez", "Ana Núñez-Ortiz", "Seán O’Brien", "Nguyễn Thị Hồng",
-         "Walter Kowalski", "Irene Kowalski", "Jo Li", "Maximiliana Featherstonehaugh-Cholmondeley",
-         "D'Angelo Russo", "María del Carmen de la Cruz", "Bob Smith", "Bob Smith", "Zoë Brontë", "Ole Åsen",
-         "Fatima al-Zahra", "Xu Wei", "Peter Van der Berg", "Ines Pérez"]
+NAMES = [
+    "Mary McDonald",
+    "Mary McDonald",
+    "José Núñez",
+    "Ana Núñez-Ortiz",
+    "Seán O’Brien",
+    "Nguyễn Thị Hồng",
+    "Walter Kowalski",
+    "Irene Kowalski",
+    "Jo Li",
+    "Maximiliana Featherstonehaugh-Cholmondeley",
+    "D'Angelo Russo",
+    "María del Carmen de la Cruz",
+    "Bob Smith",
+    "Bob Smith",
+    "Zoë Brontë",
+    "Ole Åsen",
+    "Fatima al-Zahra",
+    "Xu Wei",
+    "Peter Van der Berg",
+    "Ines Pérez",
+]
 # Each standing is somebody's, whatever the seed.
-STANDINGS = ["always", "always", "waits", "presumed", "presumed tomorrow", "conditional", "temporary", "refused",
-             "refused sixty", "refused long", "appeal waits", "appeal overdue", "appeal denied", "suspended", "noticed",
-             "visitor", "always", "nolift", "always", "suspension appealed"]
+STANDINGS = [
+    "always",
+    "always",
+    "waits",
+    "presumed",
+    "presumed tomorrow",
+    "conditional",
+    "temporary",
+    "refused",
+    "refused sixty",
+    "refused long",
+    "appeal waits",
+    "appeal overdue",
+    "appeal denied",
+    "suspended",
+    "noticed",
+    "visitor",
+    "always",
+    "nolift",
+    "always",
+    "suspension appealed",
+]
 HOMES = [11, 12, 13, 14]
 
 
@@ -40,7 +77,9 @@ def day_at(offset: int) -> str:
 class Person:
     """A rider of the walk."""
 
-    def __init__(self, number: int, name: str, standing: str, home: int | None, choice: random.Random) -> None:
+    def __init__(
+        self, number: int, name: str, standing: str, home: int | None, choice: random.Random
+    ) -> None:
         self.number, self.name, self.standing, self.home = number, name, standing, home
         self.telephone = f"(315) 555-{number}"
         self.language = "es" if choice.random() < 0.2 else "en"
@@ -60,8 +99,10 @@ class WalkTown(base.Town):
         self.choice = choice
         shuffled = STANDINGS[:]
         choice.shuffle(shuffled)
-        self.riders = [Person(FIRST_RIDER + at, name, shuffled[at],
-                              choice.choice([*HOMES, None]), choice) for at, name in enumerate(NAMES)]
+        self.riders = [
+            Person(FIRST_RIDER + at, name, shuffled[at], choice.choice([*HOMES, None]), choice)
+            for at, name in enumerate(NAMES)
+        ]
         self.numbers: dict[str, int] = {}
         self.last_minute = choice.choice([1439, 1439, 1380, 1425])
         self.tally_log = f"{folder}/tally.log"
@@ -89,11 +130,24 @@ class WalkTown(base.Town):
             return
         head = ["rider", "name", "telephone", "language", "home", "usual", "aid", "note"]
         rows = [list(map(str, it[:8])) for it in people.RIDERS]
-        rows += [[str(it.number), it.name, it.telephone, it.language, str(it.home or ""),
-                  ";".join(map(str, it.usual)), "", ""] for it in self.riders]
+        rows += [
+            [
+                str(it.number),
+                it.name,
+                it.telephone,
+                it.language,
+                str(it.home or ""),
+                ";".join(map(str, it.usual)),
+                "",
+                "",
+            ]
+            for it in self.riders
+        ]
         text = io.StringIO()
         csv.writer(text, lineterminator="\n").writerows([head, *rows])
-        base.write_site_files(self.folder, {**self.agency(), **changed}, text.getvalue(), people.drivers_file())
+        base.write_site_files(
+            self.folder, {**self.agency(), **changed}, text.getvalue(), people.drivers_file()
+        )
         self.write_drivers_files()
 
     # What happened before the walk.
@@ -122,7 +176,9 @@ class WalkTown(base.Town):
         """Makes the town's past, day by day, up to the first day of the walk."""
         self.make_callers()
         for line in self.agency()["routes"]:
-            self.sure("admin", "/routes", {name: value for name, value in line.items() if name != "name"})
+            self.sure(
+                "admin", "/routes", {name: value for name, value in line.items() if name != "name"}
+            )
         past: dict[int, list[tuple[str, str, dict[str, Any]]]] = {}
         for rider in self.riders:
             for offset, holder, path, fields in past_of(rider):
@@ -138,13 +194,28 @@ class WalkTown(base.Town):
         """Records and keys of the riders, and keys of staff for further windows."""
         self.desk.set_clock(EARLIEST.isoformat())
         for rider in self.riders:
-            self.sure("clerk", "/riders", {"id": rider.number, "kind": rider.kind, "attendant": rider.attendant,
-                                           "wheelchair": rider.wheelchair})
+            self.sure(
+                "clerk",
+                "/riders",
+                {
+                    "id": rider.number,
+                    "kind": rider.kind,
+                    "attendant": rider.attendant,
+                    "wheelchair": rider.wheelchair,
+                },
+            )
             holder = f"rider {rider.number}"
             self.keys[holder] = people.key_for(holder)
-            self.sure("admin", "/callers", {
-                "id": FIRST_CALLER + rider.number, "role": "rider", "subject": rider.number,
-                "digest": hashlib.sha256(self.keys[holder].encode()).hexdigest()})
+            self.sure(
+                "admin",
+                "/callers",
+                {
+                    "id": FIRST_CALLER + rider.number,
+                    "role": "rider",
+                    "subject": rider.number,
+                    "digest": hashlib.sha256(self.keys[holder].encode()).hexdigest(),
+                },
+            )
 
     def happens(self, offset: int, holder: str, path: str, fields: dict[str, Any]) -> None:
         """One thing of the past. A trip that was missed is booked the day before and ends as missed."""
@@ -159,7 +230,11 @@ class WalkTown(base.Town):
     def fill_the_days(self) -> None:
         """Trips of the next days, and on one of them until no van takes one more; some of today."""
         choice = self.choice
-        may = [it for it in self.riders if it.standing in ("always", "presumed", "temporary", "appeal overdue")]
+        may = [
+            it
+            for it in self.riders
+            if it.standing in ("always", "presumed", "temporary", "appeal overdue")
+        ]
         self.desk.set_clock(day_at(-1))
         for day in (0, 1, 2, 3):
             for _ in range(choice.randint(6, 12) * (1 if self.vans == 1 else 2)):
@@ -172,12 +247,26 @@ class WalkTown(base.Town):
     def book_one(self, rider: int, day: str, choice: random.Random) -> None:
         """A trip somewhere, if the desk takes it."""
         start, end = choice.sample([1, 2, 3, 6, 7, 8, 9], 2)
-        self.ask("third clerk", "/trips", {"rider": rider, "day": day, "wish": choice.randint(380, 1320), "from": start,
-                                           "to": end, "by": None, "attendant": False, "companions": 0})
+        self.ask(
+            "third clerk",
+            "/trips",
+            {
+                "rider": rider,
+                "day": day,
+                "wish": choice.randint(380, 1320),
+                "from": start,
+                "to": end,
+                "by": None,
+                "attendant": False,
+                "companions": 0,
+            },
+        )
 
     def trips(self, rider: int) -> list[dict[str, Any]]:
         """A rider's trips, as the desk has them now."""
-        found: list[dict[str, Any]] = self.ask("third clerk", f"/riders/{rider}/trips").get("trips", [])
+        found: list[dict[str, Any]] = self.ask("third clerk", f"/riders/{rider}/trips").get(
+            "trips", []
+        )
         return found
 
     def letters(self, rider: int) -> list[tuple[int, str]]:
@@ -195,8 +284,20 @@ class WalkTown(base.Town):
     def write_worklist(self) -> None:
         """What waits, of a copy of the desk's file, as each night's unit makes it."""
         path = f"{self.folder}/site/staff/worklist.html"
-        words = [f"{base.ROOT}/bin/worklist", self.copied(), "--html", path, "--today", self.today, "--program", self.desk.program,
-                 "--agency", f"{self.folder}/source-agency.json", "--roster", f"{self.folder}/source-roster.csv"]
+        words = [
+            f"{ROOT}/bin/worklist",
+            self.copied(),
+            "--html",
+            path,
+            "--today",
+            self.today,
+            "--program",
+            self.desk.program,
+            "--agency",
+            f"{self.folder}/source-agency.json",
+            "--roster",
+            f"{self.folder}/source-roster.csv",
+        ]
         made = subprocess.run(words, capture_output=True, text=True, check=False)
         if made.returncode:
             raise Trouble(f"bin/worklist: {made.stderr}")
@@ -235,33 +336,93 @@ def past_of(rider: Person) -> Past:
     path = f"/riders/{rider.number}/entries"
 
     def grant(offset: int, until: int, *conditions: str) -> Past:
-        return [(offset - 5, "clerk", path, {"entry": "complete"}), (offset, "examiner", path, {
-            "entry": "grant", "until": day_at(until), "conditions": list(conditions) or ["always"]})]
+        return [
+            (offset - 5, "clerk", path, {"entry": "complete"}),
+            (
+                offset,
+                "examiner",
+                path,
+                {
+                    "entry": "grant",
+                    "until": day_at(until),
+                    "conditions": list(conditions) or ["always"],
+                },
+            ),
+        ]
 
     def refuse(offset: int) -> Past:
-        return [(offset - 5, "clerk", path, {"entry": "complete"}), (offset, "examiner", path, {
-            "entry": "refuse", "reasons": "You can reach each bus stop near your home, and each bus has a lift."})]
+        return [
+            (offset - 5, "clerk", path, {"entry": "complete"}),
+            (
+                offset,
+                "examiner",
+                path,
+                {
+                    "entry": "refuse",
+                    "reasons": "You can reach each bus stop near your home, and each bus has a lift.",
+                },
+            ),
+        ]
 
     def appeal(offset: int) -> Past:
         return [(offset, "clerk", path, {"entry": "appeal", "against": 1})]
 
     heard = {"entry": "heard"}
-    trip = {"rider": rider.number, "wish": 600, "from": 1, "to": 2, "by": None, "attendant": False, "companions": 0}
+    trip = {
+        "rider": rider.number,
+        "wish": 600,
+        "from": 1,
+        "to": 2,
+        "by": None,
+        "attendant": False,
+        "companions": 0,
+    }
     missed: Past = [*grant(-50, 200), (-10, "clerk", "missed", trip)]
-    noticed: Past = [*missed, (-8, "clerk", path, {"entry": "notice", "basis": "A trip of this month was missed."})]
-    suspended: Past = [*noticed, (-7, "officer", path, {"entry": "notice-heard"}), (-6, "officer", path, {
-        "entry": "suspend", "starts": day_at(-5), "ends": day_at(8), "reasons": "Trips were missed without a call."})]
+    noticed: Past = [
+        *missed,
+        (-8, "clerk", path, {"entry": "notice", "basis": "A trip of this month was missed."}),
+    ]
+    suspended: Past = [
+        *noticed,
+        (-7, "officer", path, {"entry": "notice-heard"}),
+        (
+            -6,
+            "officer",
+            path,
+            {
+                "entry": "suspend",
+                "starts": day_at(-5),
+                "ends": day_at(8),
+                "reasons": "Trips were missed without a call.",
+            },
+        ),
+    ]
     pasts: dict[str, Past] = {
-        "always": grant(-40, 200), "waits": [(-5, "clerk", path, {"entry": "complete"})],
+        "always": grant(-40, 200),
+        "waits": [(-5, "clerk", path, {"entry": "complete"})],
         "presumed": [(-22, "clerk", path, {"entry": "complete"})],
         "presumed tomorrow": [(-20, "clerk", path, {"entry": "complete"})],
-        "conditional": grant(-40, 200, "months:1,2,12", "farther:2640"), "nolift": grant(-40, 90, "nolift"),
-        "temporary": grant(-40, 3), "refused": refuse(-3), "refused sixty": refuse(-60), "refused long": refuse(-61),
+        "conditional": grant(-40, 200, "months:1,2,12", "farther:2640"),
+        "nolift": grant(-40, 90, "nolift"),
+        "temporary": grant(-40, 3),
+        "refused": refuse(-3),
+        "refused sixty": refuse(-60),
+        "refused long": refuse(-61),
         "appeal waits": [*refuse(-40), *appeal(-20)],
         "appeal overdue": [*refuse(-45), *appeal(-40), (-31, "officer", path, heard)],
-        "appeal denied": [*refuse(-45), *appeal(-40), (-20, "officer", path, heard), (-10, "officer", path, {
-            "entry": "appeal-denied", "reasons": "The hearing showed nothing new."})],
-        "suspended": suspended, "noticed": noticed,
+        "appeal denied": [
+            *refuse(-45),
+            *appeal(-40),
+            (-20, "officer", path, heard),
+            (
+                -10,
+                "officer",
+                path,
+                {"entry": "appeal-denied", "reasons": "The hearing showed nothing new."},
+            ),
+        ],
+        "suspended": suspended,
+        "noticed": noticed,
         "suspension appealed": [*suspended, (-3, "clerk", path, {"entry": "appeal", "against": 4})],
         "visitor": [],
     }

@@ -10,6 +10,8 @@ ENTRY = re.compile(r'^    "([a-z-]+\.[^"]+)": (.*)$', re.M)
 STATIC = re.compile(r'"((?:[^"\\]|\\.)*)",?$')
 FILLED = re.compile(r"(?:\([^)]*\)|\{[^}]*\}) => `([^`]*)`,?$")
 VALUE = re.compile(r"\$\{[^}]*\}")
+# A value that does not fit into the line of its key goes on in the next.
+GOES_ON = re.compile(r"\n {8,}")
 LEAST_WORDS = 3
 
 
@@ -23,18 +25,27 @@ class Words:
 
     def is_text(self, text: str, key: str) -> bool:
         """Whether a text is that of a key, in either language."""
-        return any(key in self.patterns[it] and self.patterns[it][key].fullmatch(text) for it in LANGUAGES)
+        return any(
+            key in self.patterns[it] and self.patterns[it][key].fullmatch(text) for it in LANGUAGES
+        )
 
     def foreign_to(self, language: str) -> dict[str, str]:
         """Sentences of the other language that are no sentences of this one, with their keys."""
         other = "es" if language == "en" else "en"
         own = set(self.texts[language].values())
-        return {text: key for key, text in self.texts[other].items()
-                if text not in own and len(text.split()) >= LEAST_WORDS}
+        return {
+            text: key
+            for key, text in self.texts[other].items()
+            if text not in own and len(text.split()) >= LEAST_WORDS
+        }
 
     def raw_key(self) -> re.Pattern[str]:
         """A key of a word that stands where its text should."""
-        return re.compile(r"(?<![\w./@-])(?:" + "|".join(sorted(self.areas)) + r")\.[a-z][a-z-]{2,}(?![\w.-]*[@/])")
+        return re.compile(
+            r"(?<![\w./@-])(?:"
+            + "|".join(sorted(self.areas))
+            + r")\.[a-z][a-z-]{2,}(?![\w.-]*[@/])"
+        )
 
 
 def read_words(pages: str) -> Words:
@@ -46,7 +57,7 @@ def read_words(pages: str) -> Words:
         for path in glob.glob(f"{pages}/words/{language}/*.js"):
             areas.add(os.path.basename(path).removesuffix(".js"))
             with open(path, encoding="utf-8") as file:
-                entries = ENTRY.findall(file.read())
+                entries = ENTRY.findall(GOES_ON.sub(" ", file.read()))
             for key, value in entries:
                 if found := STATIC.fullmatch(value):
                     text = found[1].replace('\\"', '"')
