@@ -42,6 +42,11 @@ GATES = {
         f"0 passed, {COUNTED} failed",
         1,
     ),
+    "a mutant that does not compile": (
+        "echo 'rt: must-fail pt_one/wrong.edit: BAD EDIT: it did not reach the prover'; echo 2 passed, 0 failed",
+        f"{2 * COUNTED} passed, 1 failed",
+        1,
+    ),
     # `rt ci` alone is not run a second time.
     "each script fails once, beside others": (FAILS_ONCE, f"{2 * COUNTED - 2} passed, 1 failed", 1),
 }
@@ -131,6 +136,8 @@ def faults_of_gate(room):
         ran = run(f"{top}/bin/gate", env={"PATH": f"{top}/kit:{os.environ['PATH']}"})
         if ran.returncode != status or ran.stdout.rstrip("\n").split("\n")[-1] != last:
             yield f"where {case}, the gate does not end with '{last}' and status {status}, but with {ran.returncode} and:\n{ran.stdout}"
+        elif (status != 0) != (" failed; the end of what it said:" in ran.stdout):
+            yield f"where {case}, the gate does not show its failures at the end:\n{ran.stdout}"
 
 
 def faults_without_kit(room):

@@ -27,7 +27,9 @@ def digests_of(top: str, logic: str) -> dict[str, str]:
     crates = {name.partition("/")[0] for name in mutants_of(top)}
     below = {crate: digest_below(top, crate) for crate in crates}
     return {
-        name: hashlib.sha256(f"{logic} {sources.digest_of(path)} {below[name.partition('/')[0]]}".encode()).hexdigest()
+        name: hashlib.sha256(
+            f"{logic} {sources.digest_of(path)} {below[name.partition('/')[0]]}".encode()
+        ).hexdigest()
         for name, path in mutants_of(top).items()
     }
 
@@ -56,6 +58,36 @@ def without_edit(top: str) -> list[str]:
     return sorted(set(recorded(top)) - set(mutants_of(top)))
 
 
+def pairs_of(path: str) -> tuple[list[tuple[str, str]], str]:
+    """An edit's texts, each with the file of the crate in which it stands, and what is wrong with a line that is none."""
+    file, pairs = "", []
+    with open(path, encoding="utf-8") as edit:
+        for line in edit.read().splitlines():
+            kind, _, text = line.partition(": ")
+            if kind == "file":
+                file = text
+            elif kind == "old":
+                pairs.append((file, text))
+    return pairs, "" if pairs else "it changes nothing"
+
+
+def unfit_edits(top: str) -> list[str]:
+    """The mutants that cannot be applied, each with why: the old text stands in its file exactly once."""
+    found = []
+    for name, path in mutants_of(top).items():
+        pairs, why = pairs_of(path)
+        for file, old in pairs:
+            whole = f"{top}/crates/{name.partition('/')[0]}/{file}"
+            try:
+                with open(whole, encoding="utf-8") as source:
+                    count = source.read().count(old)
+            except OSError:
+                count = 0
+            why = why or ("" if count == 1 else f"its old text stands {count} times in {file}")
+        found += [f"{name}: {why}"] if why else []
+    return found
+
+
 def known(top: str, logic: str) -> set[str]:
     """The mutants that were refused by exactly the present text."""
     said, now = recorded(top), digests_of(top, logic)
@@ -68,6 +100,8 @@ def record(top: str, logic: str, tried: list[str]) -> None:
     today = datetime.datetime.now(datetime.timezone.utc).date().isoformat()
     said.update({name: (now[name], today) for name in tried})
     with open(f"{top}/{LIST}.new", "w", encoding="utf-8") as file:
-        file.write("# Mutants that were refused: CRATE/NAME, the digest of all that it rests on, the day. Written by bin/gate.\n")
+        file.write(
+            "# Mutants that were refused: CRATE/NAME, the digest of all that it rests on, the day. Written by bin/gate.\n"
+        )
         file.writelines(f"{name} {digest} {day}\n" for name, (digest, day) in sorted(said.items()))
     os.replace(f"{top}/{LIST}.new", f"{top}/{LIST}")

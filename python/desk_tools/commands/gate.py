@@ -2,12 +2,13 @@
 """The merge gate: `bin/gate [--install] [--all]`, from any folder, with the Rattle kit's `rt` and Python 3.
 
 `rt ci` proves each crate and its tests, tries the mutants, and runs the tests and the program, in a copy of crates/. A
-mutant that tests/mutants-refused has with its present text is not tried again; --all tries each. Scripts that need no
-program run first. As soon as the program is linked, the others run over it beside the mutants: those in a browser, and
-the rest, each one at a time. Each must end with 'N passed, M failed'; anything else counts as a failure. A script that
-failed beside others runs once more by itself at the end, and that run counts; both are shown. Before the last line
-stands what each crate cost (bin/meter), and what each script took. The last line is 'N passed, M failed' of everything
-together, and the exit status is 1 where something failed.
+mutant that tests/mutants-refused has with its present text is not tried again; --all tries each. A mutant that says
+nothing, since its text cannot be applied or compiled, is a failure. Scripts that need no program run first. As soon as
+the program is linked, the others run over it beside the mutants: those in a browser, and the rest, each one at a time.
+Each must end with 'N passed, M failed'; anything else counts as a failure. A script that failed beside others runs once
+more by itself at the end, and that run counts; both are shown. Before the last line stands what each crate cost
+(bin/meter), the end of what each failure said, and what each script took. The last line is 'N passed, M failed' of
+everything together, and the exit status is 1 where something failed.
 
 --install first installs the Debian packages that the scripts use; a script without its packages says what it left out.
 """
@@ -96,12 +97,16 @@ IN_BROWSER = [
 WITH_KIT = ["tests/disk"]
 TALLY = re.compile(r"(\d+) passed, (\d+) failed")
 REFUSED = re.compile(r"(?:rt: )?must-fail ([\w-]+/[\w.-]+)\.edit: refused, as it must be\b")
+# `rt ci` passes over an edit that can't be applied or compiled; here it fails, since nothing is tried by it.
+SAYS_NOTHING = re.compile(r"(?:rt: )?must-fail ([\w-]+/[\w.-]+)\.edit: BAD EDIT\b")
 LEFT_OF_A_CLOCK = re.compile(r"(?:sem\.)?faketime_(?:shm|sem)_(\d+)")
 # No check here takes more than 6 gigabytes. The kit reckons with twice that, and would leave a processor of four idle.
 JOBS = min(os.cpu_count() or 1, 4)
 SECONDS_STILL = 3
 # No script takes longer, and one that hangs must not take the gate's time.
 LONGEST = 2700
+# The lines of a failure that stand once more at the end, where whoever reads the last page alone finds them.
+LAST_LINES = 40
 
 
 class Tally:
@@ -111,6 +116,7 @@ class Tally:
         self.counts: dict[str, tuple[int, int]] = {}
         self.again: list[str] = []
         self.seconds: dict[str, float] = {}
+        self.said: dict[str, list[str]] = {}
         self.lock = threading.Lock()
 
     def add(
@@ -130,7 +136,7 @@ class Tally:
             else:
                 print(f"{name} ended with status {status} and no such tally: it counts as failed")
                 self.counts[name] = 0, 1
-            self.seconds[name] = seconds
+            self.seconds[name], self.said[name] = seconds, lines
             sys.stdout.flush()
 
     def failed_names(self) -> list[str]:
@@ -140,7 +146,10 @@ class Tally:
         return tuple(sum(counts) for counts in zip(*self.counts.values()))
 
     def show(self) -> None:
-        """A line a script that took a while, or that failed beside others."""
+        """The end of what each failure said, then a line a script."""
+        for name in self.failed_names():
+            print(f"== {name} failed; the end of what it said:")
+            print(*self.said[name][-LAST_LINES:], sep="\n")
         print(f"{'script':<40}{'passed':>8}{'failed':>8}{'seconds':>9}")
         for name, (passed, failed) in self.counts.items():
             mark = "  (a second run, by itself; the first failed)" if name in self.again else ""
@@ -260,7 +269,7 @@ class Proofs:
         return self.began <= changed <= time.time() - SECONDS_STILL
 
     def end(self, tally: Tally) -> set[Any]:
-        """Waits for the end; the mutants that were seen refused."""
+        """Waits for the end; the mutants that were seen refused. Those that say nothing count as failures."""
         status = self.running.wait()
         self.reader.join()
         built.keep_counts(TOP, self.said)
@@ -271,6 +280,9 @@ class Proofs:
             shown=True,
             seconds=time.time() - self.began,
         )
+        if idle := sorted({found[1] for line in self.said if (found := SAYS_NOTHING.match(line))}):
+            named = f"these edits cannot be applied or compiled: {', '.join(idle)}"
+            tally.add("mutants that say nothing", 1, f"{named}\n0 passed, {len(idle)} failed")
         return {found[1] for line in self.said if (found := REFUSED.match(line))}
 
 
