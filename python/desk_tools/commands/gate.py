@@ -3,12 +3,13 @@
 
 `rt ci` proves each crate and its tests, tries the mutants, and runs the tests and the program, in a copy of crates/. A
 mutant that tests/mutants-refused has with its present text is not tried again; --all tries each. A mutant that says
-nothing, since its text cannot be applied or compiled, is a failure. Scripts that need no program run first. As soon as
-the program is linked, the others run over it beside the mutants: those in a browser, and the rest, each one at a time.
-Each must end with 'N passed, M failed'; anything else counts as a failure. A script that failed beside others runs once
-more by itself at the end, and that run counts; both are shown. Before the last line stands what each crate cost
-(bin/meter), the end of what each failure said, and what each script took. The last line is 'N passed, M failed' of
-everything together, and the exit status is 1 where something failed.
+nothing, since its text cannot be applied or compiled, is a failure. Scripts that need no program run beside the proofs.
+As soon as the program is linked, the others run over it beside the mutants, in lanes: those in a browser, those that
+mostly work, and the rest; each lane runs one at a time. Each script must end with 'N passed, M failed'; anything else
+counts as a failure. A script that failed beside others runs once more by itself at the end, and that run counts; both
+are shown. Before the last line stands what each crate cost (bin/meter), the end of what each failure said, and what
+each script took. The last line is 'N passed, M failed' of everything together, and the exit status is 1 where something
+failed.
 
 --install first installs the Debian packages that the scripts use; a script without its packages says what it left out.
 """
@@ -54,11 +55,9 @@ OVER_PROGRAM = [
     "tests/api_test",
     "tests/messages",
     "tests/agency",
-    "tests/cuts",
     "tests/stops",
     "tests/migrate",
     "tests/second_desk",
-    "tests/audits/run",
     "tests/full_size",
     "tests/move_in",
     "tests/standing_orders",
@@ -93,15 +92,20 @@ IN_BROWSER = [
     "deploy/try-standby",
     "tests/booted",
 ]
-# What builds a program of its own, after those.
+# What works most of its time, and waits for nothing that another script has.
+AT_WORK = ["tests/audits/run", "tests/cuts"]
+# What takes no program, and builds one of its own.
 WITH_KIT = ["tests/disk"]
 TALLY = re.compile(r"(\d+) passed, (\d+) failed")
 REFUSED = re.compile(r"(?:rt: )?must-fail ([\w-]+/[\w.-]+)\.edit: refused, as it must be\b")
 # `rt ci` passes over an edit that can't be applied or compiled; here it fails, since nothing is tried by it.
 SAYS_NOTHING = re.compile(r"(?:rt: )?must-fail ([\w-]+/[\w.-]+)\.edit: BAD EDIT\b")
 LEFT_OF_A_CLOCK = re.compile(r"(?:sem\.)?faketime_(?:shm|sem)_(\d+)")
+PROCESSORS = len(os.sched_getaffinity(0))
 # No check here takes more than 6 gigabytes. The kit reckons with twice that, and would leave a processor of four idle.
-JOBS = min(os.cpu_count() or 1, 4)
+JOBS = min(PROCESSORS, 4)
+# Two scripts run side by side, and three where the processors allow it.
+FOR_THREE = 4
 SECONDS_STILL = 3
 # No script takes longer, and one that hangs must not take the gate's time.
 LONGEST = 2700
@@ -190,9 +194,26 @@ def run(tally: Tally, words: list[str]) -> None:
 
 
 def run_each(tally: Tally, scripts: list[str], program: str) -> None:
-    """Runs scripts over the program, one after another."""
+    """Runs scripts one after another, each over the program if it takes one."""
     for script in scripts:
-        run(tally, [*script.split(), program])
+        run(tally, [*script.split(), *([] if script in [*ALONE, *WITH_KIT] else [program])])
+
+
+def lanes() -> list[list[str]]:
+    """What runs side by side over the program, each lane one script after another."""
+    at_work = [*AT_WORK, *WITH_KIT]
+    if PROCESSORS < FOR_THREE:
+        return [IN_BROWSER, [*OVER_PROGRAM, *at_work]]
+    return [IN_BROWSER, OVER_PROGRAM, at_work]
+
+
+def run_lanes(tally: Tally, given: list[list[str]], program: str) -> None:
+    """Runs lanes side by side and waits for each."""
+    running = [threading.Thread(target=run_each, args=(tally, lane, program)) for lane in given]
+    for lane in running:
+        lane.start()
+    for lane in running:
+        lane.join()
 
 
 def kill_group(leader: Any) -> None:
@@ -353,21 +374,15 @@ def gate(is_all: bool) -> int:
         # Some scripts run the program as another user.
         os.chmod(room, 0o755)
         costs, program = f"{room}/costs", f"{room}/desk"
-        for script in ALONE:
-            run(tally, [script])
         known = known_mutants(tally, is_all)
         copy_of_crates(TOP, known, f"{room}/tree")
         proofs = Proofs(tally, costs, f"{room}/tree")
+        run_each(tally, ALONE, program)
         while not proofs.has_linked() and not proofs.has_ended():
             time.sleep(1)
         if os.path.exists(proofs.program):
             shutil.copy2(proofs.program, program)
-        beside = threading.Thread(target=run_each, args=(tally, IN_BROWSER, program))
-        beside.start()
-        run_each(tally, OVER_PROGRAM, program)
-        for script in WITH_KIT:
-            run(tally, [script])
-        beside.join()
+        run_lanes(tally, lanes(), program)
         tried = proofs.end(tally)
         tally.again = [
             name

@@ -1,10 +1,10 @@
 #!/usr/bin/env python3
 """Runs scripts of the gate by themselves: `bin/test [--program PROGRAM] [NAME .. | all]`.
 
-NAME is a script as tests/README.md names it, such as tests/tally or deploy/try-site. `all` runs each in the gate's order;
-without a name the scripts are listed. PROGRAM is a desk of any kind; where it is not given, it is the one that the gate
-or bin/desk built. A script that failed runs once more at the end, and that run counts. The last line is
-'N passed, M failed', and the exit status 1 where something failed.
+NAME is a script as tests/README.md names it, such as tests/tally or deploy/try-site. Several run side by side as in the
+gate, and `all` runs each; without a name the scripts are listed. PROGRAM is a desk of any kind; where it is not given,
+it is the one that the gate or bin/desk built. A script that failed beside others runs once more at the end, and that
+run counts. The last line is 'N passed, M failed', and the exit status 1 where something failed.
 """
 
 from __future__ import annotations
@@ -27,20 +27,20 @@ def main(arguments: list[str]) -> int:
     )
     parser.add_argument("names", nargs="*", metavar="NAME", help="scripts, or all")
     words = parser.parse_args(arguments)
-    over = [*gate.OVER_PROGRAM, *gate.IN_BROWSER]
-    scripts = {it.split()[0]: (it, it in over) for it in [*gate.ALONE, *over, *gate.WITH_KIT]}
+    lanes = [gate.ALONE, *gate.lanes()]
+    scripts = {script.split()[0]: script for lane in lanes for script in lane}
     if not words.names:
         print("\n".join(scripts))
         return 0
     names = [*scripts] if words.names == ["all"] else words.names
     if strange := [it for it in names if it not in scripts]:
         parser.error(f"{', '.join(strange)}: bin/test lists the scripts")
-    if any(scripts[it][1] for it in names) and not os.access(words.program, os.X_OK):
+    over = {scripts[it] for it in names} - {*gate.ALONE, *gate.WITH_KIT}
+    if over and not os.access(words.program, os.X_OK):
         parser.error(f"{words.program} is no program; bin/desk builds one")
     tally, program = gate.Tally(), os.path.abspath(words.program)
-    for name in names:
-        script, takes_program = scripts[name]
-        gate.run(tally, [*script.split(), *([program] if takes_program else [])])
+    named = [[script for script in lane if script.split()[0] in names] for lane in lanes]
+    gate.run_lanes(tally, [lane for lane in named if lane], program)
     tally.again = tally.failed_names() if len(names) > 1 else []
     for name in tally.again:
         gate.run(tally, name.split(" "))
