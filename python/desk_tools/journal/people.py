@@ -52,6 +52,8 @@ class Person:
     since: str
     until: str
     digits: str
+    # The day by which callers.csv no longer had the row; empty while it has.
+    gone: str = ""
 
     @property
     def state(self) -> tuple[str, int]:
@@ -66,7 +68,8 @@ class Person:
         """The person as an answer names them."""
         kind = "subject-rider" if self.role == "rider" else "subject-vehicle"
         return words.said(
-            "caller",
+            "caller-gone" if self.gone else "caller",
+            day=self.gone,
             name=f"{shown.quoted(self.name)}, " if self.name else "",
             role=words.said(f"role-{self.role}"),
             subject=words.said(kind, number=self.subject) if self.subject else "",
@@ -107,6 +110,8 @@ class People:
         self.by_digits: dict[str, list[Person]] | None = None
         self.found_alike: list[list[Person]] | None = None
         self.numbers_alike: dict[str, set[int]] | None = None
+        # The rows that callers.csv had and has no more: they name whom no row names.
+        self.gone: People | None = None
         self.add(*rows)
 
     def put_rows(self, rows: list[Person]) -> None:
@@ -144,9 +149,13 @@ class People:
         They are two where keys of two callers begin alike: then nobody can say whose line it is.
         """
         rows = self.with_digits(digits)
-        held = {it.number: it for it in rows if it.held_at(moment)}
-        before = [it for it in rows if it.since <= moment]
-        return list(held.values()) or (before or rows)[-1:]
+        gone = self.gone.with_digits(digits) if self.gone else []
+        for those in rows, gone:
+            held = {it.number: it for it in those if it.held_at(moment)}
+            if held:
+                return list(held.values())
+        those = rows or gone
+        return ([it for it in those if it.since <= moment] or those)[-1:]
 
     def alike(self) -> list[list[Person]]:
         """Keys of different callers that began alike at one time, each time with all of them."""
@@ -176,11 +185,14 @@ class People:
     def now(self, number: int) -> Person | None:
         """The row of the caller's key now, or the last one."""
         caller = self.of_caller.get(number)
-        return self.rows[(caller.open_ones or caller.places)[-1]] if caller else None
+        if caller:
+            return self.rows[(caller.open_ones or caller.places)[-1]]
+        return self.gone.now(number) if self.gone else None
 
     def all_digits(self, number: int) -> set[str]:
         """The digits of all keys that the caller ever had."""
-        return {*self.of_caller.get(number, OfCaller()).of_key} - {""}
+        gone = self.gone.all_digits(number) if self.gone else set()
+        return {*self.of_caller.get(number, OfCaller()).of_key} - {""} | gone
 
     def put(self, line: Line) -> None:
         """Takes in a caller's record, where the desk accepted it."""
@@ -286,13 +298,15 @@ def row_of(fields: dict[str, str]) -> Person:
             f"its digits {got['digits'][:20]!r} are not {DIGITS} of 0 to 9 and a to f: did a spreadsheet change them? "
             f"Import that column as text"
         )
-    for name in ("from", "to"):
+    got["gone"] = (fields.get("gone") or "").strip()
+    for name in ("from", "to", "gone"):
         if got[name] and not IS_MOMENT.fullmatch(got[name]):
             raise ValueError(f"{name} is {got[name][:30]!r}, which is no moment such as {A_MOMENT}")
     subject = int(got["subject"]) if got["subject"].isdecimal() else 0
     name = shown.plain(got["name"].removeprefix("'"))
     moments = got["from"], got["to"]
-    return Person(int(got["number"]), name, got["role"], subject, *moments, got["digits"].lower())
+    digits = got["digits"].lower()
+    return Person(int(got["number"]), name, got["role"], subject, *moments, digits, got["gone"])
 
 
 def keep(path: Path, people: People) -> None:
