@@ -106,4 +106,5 @@ def test_a_new_desk_of_such_a_name_is_refused_before_anything_is_made(
 def test_a_setup_names_an_agency_that_is_there_under_such_a_name() -> None:
     assert [*names.told(["main", "north"])] == []
     [said] = names.told(["main", "record"])
-    assert said.endswith("of that name: set it up under another name.")
+    assert said.startswith("An agency cannot be called record, because "), said
+    assert said.endswith("of that name: set it up under another name."), said

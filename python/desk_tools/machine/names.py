@@ -69,4 +69,4 @@ def told(names: Iterable[str]) -> Iterator[str]:
     """A sentence for each agency of this machine that an earlier version took under such a name."""
     for name in names:
         if why := fault(name):
-            yield f"{why}: set it up under another name."
+            yield f"{why[0].upper()}{why[1:]}: set it up under another name."
