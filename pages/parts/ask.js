@@ -30,6 +30,11 @@ function dialogOf(question, detail, answers) {
     });
 }
 
+/** A question that nobody has answered is answered no once something else is shown, and tells whom
+ * it was about no more.
+ */
+export const answerNo = () => document.querySelectorAll("dialog").forEach((it) => it.close(""));
+
 /** Asks once; whether the answer was yes.
  * @param {{ question: string, detail?: import("../types").Given, yes: string, no?: string, danger?:
  * boolean }} given

@@ -2,7 +2,7 @@
 // key.
 
 import { agency, forgetPlaces, hasAgency, loadAgency, loadPlaces, troubles } from "./agency.js";
-import { asked } from "./ask.js";
+import { answerNo, asked } from "./ask.js";
 import { markOf, showBrand } from "./brand.js";
 import { clock, dayShort, minuteNow, plus, today } from "./clock.js";
 import { hasDatabase } from "./database.js";
@@ -624,11 +624,6 @@ function drawScreen(screen, parts) {
         notDrawn(error);
     }
 }
-
-/** A question that nobody has answered is answered no once another screen is shown, and tells whom
- * it was about no more.
- */
-const answerNo = () => document.querySelectorAll("dialog").forEach((it) => it.close(""));
 
 /** @param {{ again?: boolean }} options */
 async function show({ again = false } = {}) {

@@ -3,14 +3,17 @@
 // hidden, so that nothing is done to somebody else.
 
 import { vehicleName, vehicles } from "./agency.js";
+import { answerNo } from "./ask.js";
 import { between, dayShort, minuteNow, today } from "./clock.js";
 import { comboField } from "./combo.js";
 import * as desk from "./desk.js";
 import { button, drawInto, found, part, say } from "./element.js";
 import { form } from "./fields.js";
 import { icon } from "./icons.js";
+import { whenSignedOut } from "./leaving.js";
 import { HIGHEST_ID } from "./limits.js";
 import { nextTrip } from "./next-trip.js";
+import { meantBy, opening, stepsBack } from "./opened.js";
 import { readAll, reading } from "./reads.js";
 import { findRiders, folded, isTelephone, riderLabel, riderOf, rosterSize } from "./roster.js";
 import { focusOn, makeScreen } from "./screen.js";
@@ -178,6 +181,46 @@ export function searchInBar(label, action, taken) {
     );
 }
 
+/** What was opened from a list, one after another. The browser's history has places in it.
+ * @type {number[]}
+ */
+let openedOnes = [];
+whenSignedOut(() => {
+    openedOnes = [];
+});
+
+/** Has Back close what is opened from a list.
+ * @param {number} id
+ */
+function openInHistory(id) {
+    const found = opening(openedOnes, history.state, id);
+    if (!found) return;
+    openedOnes = found.those;
+    history.pushState(found.place, "", location.hash);
+}
+
+/** Calls act with whom Back and Forward mean, or with null, as long as a place is on the page.
+ * Other parts of the screen have addresses of their own.
+ * @param {HTMLElement} place @param {(id: number | null) => void} act
+ */
+function goWithHistory(place, act) {
+    const here = location.hash;
+    const moved = (/** @type {PopStateEvent} */ { state }) => {
+        if (!place.isConnected) window.removeEventListener("popstate", moved);
+        else if (location.hash === here) act(meantBy(openedOnes, state));
+    };
+    window.addEventListener("popstate", moved);
+}
+
+/** Who is shown first: whom the history means, or else who was shown last.
+ * @param {What} what @param {boolean} hasList
+ */
+function firstOf(what, hasList) {
+    const meant = hasList ? meantBy(openedOnes, history.state) : null;
+    if (meant !== null) keepSubject(what, meant);
+    return meant ?? subjectOf(what);
+}
+
 /** A field for the number, and below it what draw(number) gives of the number that was chosen. A
  * rider's field stands in the bar, and is empty once it is known who is meant. Where one person has
  * one number, the field stands above and is folded away once it is known. focus names the element
@@ -214,6 +257,10 @@ export function withSubject({
         folds
     );
     const shows = (/** @type {number} */ id) => {
+        if (none) openInHistory(id);
+        showsNow(id);
+    };
+    const showsNow = (/** @type {number} */ id) => {
         keepSubject(what, id);
         field.write(folds ? id : null);
         say("");
@@ -234,13 +281,19 @@ export function withSubject({
         send: async (values) => ({ value: values[what] }),
         done: shows
     });
+    // (what was opened from the list is one step ahead of it, so that Forward opens it again)
     const leave = () => {
+        const steps = stepsBack(history.state);
+        if (steps) history.go(-steps);
+        else leaveNow();
+    };
+    const leaveNow = () => {
         keepSubject(what, null);
         field.write("");
         tools?.change({ shown: null, typed: "", open: true }, { focus: `${what}-none` });
         window.dispatchEvent(new Event("desk.look"));
     };
-    const first = subjectOf(what), { textOf, meant } = KINDS[what];
+    const first = firstOf(what, none !== undefined), { textOf, meant } = KINDS[what];
     if (first && folds) field.write(first);
     // (who leaves the search goes on with the rider who is shown)
     /** @type {HTMLInputElement} */ (field.control).addEventListener(
@@ -328,6 +381,14 @@ export function withSubject({
         },
     });
     place = screen.element;
+    if (none)
+        goWithHistory(place, (id) => {
+            if (id === screen.state.shown) return;
+            // (a question is about what was open)
+            answerNo();
+            if (id === null) leaveNow();
+            else showsNow(id);
+        });
     // (who typed a wrong number types another one)
     whenRefused(place, (refused) => {
         if (screen.state.refused !== refused) screen.change({ refused });

@@ -64,7 +64,7 @@ const recentWords = (recent, shown) =>
     ].filter(Boolean).join(" · ");
 
 /** The look of a reason to call back: whoever calls needs all of it. */
-const WHOLE = "num whole";
+const WHOLE = "num wraps";
 
 /** @param {number} rider @param {string} below @param {Open} open @param {boolean} [current]
  * @param {string} [look] */

@@ -448,6 +448,44 @@ def an_examiner_begins_with_the_cases_that_wait_and_one_click_opens_one(at: Plac
 
 
 @check
+def back_closes_a_case_and_what_was_typed_is_there_when_it_is_opened_again(at: Place) -> None:
+    reasons, asked = "Reasons, as they stand in the letter", "can’t be undone"
+    for rider in (3311, 3312):
+        newcomer(at, rider)("clerk", "complete")
+    make_worklist(at, AFTER)
+    at.browser.sign_in(at.keys["examiner"], "examiner", "case")
+    at.browser.press("Decide: rider 3311")
+    opened_entry(at, "refuse")
+    at.browser.fill(reasons, LINE_1)
+    at.browser.press("Deny rider 3311's application")
+    at.browser.sees(asked)
+    for move, is_open in (
+        (at.browser.driver.back, False),
+        (at.browser.driver.forward, True),
+        (at.browser.driver.back, False),
+        (lambda: at.browser.press("Decide: rider 3311"), True),
+        (at.browser.driver.back, False),
+    ):
+        move()
+        until("the queue is not as it was", lambda of=is_open: bool(at.browser.script(QUEUE)) != of)
+        at.browser.sees_no(asked)
+        same("where it is", "#examiner/case", at.browser.script("return location.hash"))
+        if is_open:
+            at.browser.sees("Decide for rider 3311")
+            same("what was typed", LINE_1, at.browser.value(reasons))
+        else:
+            same("where the focus is", "rider-none", focused_id(at))
+    at.browser.press("Decide: rider 3312")
+    at.browser.sees("Decide for rider 3312")
+    at.browser.press("All cases")
+    until("the queue does not come back", lambda: at.browser.script(QUEUE))
+    at.browser.driver.forward()
+    at.browser.sees("Decide for rider 3312")
+    told = at.browser.script("return JSON.stringify(history.state)")
+    holds(f"the history has a rider: {told}", "3312" not in told)
+
+
+@check
 def a_work_list_that_is_missing_wrong_or_not_for_this_key_is_told(at: Place) -> None:
     at.browser.sign_in(at.keys["rider 1001"], "officer", "waits")
     at.browser.sees("This key may not read the work list.")

@@ -912,6 +912,10 @@ def rail(at: Place, heading: str) -> Any:
     )
 
 
+TOO_WIDE = """return [...document.querySelectorAll(".rail li small:not(.cut)")].filter(
+    (it) => it.scrollWidth > it.clientWidth).map((it) => it.innerText)"""
+
+
 @check
 def who_called_and_whom_to_call_back_stand_beside_the_rider(at: Place) -> None:
     begin(at, "1004")
@@ -928,7 +932,7 @@ def who_called_and_whom_to_call_back_stand_beside_the_rider(at: Place) -> None:
         [recent[0], recent[1].endswith("booked 1")],
     )
     at.browser.press("Add this caller")
-    at.browser.fill("Why", "later return")
+    at.browser.fill("Why", "wants to know of a later return")
     at.browser.keys(Keys.ENTER)
     until(
         "nobody is to be called back",
@@ -936,6 +940,7 @@ def who_called_and_whom_to_call_back_stand_beside_the_rider(at: Place) -> None:
             it for it in rail(at, "Call back") if "Dorothy" in it and "later return · since" in it
         ],
     )
+    same("reasons that do not fit", [], at.browser.script(TOO_WIDE))
     at.browser.sign_out()
     at.browser.sign_in(at.keys["second clerk"], "clerk")
     until("the list is gone", lambda: [it for it in rail(at, "Call back") if "Dorothy" in it], 10)

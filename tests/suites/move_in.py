@@ -373,12 +373,24 @@ def faults_of_homes(desk, town):
         "--examiner",
         "keys/4-examiner",
     ]
+    before, plan = agency_of(town)["places"], moved(town, "riders", "homes.csv", "--plan")
+    names = [before[it]["name"] for it in ("4", "5")]
+    wanted = [
+        "  2 places become private, since a rider lives there:",
+        f"    place 4, {names[0]}, to rider 131",
+        f"    place 5, {names[1]}, to riders 132, 133",
+    ]
+    told = [it for it in plan.stdout.splitlines() if it in wanted]
+    now = agency_of(town)["places"]
+    yield difference("a plan of homes", (wanted, before), (told, now))
     run = moved(town, *words)
     wanted = "homes: 2 places are private to their riders now, 1 of them to more than one"
     yield difference("what is said of homes", (1, wanted), (run.returncode, last_line(run)))
     yield None if "line 7 of homes.csv: the home, place 77, was not put yet" in run.stdout else f"a lost home: {run}"
     run = moved(town, *words)
     yield None if "homes:" not in run.stdout else f"homes once more: {run}"
+    plan = moved(town, "riders", "homes.csv", "--plan")
+    yield None if "private" not in plan.stdout else f"a plan of homes that are private: {plan}"
     moved(town, "places", "places.csv", "--url", url, "--admin", "keys/1-admin")
     places = agency_of(town)["places"]
     wanted = {"1": True, "2": False, "3": None, "4": 131, "5": [132, 133], "6": None, "7": None}

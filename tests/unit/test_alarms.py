@@ -32,6 +32,12 @@ GIVEN = {"agency": "A", "zone": "America/Chicago", "name": "desk.test", "port": 
         ("https://alarm.example.org/desk", False),
         ("ops@example.org", False),
         ("cat >/root/http://", False),
+        ("curl -sd @- http://alarm.example.org/desk", True),
+        ("curl -sd @- 'http://10.0.0.7/desk'", True),
+        ("curl -sd @- http://127.0.0.1:9099/ || mail http://there.example.org/", True),
+        ("curl -sd @- http://127.0.0.1:9099/", False),
+        ("curl -sd @- https://alarm.example.org/?for=http://desk", False),
+        ("https://alarm.example.org/?for=http://desk", False),
     ],
 )
 def test_only_this_machine_is_sent_to_in_the_open(address: str, is_open: bool) -> None:
@@ -63,5 +69,7 @@ def test_the_watch_names_an_open_address(
     assert [it[0] for it in found] == ["alarms"] and "4711" not in found[0][1]
     assert watch.send_test(str(tmp_path)) == 1
     assert "is not encrypted" in capsys.readouterr().err
+    (tmp_path / "watch.conf").write_text(f"SITE=none\nHOOK=curl -d @- {OPEN}\n", encoding="ascii")
+    assert list(watching.troubles_of_alarms(str(tmp_path))) == found
     (tmp_path / "watch.conf").write_text(f"SITE=none\nHOOK={HERE}\n", encoding="ascii")
     assert not list(watching.troubles_of_alarms(str(tmp_path)))

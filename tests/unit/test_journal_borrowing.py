@@ -1,9 +1,10 @@
 """Borrowed keys and roles in the record's answers: however they are put back, and whatever callers.csv has."""
 
+import json
 from pathlib import Path
 
 import pytest
-from test_journal_questions import ADMIN, asked_of, at, digest, notes_of, put_key, request
+from test_journal_questions import ADMIN, asked_of, at, digest, notes_of, put_key, request, took
 
 from desk_tools.journal import chain, people, questions
 from desk_tools.journal.people import Person
@@ -205,3 +206,36 @@ def test_an_answer_from_a_changed_record_says_so_first(tmp_path: Path) -> None:
         questions.of_trip(asked, 7),
     ):
         assert told.warning.startswith("This record does not hold: 000001-2026-11-29, line 2"), told
+
+
+@pytest.mark.parametrize("kind", ["each another", "one caller's", "put back", "two callers'"])
+def test_thousands_of_changes_are_taken_in_with_little_work_each(
+    tmp_path: Path, monkeypatch: pytest.MonkeyPatch, kind: str
+) -> None:
+    """A change looks at a few fields of rows, however many rows there are: work is counted, since clocks differ."""
+    changes = {
+        "each another": lambda it: (it + 1, f"key {it}"),
+        "one caller's": lambda it: (7, f"key {it}"),
+        "put back": lambda it: (7, f"key {it % 2}"),
+        "two callers'": lambda it: (7 + it % 2, f"key {it // 2 % 2}"),
+    }
+    count, looked = 600, 0
+
+    def look(row: object, name: str) -> object:
+        nonlocal looked
+        looked += not name.startswith("__")
+        return object.__getattribute__(row, name)
+
+    found = []
+    for it in range(count):
+        caller, key = changes[kind](it)
+        line = json.loads(put_key(0, "abc", caller, key, role="clerk"))
+        line["at"] = f"2026-11-29T12:{it // 60:02}:{it % 60:02}.000Z"
+        found.append(json.dumps(line).encode())
+    asked = asked_of(tmp_path / "journal", found, [ADMIN])
+    monkeypatch.setattr(Person, "__getattribute__", look)
+    assert took(tmp_path) == 0
+    taking, looked = looked, 0
+    assert len(questions.of_keys(asked).rows) == count
+    assert taking < 150 * count, taking
+    assert looked < 150 * count, looked

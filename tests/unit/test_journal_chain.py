@@ -573,3 +573,49 @@ def test_corrections_take_no_reading_of_the_whole_record(office: Office, tmp_pat
         (office.places.folder / corrections.NOTED).write_bytes(content)
         with pytest.raises(chain.Broken):
             corrections.take(office.places, table)
+
+
+def old_export(folder: Path, name: str, days: int) -> Path:
+    """An export that was made so many days ago."""
+    path = folder / name
+    path.parent.mkdir(parents=True, exist_ok=True)
+    path.write_text("x", encoding="utf-8")
+    moment = (datetime.combine(TODAY, datetime.min.time()) - timedelta(days=days)).timestamp()
+    os.utime(path, (moment, moment))
+    return path
+
+
+def test_exports_in_folders_are_removed_like_the_others(office: Office, tmp_path: Path) -> None:
+    """A month's folder, or the tables of a warehouse, have names and homes as a single sheet has."""
+    folder = tmp_path / "exports"
+    old = [old_export(folder, it, 3000) for it in ("sheet.csv", "2018/a.csv", "2018/june/b.csv")]
+    kept = [old_export(folder, it, days) for it, days in (("2026/c.csv", 9), ("2018/d.csv", 8))]
+    away = old_export(tmp_path / "away", "e.csv", 3000)
+    (folder / "linked").symlink_to(away.parent)
+    rules = [it for it in retention.rules_of({}) if it.kind == "exports"]
+    for is_plan in (True, False):
+        said = retention.keep(office.places, {"exports": folder}, rules, TODAY, is_plan)
+        named = "2018/a.csv, 2018/june/b.csv, sheet.csv"
+        verb = "would be removed" if is_plan else "removed"
+        assert said[0].endswith(f"3 files {verb}: {named}"), said
+        assert said[1:] == ["exports: linked is a link to a folder, where nothing is removed"]
+        assert [it.exists() for it in old] == [is_plan] * 3
+    assert all(it.exists() for it in (*kept, away))
+    assert not (folder / "2018/june").exists() and (folder / "2018").exists()
+
+
+def test_a_folder_of_exports_that_cannot_be_read_is_named(
+    office: Office, tmp_path: Path, monkeypatch: pytest.MonkeyPatch
+) -> None:
+    old_export(tmp_path, "exports/2018/a.csv", 3000)
+    before = os.scandir
+
+    def scan(path: str) -> object:
+        if str(path).endswith("2018"):
+            raise PermissionError(13, "Permission denied", str(path))
+        return before(path)
+
+    monkeypatch.setattr(os, "scandir", scan)
+    rules = [it for it in retention.rules_of({}) if it.kind == "exports"]
+    with pytest.raises(Wrong, match="2018 can't be read: Permission denied"):
+        retention.keep(office.places, {"exports": tmp_path / "exports"}, rules, TODAY, True)

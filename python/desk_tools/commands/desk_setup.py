@@ -19,9 +19,19 @@ import shutil
 import sys
 from typing import Any
 
-from desk_tools import ending
+from desk_tools import agencies, ending
 from desk_tools.machine import settings as told
-from desk_tools.machine import acme, earlier, offsite, restoring, services, steps, to_main, turns
+from desk_tools.machine import (
+    acme,
+    earlier,
+    names,
+    offsite,
+    restoring,
+    services,
+    steps,
+    to_main,
+    turns,
+)
 from desk_tools.machine.changes import Changes, run
 from desk_tools.machine.settings import Failure
 from desk_tools.tree import TOP
@@ -48,6 +58,7 @@ def make(changes: Any, settings: Any, lines: Any) -> Any:
         if settings["acme"]:
             acme.make(changes, settings, f"{TOP}/deploy/acme-hook")
     steps.close_to_others()
+    lines.extend(names.told(agencies.confs_in(agencies.SETTINGS)))
     offsite.send_test(settings, f"{TOP}/deploy/elsewhere", lines)
     changes.write(told.SETTINGS, told.text_of(settings), 0o600)
     if settings["alarm"] != alarm_before:

@@ -21,6 +21,7 @@ import time
 from pathlib import Path
 
 from desk_tools.journal import first_admins, people
+from desk_tools.machine import names
 from desk_tools.ops.copying import folder_within, give_name
 from desk_tools.ops.ending import Failure, run_script, WRONG_WORDS
 from desk_tools.ops.judge import ANY_DAY, ANY_ZONE
@@ -102,7 +103,10 @@ def main(words: list[str]) -> None:
     usage.add_argument("keys", metavar="KEYS", help="the folder of the admins' keys")
     usage.add_argument("agency", metavar="AGENCY", nargs="?", help="the agency's short name (main)")
     given = usage.parse_args(words)
-    desk, program = Desk(given.agency), program_of()
+    desk = Desk(given.agency)
+    if why := names.fault(desk.agency.name):
+        raise Failure(why, WRONG_WORDS)
+    program = program_of()
     if os.path.lexists(desk.file):
         raise Failure(f"{desk.file} is there already", WRONG_WORDS)
     os.umask(0o077)

@@ -78,6 +78,8 @@ class History:
         self.now: dict[int, Period] = {}
         self.holding: dict[str, list[Period]] = {}
         self.first_use: dict[str, int] = {}
+        self.first_put: dict[str, int] = {}
+        self.changes: set[int] = set()
         self.returns: dict[int, list[Return]] = {}
         self.by_digits: dict[str, list[Period]] = {}
         self.is_closed = False
@@ -111,17 +113,19 @@ class History:
             former.until = self.turn
             self.holding[former.digits].remove(former)
         self.now[number] = new
+        self.changes.add(self.turn)
+        self.first_put.setdefault(digits, self.turn)
         self.holding.setdefault(digits, []).append(new)
         self.of_caller.setdefault(number, []).append(new)
 
     def is_change(self, turn: int) -> bool:
         """Whether the line of that turn changed a caller."""
-        return any(it.since == turn for periods in self.of_caller.values() for it in periods)
+        return turn in self.changes
 
     def close(self) -> None:
         """All lines were counted: finds what was put back."""
         self.is_closed = True
-        for number in {*self.of_caller, *(it.number for it in self.people.rows)}:
+        for number in {*self.of_caller, *self.people.of_caller}:
             periods = self.whole(number)
             for before, after in zip(periods, periods[1:]):
                 who = after.line.who if after.line else ""
@@ -134,9 +138,7 @@ class History:
     def whole(self, number: int) -> list[Period]:
         """The caller's periods, with those that are older than the record."""
         made = self.of_caller.get(number, [])
-        older = older_rows(
-            [it for it in self.people.rows if it.number == number and it.digits], made
-        )
+        older = older_rows([it for it in self.people.of_number(number) if it.digits], made)
         if made:
             known = {it.digits for it in [*older, *made[:1]]}
             for digits in dict.fromkeys(it.digits for it in made[1:]):
@@ -149,18 +151,10 @@ class History:
 
     def is_older(self, digits: str, number: int, turn: int) -> bool:
         """Whether a key without a row was used before the caller's first change, and was nobody else's then."""
-        others = [it for it in self.people.rows if it.digits == digits and it.number != number]
-        first = min(
-            (
-                it.since
-                for periods in self.of_caller.values()
-                for it in periods
-                if it.digits == digits
-            ),
-            default=turn,
-        )
-        is_others = any(not it.since for it in others)
-        return not is_others and self.first_use.get(digits, turn) < min(first, turn)
+        rows = self.people.with_digits(digits)
+        is_others = any(not it.since for it in rows if it.number != number)
+        first = min(self.first_put.get(digits, turn), turn)
+        return not is_others and self.first_use.get(digits, turn) < first
 
     def find(self, periods: list[Period], kind: Borrowed) -> None:
         """Marks what stood between a former key, or role, and its return."""
@@ -171,8 +165,10 @@ class History:
         first: dict[object, int] = {}
         for at, period in enumerate(periods):
             first.setdefault(of(period), at)
+        latest: dict[object, int] = {}
         for at, back in enumerate(periods):
-            last = next((it for it in range(at - 1, -1, -1) if of(periods[it]) == of(back)), at)
+            last = latest.get(of(back), at)
+            latest[of(back)] = at
             between = [it for it in periods[last + 1 : at] if first[of(it)] > first[of(back)]]
             if not between:
                 continue
@@ -194,7 +190,7 @@ class History:
     def subjects(self, caller: int) -> set[int]:
         """Of which riders or vans the caller ever was."""
         made = {it.subject for it in self.of_caller.get(caller, [])}
-        return made | {it.subject for it in self.people.rows if it.number == caller}
+        return made | {it.subject for it in self.people.of_number(caller)}
 
 
 def older_rows(rows: Iterable[Person], made: list[Period]) -> list[Period]:

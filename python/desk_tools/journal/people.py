@@ -9,9 +9,9 @@ import contextlib
 import hashlib
 import re
 import sqlite3
+from bisect import bisect_left
 from collections.abc import Iterable
-from dataclasses import dataclass, replace
-from itertools import combinations
+from dataclasses import dataclass, field, replace
 from pathlib import Path
 
 from desk_tools.journal import lines, shown
@@ -31,6 +31,8 @@ IS_DIGITS = re.compile(r"[0-9a-fA-F]{12}")
 # A moment as lines have it, or a day by hand.
 IS_MOMENT = re.compile(r"\d{4}-\d\d-\d\d(T\d\d:\d\d:\d\d\.\d{3}Z)?", re.ASCII)
 A_MOMENT = "2026-11-29T12:00:00.000Z"
+# Behind each moment.
+ENDLESS = "~"
 # Bytes that no name has and that an older version let by.
 CONTROLS = bytes([*range(0x09), *range(0x0E, 0x20), 0x7F])
 
@@ -50,6 +52,13 @@ class Person:
     since: str
     until: str
     digits: str
+    # The day by which callers.csv no longer had the row; empty while it has.
+    gone: str = ""
+
+    @property
+    def state(self) -> tuple[str, int]:
+        """The role, and for whom."""
+        return self.role, self.subject
 
     def held_at(self, moment: str) -> bool:
         """Whether the key was the caller's at that moment."""
@@ -59,7 +68,8 @@ class Person:
         """The person as an answer names them."""
         kind = "subject-rider" if self.role == "rider" else "subject-vehicle"
         return words.said(
-            "caller",
+            "caller-gone" if self.gone else "caller",
+            day=self.gone,
             name=f"{shown.quoted(self.name)}, " if self.name else "",
             role=words.said(f"role-{self.role}"),
             subject=words.said(kind, number=self.subject) if self.subject else "",
@@ -77,69 +87,112 @@ def named(fields: dict[str, object]) -> str:
     return shown.plain(lines.text_of(fields, "name"))
 
 
+@dataclass
+class OfCaller:
+    """Where the rows of one caller stand: all, those without an end, and the last of each key."""
+
+    places: list[int] = field(default_factory=list)
+    open_ones: list[int] = field(default_factory=list)
+    of_key: dict[str, int] = field(default_factory=dict)
+
+
 class People:
-    """All rows, by number and moment, and up to which entry of the record they go."""
+    """All rows, by number and moment, and up to which entry of the record they go.
+
+    What a change of a key needs is looked up and never searched for, since a record may have thousands of changes.
+    """
 
     def __init__(self, rows: Iterable[Person] = (), upto: int = 0) -> None:
-        self.rows, self.upto = list(rows), upto
+        self.upto = upto
+        self.rows: list[Person] = []
+        self.of_caller: dict[int, OfCaller] = {}
+        self.known: set[tuple[int, str, str]] = set()
         self.by_digits: dict[str, list[Person]] | None = None
         self.found_alike: list[list[Person]] | None = None
+        self.numbers_alike: dict[str, set[int]] | None = None
+        # The rows that callers.csv had and has no more: they name whom no row names.
+        self.gone: People | None = None
+        self.add(*rows)
+
+    def put_rows(self, rows: list[Person]) -> None:
+        """Has these rows from now on."""
+        self.rows, self.of_caller, self.known = [], {}, set()
+        self.add(*rows)
+
+    def add(self, *rows: Person) -> None:
+        """Adds rows."""
+        self.forget()
+        for row in rows:
+            caller = self.of_caller.setdefault(row.number, OfCaller())
+            caller.places.append(len(self.rows))
+            caller.of_key[row.digits] = len(self.rows)
+            if not row.until:
+                caller.open_ones.append(len(self.rows))
+            self.known.add(identity_of(row))
+            self.rows.append(row)
+
+    def forget(self) -> None:
+        """Forgets what was found in the rows, because they change."""
+        self.by_digits = self.found_alike = self.numbers_alike = None
+
+    def with_digits(self, digits: str) -> list[Person]:
+        """The rows of keys that begin with these digits."""
+        if self.by_digits is None:
+            self.by_digits = {}
+            for row in self.rows:
+                self.by_digits.setdefault(row.digits, []).append(row)
+        return self.by_digits.get(digits, [])
 
     def of_digits(self, digits: str, moment: str) -> list[Person]:
         """Whose key had these digits at that moment; where nobody's, who had it last before.
 
         They are two where keys of two callers begin alike: then nobody can say whose line it is.
         """
-        if self.by_digits is None:
-            self.by_digits = {}
-            for row in self.rows:
-                self.by_digits.setdefault(row.digits, []).append(row)
-        rows = self.by_digits.get(digits, [])
-        held = {it.number: it for it in rows if it.held_at(moment)}
-        before = [it for it in rows if it.since <= moment]
-        return list(held.values()) or (before or rows)[-1:]
+        rows = self.with_digits(digits)
+        gone = self.gone.with_digits(digits) if self.gone else []
+        for those in rows, gone:
+            held = {it.number: it for it in those if it.held_at(moment)}
+            if held:
+                return list(held.values())
+        those = rows or gone
+        return ([it for it in those if it.since <= moment] or those)[-1:]
 
     def alike(self) -> list[list[Person]]:
         """Keys of different callers that began alike at one time, each time with all of them."""
-        if self.found_alike is not None:
-            return self.found_alike
-        first: dict[str, list[Person]] = {}
-        for row in self.rows:
-            if row.digits:
-                first.setdefault(row.digits, []).append(row)
-        self.found_alike = [
-            it
-            for it in first.values()
-            if any(
-                one.number != other.number
-                and (not one.until or other.since < one.until)
-                and (not other.until or one.since < other.until)
-                for one, other in combinations(it, 2)
-            )
-        ]
+        if self.found_alike is None:
+            first: dict[str, list[Person]] = {}
+            for row in self.rows:
+                if row.digits:
+                    first.setdefault(row.digits, []).append(row)
+            self.found_alike = [it for it in first.values() if are_at_once(it)]
         return self.found_alike
 
-    def add(self, *rows: Person) -> None:
-        """Adds rows."""
-        self.put_rows([*self.rows, *rows])
-
-    def put_rows(self, rows: list[Person]) -> None:
-        """Has these rows from now on."""
-        self.rows, self.by_digits, self.found_alike = rows, None, None
+    def others_alike(self, number: int | None, digits: str) -> set[int]:
+        """The other callers whose keys began with these digits as this caller's did."""
+        if self.numbers_alike is None:
+            self.numbers_alike = {it[0].digits: {row.number for row in it} for it in self.alike()}
+        return self.numbers_alike.get(digits, set()) - {number}
 
     def merge(self, other: "People") -> None:
         """Takes in the rows of another site's record that are not here."""
-        known = {(it.number, it.digits, it.since) for it in self.rows}
-        self.add(*(it for it in other.rows if (it.number, it.digits, it.since) not in known))
+        self.add(*(it for it in other.rows if identity_of(it) not in self.known))
+
+    def of_number(self, number: int) -> list[Person]:
+        """The caller's rows."""
+        caller = self.of_caller.get(number, OfCaller())
+        return [self.rows[it] for it in caller.places]
 
     def now(self, number: int) -> Person | None:
         """The row of the caller's key now, or the last one."""
-        rows = [it for it in self.rows if it.number == number]
-        return next((it for it in reversed(rows) if not it.until), rows[-1] if rows else None)
+        caller = self.of_caller.get(number)
+        if caller:
+            return self.rows[(caller.open_ones or caller.places)[-1]]
+        return self.gone.now(number) if self.gone else None
 
     def all_digits(self, number: int) -> set[str]:
         """The digits of all keys that the caller ever had."""
-        return {it.digits for it in self.rows if it.number == number and it.digits}
+        gone = self.gone.all_digits(number) if self.gone else set()
+        return {*self.of_caller.get(number, OfCaller()).of_key} - {""} | gone
 
     def put(self, line: Line) -> None:
         """Takes in a caller's record, where the desk accepted it."""
@@ -151,27 +204,49 @@ class People:
         if not isinstance(number, int) or role not in ROLES or not digits:
             return
         moment, last = lines.told(line.at), self.now(number)
-        if any((it.number, it.digits, it.since) == (number, digits, moment) for it in self.rows):
+        if (number, digits, moment) in self.known:
             return
+        caller = self.of_caller.setdefault(number, OfCaller())
         # (a name belongs to its key: a former one that is put back has its own again)
-        former = [it for it in self.rows if it.number == number and it.digits == digits]
-        before = former[-1] if former else last
+        before = self.rows[caller.of_key[digits]] if digits in caller.of_key else last
         name = named(fields) or (before.name if before else "")
         new = Person(
             number, name, role, subject if isinstance(subject, int) else 0, moment, "", digits
         )
-        same = [
-            it for it in self.rows if it.number == number and not it.until and it.digits == digits
-        ]
-        if same and (same[0].role, same[0].subject) == (new.role, new.subject):
+        self.forget()
+        same = [it for it in caller.open_ones if self.rows[it].digits == digits]
+        if same and self.rows[same[0]].state == new.state:
             # The same key again: a write that was sent twice, or a key that a row by hand names already.
-            self.put_rows([replace(it, name=name) if it is same[0] else it for it in self.rows])
+            self.rows[same[0]] = replace(self.rows[same[0]], name=name)
             return
-        ended = [
-            replace(it, until=moment) if it.number == number and not it.until else it
-            for it in self.rows
-        ]
-        self.put_rows([*ended, new])
+        for at in caller.open_ones:
+            self.rows[at] = replace(self.rows[at], until=moment)
+        caller.open_ones = []
+        self.add(new)
+
+
+def identity_of(row: Person) -> tuple[int, str, str]:
+    """What no two rows have: whose key it is, and since when."""
+    return row.number, row.digits, row.since
+
+
+def are_at_once(rows: list[Person]) -> bool:
+    """Whether two of these rows are of different callers at one time."""
+    if len({it.number for it in rows}) < 2:
+        return False
+    ordered = sorted(rows, key=lambda it: it.since)
+    sinces = [it.since for it in ordered]
+    # How late the rows up to each one end, at the latest: of any caller, and of one other than that.
+    latest: list[dict[int, str]] = [{}]
+    for row in ordered:
+        ends = {**latest[-1]}
+        ends[row.number] = max(ends.get(row.number, ""), row.until or ENDLESS)
+        latest.append(dict(sorted(ends.items(), key=lambda it: it[1])[-2:]))
+    return any(
+        number != row.number and until > row.since
+        for row in ordered
+        for number, until in latest[bisect_left(sinces, row.until or ENDLESS)].items()
+    )
 
 
 def read(path: Path) -> People:
@@ -204,7 +279,7 @@ def read(path: Path) -> People:
             known.upto = max(known.upto, int(digits[len(UPTO) :]))
         if any(row.fields.get(name) for name in COLUMNS[:6]):
             try:
-                known.rows.append(row_of(row.fields))
+                known.add(row_of(row.fields))
             except ValueError as error:
                 raise Damaged(f"{path}, row {row.number}: {error}") from None
     return known
@@ -223,25 +298,20 @@ def row_of(fields: dict[str, str]) -> Person:
             f"its digits {got['digits'][:20]!r} are not {DIGITS} of 0 to 9 and a to f: did a spreadsheet change them? "
             f"Import that column as text"
         )
-    for name in ("from", "to"):
+    got["gone"] = (fields.get("gone") or "").strip()
+    for name in ("from", "to", "gone"):
         if got[name] and not IS_MOMENT.fullmatch(got[name]):
             raise ValueError(f"{name} is {got[name][:30]!r}, which is no moment such as {A_MOMENT}")
     subject = int(got["subject"]) if got["subject"].isdecimal() else 0
     name = shown.plain(got["name"].removeprefix("'"))
     moments = got["from"], got["to"]
-    return Person(int(got["number"]), name, got["role"], subject, *moments, got["digits"].lower())
-
-
-def others_of(row: Person, alike: list[list[Person]]) -> str:
-    """The numbers of the callers whose keys begin as this one does."""
-    found = {it.number for rows in alike if row in rows for it in rows if it.number != row.number}
-    return " ".join(map(str, sorted(found)))
+    digits = got["digits"].lower()
+    return Person(int(got["number"]), name, got["role"], subject, *moments, digits, got["gone"])
 
 
 def keep(path: Path, people: People) -> None:
     """Writes the file, whole or not at all."""
     rows = sorted(people.rows, key=lambda it: (it.number, it.since))
-    alike = people.alike()
     cells = [
         (
             it.number,
@@ -251,7 +321,7 @@ def keep(path: Path, people: People) -> None:
             it.since,
             it.until,
             it.digits,
-            others_of(it, alike),
+            " ".join(map(str, sorted(people.others_alike(it.number, it.digits)))),
         )
         for it in rows
     ]

@@ -45,6 +45,11 @@ class Places:
         """Who had which number, name, role and digits, from when to when."""
         return self.folder / "callers.csv"
 
+    @property
+    def kept_callers(self) -> Path:
+        """Each row that the file of the callers ever had."""
+        return self.folder / "callers-kept.csv"
+
     def parts(self) -> list[tuple[int, Path]]:
         """What nginx wrote before and no entry holds yet, by its number."""
         found = []

@@ -261,13 +261,8 @@ def found_of(asked: Asked, event: Event, history: History) -> Iterator[str]:
     for back in history.returns.get(event.turn, []) if event.was_done else []:
         for periods in borrowing.runs_of(back):
             yield said_of(asked, back, periods)
-    others = [
-        row.number
-        for alike in asked.people.alike()
-        for row in alike
-        if digits == row.digits and row.number != caller
-    ]
-    if others and event.was_done:
+    others = asked.people.others_alike(caller, digits) if event.was_done else set()
+    if others:
         yield words.said("keys-alike", number=min(others))
 
 

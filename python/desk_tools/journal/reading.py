@@ -7,7 +7,7 @@ from datetime import date, timedelta
 from pathlib import Path
 from typing import Any
 
-from desk_tools.journal import chain, lines, people, verifying
+from desk_tools.journal import chain, former, lines, people, verifying
 from desk_tools.journal.lines import Line
 from desk_tools.journal.people import People
 from desk_tools.journal.places import Places
@@ -145,12 +145,35 @@ def waiting(path: Path, taken: int) -> Iterator[tuple[int, bytes]]:
 
 
 def people_of(places: Places) -> People:
-    """The callers by the file, and by what the record has behind it."""
+    """The callers by the file, by what the record has behind it, and by the rows that the file had before."""
     known = people.read(places.callers)
+    put_lines(places, known)
+    return former.with_former(people.read(places.kept_callers), known, places.today())
+
+
+def put_lines(places: Places, known: People) -> None:
+    """Takes in the callers' records that stand behind the last one."""
     for line in Reader(places, known.upto).lines(lambda raw: CALLERS in raw):
         known.put(line)
         known.upto = max(known.upto, line.place)
-    return known
+
+
+def keep_former(places: Places, known: People) -> None:
+    """Keeps each row that callers.csv has or had. What it lost before anything was kept comes from the record."""
+    kept = people.read(places.kept_callers)
+    if not places.kept_callers.exists():
+        of_record = People()
+        put_lines(places, of_record)
+        kept = former.without_row(known, of_record)
+    rows = former.rows_now(kept, known, places.today())
+    lost = len([it for it in rows if it.gone]) - len([it for it in kept.rows if it.gone])
+    if lost > 0:
+        LOG.warning(
+            "callers.csv lacks %s that it had: answers go on to name them, from %s",
+            "a row" if lost == 1 else f"{lost} rows",
+            places.kept_callers,
+        )
+    former.keep(places.kept_callers, rows)
 
 
 def keep_people(places: Places) -> None:
@@ -163,6 +186,7 @@ def keep_people(places: Places) -> None:
             known.put(line)
         known.upto = max(known.upto, place)
     people.keep(places.callers, known)
+    keep_former(places, known)
     was_alike = {row.digits for rows in before for row in rows}
     for alike in known.alike():
         if alike[0].digits in was_alike:

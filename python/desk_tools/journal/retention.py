@@ -2,6 +2,8 @@
 
 import contextlib
 import logging
+import os
+from collections.abc import Iterator
 from dataclasses import dataclass
 from datetime import date, timedelta
 from pathlib import Path
@@ -15,6 +17,9 @@ LOG = logging.getLogger("journal")
 # However wrong a clock is, one night removes no more days of the record than this.
 MOST_DAYS, MOST_BEHIND = 31, 2
 BY_AGENCY = "by agency.json"
+# The pattern of all files of a folder and of those in it.
+ALL = "**"
+LINKED = "where nothing is removed"
 
 
 @dataclass(frozen=True)
@@ -114,6 +119,30 @@ def keep_journal(places: Places, rule: Rule, today: date, is_plan: bool) -> list
     return [it.path.name for it in old]
 
 
+def files_below(folder: Path) -> Iterator[Path]:
+    """The files of a folder and of the folders in it, but of no link to one. What can't be read is said, not left out."""
+
+    def fail(error: OSError) -> None:
+        raise Wrong(f"{error.filename} can't be read: {error.strerror}") from None
+
+    for place, _, names in os.walk(folder, onerror=fail):
+        yield from (Path(place, it) for it in names)
+
+
+def files_of(folder: Path, pattern: str) -> Iterator[Path]:
+    """The files of a folder by their names. A pattern for all files is also for those in its folders."""
+    yield from files_below(folder) if pattern == ALL else folder.glob(pattern)
+
+
+def remove(path: Path, folder: Path) -> None:
+    """Removes a file, and the folders below that one which have nothing else."""
+    path.unlink()
+    for above in path.parents:
+        if above == folder or any(above.iterdir()):
+            break
+        above.rmdir()
+
+
 def keep_files(
     folder: Path, patterns: list[str], rule: Rule, today: date, is_plan: bool
 ) -> list[str]:
@@ -121,14 +150,25 @@ def keep_files(
     gone = []
     for pattern in patterns:
         found = sorted(
-            (it for it in folder.glob(pattern) if it.is_file()), key=lambda it: it.stat().st_mtime
+            (it for it in files_of(folder, pattern) if it.is_file()),
+            key=lambda it: (it.stat().st_mtime, it),
         )
         for path in found[:-1]:
             if age(path, today) > rule.days:
-                gone.append(path.name)
+                gone.append(str(path.relative_to(folder)))
                 if not is_plan:
-                    path.unlink()
+                    remove(path, folder)
     return gone
+
+
+def links_in(folder: Path, patterns: list[str]) -> list[str]:
+    """The links to folders, where nothing is removed although each file is meant."""
+    return [
+        str(it.relative_to(folder))
+        for place, names, _ in os.walk(folder)
+        for it in (Path(place, name) for name in sorted(names))
+        if ALL in patterns and it.is_symlink()
+    ]
 
 
 def keep(
@@ -147,20 +187,23 @@ def keep(
     folders = {**folders, "tally": log.parent} if log else folders
     patterns = {
         "tally": [f"{log.name}-*" if log else ""],
-        "exports": ["*"],
+        "exports": [ALL],
         "backups": ["desk-*.db", "machine-*.tar.gz", "before-*.db"],
     }
     said = [f"nothing is removed, for a hold: {hold}"] if hold else []
     is_plan = is_plan or bool(hold)
     for rule in rules:
+        links: list[str] = []
         if rule.kind == "journal":
             gone = keep_journal(places, rule, today, is_plan)
         elif rule.kind in folders and folders[rule.kind].is_dir():
             gone = keep_files(folders[rule.kind], patterns[rule.kind], rule, today, is_plan)
+            links = links_in(folders[rule.kind], patterns[rule.kind])
         else:
             continue
         verb = "would be removed" if is_plan else "removed"
         named = f": {', '.join(gone)}" if gone else ""
         files = f"{len(gone)} file{'' if len(gone) == 1 else 's'}"
         said.append(f"{rule.kind}, kept {rule.days} days ({rule.why}): {files} {verb}{named}")
+        said += [f"{rule.kind}: {it} is a link to a folder, {LINKED}" for it in links]
     return said

@@ -7,7 +7,7 @@ import collections
 import datetime
 import json
 import sys
-from collections.abc import Callable
+from collections.abc import Callable, Iterator
 from typing import Any, TYPE_CHECKING
 
 from desk_tools import law
@@ -33,6 +33,8 @@ def riders(words: argparse.Namespace) -> int | None:
     if words.as_of:
         return ending(records, refused, words.as_of, words.within)
     told_riders(records)
+    for it in planned_homes(agency, records):
+        print(it)
     carry.planned(refused, notes)
     if words.plan:
         return commands.ended(refused)
@@ -45,8 +47,8 @@ def riders(words: argparse.Namespace) -> int | None:
     return status
 
 
-def keep_homes(folder: str, agency: dict[str, Any], records: list[dict[str, Any]]) -> None:
-    """Makes the riders' homes private, where places.csv does not say of a place whose it is."""
+def homes_to_hide(agency: dict[str, Any], records: list[dict[str, Any]]) -> dict[str, Any]:
+    """Whose each home is to be, of those that places.csv leaves open: one rider's number, or several."""
     homes = collections.defaultdict(set)
     for record in records:
         if record["home"]:
@@ -63,7 +65,28 @@ def keep_homes(folder: str, agency: dict[str, Any], records: list[dict[str, Any]
             known if isinstance(known, bool) else sorted(riders) if len(riders) > 1 else min(riders)
         )
         if wanted != known:
-            changed[number] = agency["places"][number]["private"] = wanted
+            changed[number] = wanted
+    return changed
+
+
+def planned_homes(agency: dict[str, Any], records: list[dict[str, Any]]) -> Iterator[str]:
+    """What the run would make private, place by place. A clinic among them is seen before it is hidden."""
+    changed = homes_to_hide(agency, records)
+    if changed:
+        said = counted(len(changed), "place becomes", "places become")
+        yield f"  {said} private, since a rider lives there:"
+    for number, riders in sorted(changed.items(), key=lambda it: int(it[0])):
+        name = agency["places"][number].get("name")
+        those = riders if isinstance(riders, list) else [riders]
+        whose = f"{'rider' if len(those) == 1 else 'riders'} {', '.join(map(str, those))}"
+        yield f"    place {number}{f', {name},' if name else ''} to {whose}"
+
+
+def keep_homes(folder: str, agency: dict[str, Any], records: list[dict[str, Any]]) -> None:
+    """Makes the riders' homes private, where places.csv does not say of a place whose it is."""
+    changed = homes_to_hide(agency, records)
+    for number, wanted in changed.items():
+        agency["places"][number]["private"] = wanted
     if changed:
         carry.keep_agency(folder, agency)
         shared = sum(isinstance(it, list) for it in changed.values())
