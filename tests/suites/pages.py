@@ -10,7 +10,6 @@ another library than Debian's libfaketime as FAKETIME_LIBRARY, other pages as PA
 where a check failed as PAGES_SIGHTS, and parts of the names of checks, by commas, as PAGES_CHECK. The last line is
 'N passed, M failed', and the exit status 1 where something failed.
 """
-import argparse
 import concurrent.futures
 import glob
 import os
@@ -22,6 +21,7 @@ import tempfile
 import threading
 import time
 
+from desk_tools.arguments import usage_of
 from desk_tools.tree import TOP
 
 PYTHON = "/usr/bin/python3"
@@ -150,16 +150,12 @@ def run_again(name, words, towns, before):
 
 
 def wanted_words():
-    parser = argparse.ArgumentParser(
-        prog="tests/pages",
-        description=__doc__,
-        formatter_class=argparse.RawDescriptionHelpFormatter,
-    )
-    parser.add_argument("--install", action="store_true")
-    parser.add_argument("--pictures", action="store_true")
-    parser.add_argument("--only", default="")
-    parser.add_argument("--towns", default="")
-    parser.add_argument("program", metavar="PROGRAM")
+    parser = usage_of("tests/pages", __doc__)
+    parser.flag("--install")
+    parser.flag("--pictures")
+    parser.takes("--only", default="")
+    parser.takes("--towns", default="")
+    parser.takes("program PROGRAM")
     words = parser.parse_args()
     if not os.path.isfile(words.program):
         parser.error(f"{words.program} is no file")

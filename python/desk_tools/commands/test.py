@@ -9,23 +9,19 @@ or bin/desk built. A script that failed runs once more at the end, and that run 
 
 from __future__ import annotations
 
-import argparse
 import os
 
 from desk_tools import ending
+from desk_tools.arguments import usage_of
 from desk_tools.build import built
 from desk_tools.commands import gate
 from desk_tools.tree import TOP
 
 
 def main(arguments: list[str]) -> int:
-    parser = argparse.ArgumentParser(
-        "bin/test", description=__doc__, formatter_class=argparse.RawDescriptionHelpFormatter
-    )
-    parser.add_argument(
-        "--program", default=f"{TOP}/{built.PROGRAM}", metavar="PROGRAM", help="the desk to try"
-    )
-    parser.add_argument("names", nargs="*", metavar="NAME", help="scripts, or all")
+    parser = usage_of("bin/test", __doc__)
+    parser.takes("--program PROGRAM", "the desk to try", default=f"{TOP}/{built.PROGRAM}")
+    parser.takes("names NAME", "scripts, or all", nargs="*")
     words = parser.parse_args(arguments)
     over = [*gate.OVER_PROGRAM, *gate.IN_BROWSER]
     scripts = {it.split()[0]: (it, it in over) for it in [*gate.ALONE, *over, *gate.WITH_KIT]}
