@@ -110,14 +110,7 @@ SAME = {
 def faults_of_kills(program, town, folder):
     """A run that is killed at every tenth request and run again leaves the rows of the page's."""
     os.makedirs(folder)
-    for name in (
-        "feed.zip",
-        "places.csv",
-        "callers.csv",
-        "vehicles.csv",
-        "riders.csv",
-        "policy.json",
-    ):
+    for name in "feed.zip places.csv callers.csv vehicles.csv riders.csv policy.json".split():
         shutil.copy(f"{town}/{name}", folder)
     shutil.copytree(f"{town}/keys", f"{folder}/keys")
     serving.ran(program, "init", f"{folder}/desk.db", "first-key")
@@ -232,18 +225,10 @@ FIGURES = """
         sum((status = 2) * (1 + companions + attendant)), sum(status = 3), sum(status = 4), sum(status = 1),
         sum(status = 0), sum((status = 2) * fare * (1 + companions))
     FROM trips GROUP BY day ORDER BY day"""
-SHOWN = [
-    "vehicles_operated",
-    "riders",
-    "companions",
-    "attendants",
-    "unlinked_passenger_trips",
-    "no_shows_by_rider",
-    "missed_by_operator",
-    "cancelled",
-    "to_come",
-    "fares_cents",
-]
+SHOWN = """
+    vehicles_operated riders companions attendants unlinked_passenger_trips no_shows_by_rider
+    missed_by_operator cancelled to_come fares_cents
+""".split()
 
 
 def faults_of_report(town):

@@ -148,14 +148,7 @@ def faults_of_moving_in(town):
 def faults_of_first_day(town):
     """What the pages need, the standing orders of the first day, and its papers."""
     os.mkdir(f"{town.folder}/site")
-    words = [
-        "agency.json",
-        "--roster",
-        "cut-roster.csv",
-        "--addresses",
-        "cut-addresses.csv",
-        "site",
-    ]
+    words = "agency.json --roster cut-roster.csv --addresses cut-addresses.csv site".split()
     # (a home outside every corridor has no place, and is named)
     yield town.run("site-files", *words, ends=(0, 1), sends=False)
     parts.write_orders(town.folder, TOMORROW)

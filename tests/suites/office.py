@@ -29,19 +29,12 @@ from serving import difference
 
 ADDRESS = re.compile(r"(http://localhost:\d+)/")
 SECONDS = 600
-PUBLIC = {
-    "name",
-    "telephone",
-    "address",
-    "zone",
-    "first_weekday",
-    "place_word",
-    "clock",
-    "languages",
-    "wait_minutes",
-    "idle_minutes",
-    "appeal",
-}
+PUBLIC = set(
+    """
+    name telephone address zone first_weekday place_word clock languages wait_minutes idle_minutes
+    appeal
+    """.split()
+)
 
 
 class Running:

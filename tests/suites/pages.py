@@ -25,45 +25,16 @@ from desk_tools.arguments import usage_of
 from desk_tools.tree import TOP
 
 PYTHON = "/usr/bin/python3"
-PACKAGES = [
-    "chromium",
-    "chromium-driver",
-    "nginx",
-    "faketime",
-    "openssl",
-    "poppler-utils",
-    "python3-selenium",
-    "python3-brotli",
-    "zbar-tools",
-]
+PACKAGES = """
+    chromium chromium-driver nginx faketime openssl poppler-utils python3-selenium python3-brotli
+    zbar-tools
+""".split()
 # Those that take longest begin first.
-FILES = [
-    "accessible",
-    "spanish",
-    "story",
-    "common",
-    "broken_line",
-    "printed",
-    "names",
-    "moved_in",
-    "booking",
-    "addresses",
-    "driver",
-    "dispatcher",
-    "out_of_service",
-    "clerk",
-    "cases",
-    "week",
-    "admin",
-    "record",
-    "rider",
-    "counted",
-    "left_open",
-    "offers",
-    "no_store",
-    "played_day",
-    "law",
-]
+FILES = """
+    accessible spanish story common broken_line printed names moved_in booking addresses driver
+    dispatcher out_of_service clerk cases week admin record rider counted left_open offers no_store
+    played_day law
+""".split()
 LONGEST, BESIDE = 2700, 2
 # What stands in the list of failed checks for a file that ended before its last one.
 UNENDED = ""

@@ -51,17 +51,7 @@ LIST, EVENTS, LOCK, PURPOSE = (
 )
 # What the nightly unit is set to do: CLOSED_DAYS of /etc/desk/main-closed-days.conf.
 JUST_LIST, CANCEL = "list", "cancel"
-COLUMNS = (
-    "day",
-    "window_from",
-    "window_to",
-    "trip",
-    "rider",
-    "name",
-    "telephone",
-    "vehicle",
-    "canceled",
-)
+COLUMNS = tuple("day window_from window_to trip rider name telephone vehicle canceled".split())
 CANCELED, LEFT = "yes", "no"
 
 

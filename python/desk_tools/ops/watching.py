@@ -22,28 +22,13 @@ from .ending import Failure
 from .fences import is_compared
 from .places import Desk, value_of
 
-SHOWN = (
-    "LoadState",
-    "ActiveState",
-    "Result",
-    "NRestarts",
-    "ExecMainExitTimestamp",
-    "ExecMainStatus",
-)
+SHOWN = tuple("LoadState ActiveState Result NRestarts ExecMainExitTimestamp ExecMainStatus".split())
 # The facts of a look, by their names.
-NEEDED_FACTS = {
-    "moment",
-    "uptime",
-    "units",
-    "backups",
-    "sizes",
-    "copies",
-    "ports",
-    "sites",
-    "interrupted",
-    "standby",
-    "elsewhere",
-}
+NEEDED_FACTS = set(
+    """
+    moment uptime units backups sizes copies ports sites interrupted standby elsewhere
+    """.split()
+)
 MINUTE, HOUR, DAY = 60, 3_600, 86_400
 MOST_RESTARTS, LONGEST_STEP = 3, 15 * MINUTE
 CERTIFICATE_DAYS, BACKUP_AGE, STANDBY_AGE = 21, 25 * HOUR, 20 * MINUTE

@@ -16,17 +16,7 @@ from desk_tools.build import sources
 from desk_tools.packaging import completion, licences, manual, receipt
 
 # What of bin/ only the sources have a use for.
-OF_SOURCES = {
-    "apt-repository",
-    "check",
-    "desk",
-    "gate",
-    "look.program",
-    "meter",
-    "package",
-    "rehearsal",
-    "test",
-}
+OF_SOURCES = set("apt-repository check desk gate look.program meter package rehearsal test".split())
 # And what of the Python package: beside those commands, what builds the program and the package, and what tries machines.
 PYTHON_OF_SOURCES = {"booted", "build", "packaging", *(f"commands/{it}.py" for it in OF_SOURCES)}
 # Documents lie beside each other in the package.
