@@ -9,6 +9,7 @@ import os
 import random
 import tempfile
 from collections.abc import Callable, Iterable, Iterator
+from pathlib import Path
 from typing import Any, cast
 from unittest import mock
 
@@ -146,10 +147,8 @@ def run_night(
 ) -> tuple[Any, int]:
     """A night's outcomes, or None where it was killed; and how many steps it had."""
     rules.steps = steps = Steps(kill_at)
-    with open(f"{folder}/orders.csv", "w", encoding="utf-8") as file:
-        file.write(header + orders)
-    with open(f"{folder}/key", "w", encoding="ascii") as file:
-        file.write("standing")
+    Path(f"{folder}/orders.csv").write_text(header + orders, "utf-8")
+    Path(f"{folder}/key").write_text("standing", "ascii")
     with steps_counted(steps), contextlib.suppress(Killed), states.held(folder, URL) as kept:
         kept.shorten(today)
         read, faults, _ = table.orders_in(f"{folder}/orders.csv")

@@ -14,6 +14,7 @@ import time
 import urllib.error
 import urllib.request
 from collections.abc import Iterator
+from pathlib import Path
 from typing import Any
 
 from desk_tools import agencies, alarms
@@ -421,8 +422,7 @@ def restart(units: list[str], settings: str) -> None:
 def facts_in(path: str) -> dict[str, Any]:
     """The facts of a file that `watch --facts` wrote. Raises Failure for any other file."""
     try:
-        with open(path, encoding="utf-8") as file:
-            found = json.load(file)
+        found = json.loads(Path(path).read_text("utf-8"))
     except (ValueError, RecursionError):
         found = None
     if not isinstance(found, dict) or not NEEDED_FACTS <= found.keys():
@@ -432,8 +432,7 @@ def facts_in(path: str) -> dict[str, Any]:
 
 def state_in(path: str) -> Any:
     try:
-        with open(path, encoding="utf-8") as file:
-            return json.load(file)
+        return json.loads(Path(path).read_text("utf-8"))
     except (OSError, ValueError):
         return {}
 
