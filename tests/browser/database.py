@@ -164,10 +164,10 @@ def requests_of(vans: int) -> Iterator[tuple[str, str, dict[str, Any]]]:
         }
     for rider in people.RIDERS:
         yield "clerk", "/riders", {
-            "id": rider[0],
-            "kind": rider[8],
-            "attendant": rider[9],
-            "wheelchair": rider[10],
+            "id": rider.number,
+            "kind": "visitor" if rider.number == people.VISITOR else "resident",
+            "attendant": rider.number in people.WITH_ATTENDANT,
+            "wheelchair": rider.number in people.WITH_WHEELCHAIR,
         }
     yield from [it for it in callers if it[2]["subject"]]
     for number in [*people.GRANTED, people.WAITING, people.CONDITIONAL]:

@@ -215,7 +215,7 @@ class Town:
         write_site_files(
             self.folder,
             {**people.agency_file(max(self.vans, 1)), **changed},
-            people.roster_file(),
+            people.ROSTER,
             people.drivers_file(),
         )
         self.write_drivers_files()
