@@ -26,28 +26,10 @@ PAGES = os.environ.get("PAGES_FOLDER", f"{ROOT}/pages")
 
 
 def write_certificate(folder: str) -> None:
-    subprocess.run(
-        [
-            "openssl",
-            "req",
-            "-x509",
-            "-newkey",
-            "rsa:2048",
-            "-nodes",
-            "-days",
-            "2",
-            "-subj",
-            "/CN=localhost",
-            "-addext",
-            "subjectAltName=IP:127.0.0.1,DNS:localhost",
-            "-keyout",
-            f"{folder}/key.pem",
-            "-out",
-            f"{folder}/certificate.pem",
-        ],
-        check=True,
-        capture_output=True,
-    )
+    words = "openssl req -x509 -newkey rsa:2048 -nodes -days 2 -subj /CN=localhost".split()
+    words += ["-addext", "subjectAltName=IP:127.0.0.1,DNS:localhost"]
+    words += ["-keyout", f"{folder}/key.pem", "-out", f"{folder}/certificate.pem"]
+    subprocess.run(words, check=True, capture_output=True)
 
 
 def packed_pages(folder: str) -> str:

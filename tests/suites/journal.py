@@ -1212,24 +1212,9 @@ def faults_of_secrets(site, file):
 
 def faults(program, folder, count):
     file = make_agency(program, folder)
-    words = [
-        "openssl",
-        "req",
-        "-x509",
-        "-newkey",
-        "ec",
-        "-pkeyopt",
-        "ec_paramgen_curve:P-256",
-        "-nodes",
-        "-days",
-        "2",
-        "-subj",
-        "/CN=localhost",
-        "-keyout",
-        f"{folder}/key.pem",
-        "-out",
-        f"{folder}/certificate.pem",
-    ]
+    words = "openssl req -x509 -newkey ec -pkeyopt ec_paramgen_curve:P-256 -nodes -days 2".split()
+    words += ["-subj", "/CN=localhost", "-keyout", f"{folder}/key.pem"]
+    words += ["-out", f"{folder}/certificate.pem"]
     subprocess.run(words, check=True, capture_output=True, timeout=SECONDS)
     subprocess.run(
         ["ssh-keygen", "-q", "-t", "ed25519", "-N", "", "-f", f"{folder}/record"],
