@@ -27,7 +27,9 @@ def digests_of(top: str, logic: str) -> dict[str, str]:
     crates = {name.partition("/")[0] for name in mutants_of(top)}
     below = {crate: digest_below(top, crate) for crate in crates}
     return {
-        name: hashlib.sha256(f"{logic} {sources.digest_of(path)} {below[name.partition('/')[0]]}".encode()).hexdigest()
+        name: hashlib.sha256(
+            f"{logic} {sources.digest_of(path)} {below[name.partition('/')[0]]}".encode()
+        ).hexdigest()
         for name, path in mutants_of(top).items()
     }
 
@@ -68,6 +70,8 @@ def record(top: str, logic: str, tried: list[str]) -> None:
     today = datetime.datetime.now(datetime.timezone.utc).date().isoformat()
     said.update({name: (now[name], today) for name in tried})
     with open(f"{top}/{LIST}.new", "w", encoding="utf-8") as file:
-        file.write("# Mutants that were refused: CRATE/NAME, the digest of all that it rests on, the day. Written by bin/gate.\n")
+        file.write(
+            "# Mutants that were refused: CRATE/NAME, the digest of all that it rests on, the day. Written by bin/gate.\n"
+        )
         file.writelines(f"{name} {digest} {day}\n" for name, (digest, day) in sorted(said.items()))
     os.replace(f"{top}/{LIST}.new", f"{top}/{LIST}")
