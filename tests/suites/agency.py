@@ -1275,16 +1275,7 @@ SPELLED = [
     (
         "admin",
         "/policy",
-        {
-            "base": 175,
-            "transfer": 50,
-            "fare": 400,
-            "service": 4,
-            "extra_ride": 20,
-            "min_missed": 3,
-            "percent": 10,
-            "span_days": 30,
-        },
+        {**POLICY, "service": 4},
         b"\2" + big(175, 50, 400, 4, 20, 3, 10, 30),
         b"\0",
     ),
