@@ -12,6 +12,7 @@ import re
 import shutil
 import subprocess
 from collections.abc import Callable, Iterator, Mapping, Sequence
+from pathlib import Path
 from typing import Any, cast
 
 import moving_city
@@ -353,8 +354,7 @@ def faults_of_feeds(folder: str) -> Iterator[str | None]:
         change(found)
         example.write_feed(f"{folder}/feed.zip", found)
         yield refused_feed(folder, sentence)
-    with open(f"{folder}/feed.zip", "w", encoding="utf-8") as file:
-        file.write("no zip")
+    Path(f"{folder}/feed.zip").write_text("no zip", "utf-8")
     yield refused_feed(folder, "feed.zip is no zip")
     os.remove(f"{folder}/feed.zip")
     yield refused_feed(folder, "there is no file feed.zip")
@@ -444,8 +444,7 @@ def many_places(town: str, folder: str) -> dict[int, Any]:
     }
     agency["places"] |= more
     # (in the form of an earlier move-in)
-    with open(f"{folder}/agency.json", "w", encoding="utf-8") as file:
-        json.dump(agency, file)
+    Path(f"{folder}/agency.json").write_text(json.dumps(agency), "utf-8")
     return {int(number): it for number, it in agency["places"].items()}
 
 
@@ -483,8 +482,7 @@ def faults_of_numbers(folder: str) -> Iterator[str | None]:
     """A caller's last number is found by few questions; a journal that tells of more is another database's."""
     os.makedirs(folder)
     key, url = f"{folder}/key", "http://desk"
-    with open(key, "w", encoding="ascii") as file:
-        file.write("abc\n")
+    Path(key).write_text("abc\n", "ascii")
     for last in (0, 1, 2, 1_000, 1_795_000_000, 4_294_967_294, 4_294_967_295):
         line = Counting(last)
         found = caller_of(line, client.Journal(folder, url), key).last_number(0)

@@ -15,6 +15,7 @@ import sys
 import tempfile
 import time
 from collections.abc import Callable, Iterable, Iterator
+from pathlib import Path
 from typing import Any
 
 ADMINS_KEY = "abc"
@@ -276,8 +277,7 @@ def asked_in_turn(desk: Desk, requests: Iterable[Any]) -> None:
 def make_agency(program: str, folder: str) -> str:
     """A database with the agency, its driving times and its trips, by every command."""
     file, times = f"{folder}/agency.db", f"{folder}/times.csv"
-    with open(times, "w", encoding="utf-8") as text:
-        text.write(TIMES)
+    Path(times).write_text(TIMES, "utf-8")
     made = ran(program, "init", file, ADMINS_KEY)
     if made.returncode:
         raise Refused(f"init: {made}")
@@ -361,8 +361,7 @@ def faults_of_indexes(file: str) -> Iterator[str | None]:
 
 def write(path: str, text: str, mode: int | None = None) -> str:
     """Gives a file this text, and these permissions where they are named. The path."""
-    with open(path, "w", encoding="utf-8") as file:
-        file.write(text)
+    Path(path).write_text(text, "utf-8")
     if mode is not None:
         os.chmod(path, mode)
     return path

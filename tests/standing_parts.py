@@ -4,11 +4,13 @@ from __future__ import annotations
 
 import contextlib
 import copy
+import dataclasses
 import datetime
 import os
 import random
 import tempfile
-from collections.abc import Callable, Iterable, Iterator
+from collections.abc import Iterable, Iterator
+from pathlib import Path
 from typing import Any, cast
 from unittest import mock
 
@@ -146,10 +148,8 @@ def run_night(
 ) -> tuple[Any, int]:
     """A night's outcomes, or None where it was killed; and how many steps it had."""
     rules.steps = steps = Steps(kill_at)
-    with open(f"{folder}/orders.csv", "w", encoding="utf-8") as file:
-        file.write(header + orders)
-    with open(f"{folder}/key", "w", encoding="ascii") as file:
-        file.write("standing")
+    Path(f"{folder}/orders.csv").write_text(header + orders, "utf-8")
+    Path(f"{folder}/key").write_text("standing", "ascii")
     with steps_counted(steps), contextlib.suppress(Killed), states.held(folder, URL) as kept:
         kept.shorten(today)
         read, faults, _ = table.orders_in(f"{folder}/orders.csv")
@@ -291,150 +291,108 @@ def faults_of_chances() -> Iterator[str | None]:
     chance = random.Random(SEED)
     for turn in range(80):
         with tempfile.TemporaryDirectory() as folder:
-            rules, backup, orders = Rules(MONDAY), None, [OUT, BACK, OTHER]
-            lost: set[tuple[int, str, int, int]] = set()
-            done: list[str] = []
+            it, backup = Between(chance, folder, Rules(MONDAY), [OUT, BACK, OTHER]), None
             for _ in range(chance.randint(1, 6)):
-                happening = chance.choice(HAPPENINGS)
-                done.append(happening(chance, folder, rules, lost, orders))
-                backup = backup if chance.random() < 0.7 else copy.deepcopy(rules.__dict__)
+                it.done.append(chance.choice(HAPPENINGS)(it))
+                backup = backup if chance.random() < 0.7 else copy.deepcopy(it.rules.__dict__)
                 shift = datetime.timedelta(days=chance.choice([0, 0, 0, -1, 1, -20, 3, 40]))
                 kill_at = chance.choice([None, chance.randint(1, 160)])
-                run_night(folder, rules, "".join(orders), rules.today + shift, kill_at)
+                run_night(folder, it.rules, "".join(it.orders), it.rules.today + shift, kill_at)
                 if backup and chance.random() < 0.15:
-                    rules.__dict__.update(backup, today=rules.today)
-                    backup, done = None, [*done, "backup"]
+                    it.rules.__dict__.update(backup, today=it.rules.today)
+                    backup = None
+                    it.done.append("backup")
                 if chance.random() < 0.3:
-                    rules.today += datetime.timedelta(days=1)
-            told = run_night(folder, rules, "".join(orders), rules.today)[0]
-            yield fault_of_end(turn, done, rules, lost, "".join(orders), told)
+                    it.rules.today += datetime.timedelta(days=1)
+            told = run_night(folder, it.rules, "".join(it.orders), it.rules.today)[0]
+            yield fault_of_end(turn, it, told)
 
 
-def booked_by_hand(
-    chance: random.Random,
-    _folder: str,
-    rules: Rules,
-    _lost: set[tuple[int, str, int, int]],
-    _orders: list[str],
-) -> str:
+@dataclasses.dataclass
+class Between:
+    """What a happening between two nights may read and change."""
+
+    chance: random.Random
+    folder: str
+    rules: Rules
+    orders: list[str]
+    lost: set[tuple[int, str, int, int]] = dataclasses.field(default_factory=set)
+    done: list[str] = dataclasses.field(default_factory=list)
+
+
+def booked_by_hand(it: Between) -> str:
     """A clerk books what an order asks for, at its time or another one."""
-    day = rules.today + datetime.timedelta(days=chance.randint(1, 14))
-    rules.by_hand(
-        rider=7, day=day.isoformat(), wish=chance.choice([540, 600]), **{"from": 1, "to": 2}
-    )
+    day = it.rules.today + datetime.timedelta(days=it.chance.randint(1, 14))
+    wish = it.chance.choice([540, 600])
+    it.rules.by_hand(rider=7, day=day.isoformat(), wish=wish, **{"from": 1, "to": 2})
     return f"by hand on {day}"
 
 
-def cancelled(
-    chance: random.Random,
-    _folder: str,
-    rules: Rules,
-    lost: set[tuple[int, str, int, int]],
-    _orders: list[str],
-) -> str:
+def cancelled(it: Between) -> str:
     """A rider cancels a trip."""
-    standing = [it for it in rules.trips.values() if it["status"] == "booked"]
+    standing = [trip for trip in it.rules.trips.values() if trip["status"] == "booked"]
     if standing:
-        trip = chance.choice(standing)
+        trip = it.chance.choice(standing)
         trip["status"] = "cancelled"
-        lost.add((trip["rider"], trip["day"], trip["from"], trip["to"]))
+        it.lost.add((trip["rider"], trip["day"], trip["from"], trip["to"]))
     return "cancelled"
 
 
-def key_used(
-    chance: random.Random,
-    _folder: str,
-    rules: Rules,
-    _lost: set[tuple[int, str, int, int]],
-    _orders: list[str],
-) -> str:
+def key_used(it: Between) -> str:
     """Somebody writes with the clerk's key."""
-    rules.last += chance.randint(1, 50)
-    rules.kept = rules.last, "/riders", {}, Reply(200, {"done": True})
+    it.rules.last += it.chance.randint(1, 50)
+    it.rules.kept = it.rules.last, "/riders", {}, Reply(200, {"done": True})
     return "key used"
 
 
-def state_lost(
-    _chance: random.Random,
-    folder: str,
-    _rules: Rules,
-    _lost: set[tuple[int, str, int, int]],
-    _orders: list[str],
-) -> str:
+def state_lost(it: Between) -> str:
     """The file of what was sent is gone."""
     with contextlib.suppress(FileNotFoundError):
-        os.remove(f"{folder}/standing-orders.jsonl")
+        os.remove(f"{it.folder}/standing-orders.jsonl")
     return "state lost"
 
 
-def order_renamed(
-    _chance: random.Random,
-    _folder: str,
-    _rules: Rules,
-    _lost: set[tuple[int, str, int, int]],
-    orders: list[str],
-) -> str:
+def order_renamed(it: Between) -> str:
     """The table gives an order another name."""
-    orders[0] = OUT.replace("A,", "A2,", 1) if orders[0] == OUT else OUT
+    it.orders[0] = OUT.replace("A,", "A2,", 1) if it.orders[0] == OUT else OUT
     return "renamed"
 
 
-def denied(
-    chance: random.Random,
-    _folder: str,
-    rules: Rules,
-    _lost: set[tuple[int, str, int, int]],
-    _orders: list[str],
-) -> str:
+def denied(it: Between) -> str:
     """No vehicle has room on a day, or has again."""
-    day = (rules.today + datetime.timedelta(days=chance.randint(1, 14))).isoformat()
-    rules.denied = {} if rules.denied else {(7, day): "no vehicle"}
-    return f"denied {rules.denied}"
+    day = (it.rules.today + datetime.timedelta(days=it.chance.randint(1, 14))).isoformat()
+    it.rules.denied = {} if it.rules.denied else {(7, day): "no vehicle"}
+    return f"denied {it.rules.denied}"
 
 
-def nothing(*_: object) -> str:
+def nothing(_: Between) -> str:
     return "nothing"
 
 
-HAPPENINGS: list[Callable[..., str]] = [
-    booked_by_hand,
-    cancelled,
-    key_used,
-    state_lost,
-    order_renamed,
-    denied,
-    nothing,
-]
+HAPPENINGS = booked_by_hand, cancelled, key_used, state_lost, order_renamed, denied, nothing
 
 
-def fault_of_end(
-    turn: int,
-    done: list[str],
-    rules: Rules,
-    lost: set[tuple[int, str, int, int]],
-    orders: str,
-    told: Iterable[Outcome],
-) -> str | None:
+def fault_of_end(turn: int, it: Between, told: Iterable[Outcome]) -> str | None:
     """None where each trip that is wanted is there once, or refused, or was cancelled."""
     refused = {
-        (it.order.rider, it.day.isoformat(), it.order.origin, it.order.goal): it.reason
-        for it in told
-        if it.result == REFUSED
+        (one.order.rider, one.day.isoformat(), one.order.origin, one.order.goal): one.reason
+        for one in told
+        if one.result == REFUSED
     }
-    for rider, day, _, origin, goal in trips_wanted(orders, rules.today):
+    for rider, day, _, origin, goal in trips_wanted("".join(it.orders), it.rules.today):
         way = rider, day, origin, goal
         count = sum(
-            (it["rider"], it["day"], it["from"], it["to"]) == way and it["status"] == "booked"
-            for it in rules.trips.values()
+            (trip["rider"], trip["day"], trip["from"], trip["to"]) == way
+            and trip["status"] == "booked"
+            for trip in it.rules.trips.values()
         )
         # (who books by hand what is there already has it twice)
-        most = max(
-            1, sum(it == f"by hand on {day}" for it in done) + 1 if rider == 7 and goal == 2 else 1
-        )
-        if not (1 <= count <= most or count == 0 and (way in lost or way in refused)):
-            return f"turn {turn}, after {done}: {count} trips of rider {rider} on {day} from {origin} to {goal}"
+        by_hand = it.done.count(f"by hand on {day}")
+        most = max(1, by_hand + 1 if rider == 7 and goal == 2 else 1)
+        if not (1 <= count <= most or count == 0 and (way in it.lost or way in refused)):
+            return f"turn {turn}, after {it.done}: {count} trips of rider {rider} on {day} from {origin} to {goal}"
         if way in refused and not refused[way].startswith("no vehicle"):
-            return f"turn {turn}, after {done}: {way} is refused by {refused[way]}"
+            return f"turn {turn}, after {it.done}: {way} is refused by {refused[way]}"
     return None
 
 

@@ -1,6 +1,7 @@
 """The files of a database with only some of their sectors written, as a power cut leaves them: for tests/cuts, tests/migrate."""
 import os
 from collections.abc import Iterator
+from pathlib import Path
 from typing import Any
 
 SECTOR = 512
@@ -11,15 +12,13 @@ def files_of(file: str) -> dict[str, bytes]:
     found = {}
     for name in (file, f"{file}-wal"):
         if os.path.exists(name):
-            with open(name, "rb") as it:
-                found[os.path.basename(name)] = it.read()
+            found[os.path.basename(name)] = Path(name).read_bytes()
     return found
 
 
 def put_files(folder: str, files: dict[Any, Any]) -> None:
     for name, content in files.items():
-        with open(f"{folder}/{name}", "wb") as it:
-            it.write(content)
+        Path(f"{folder}/{name}").write_bytes(content)
 
 
 def sectors_of(before: Any, after: Any) -> Iterator[Any]:

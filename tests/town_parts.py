@@ -141,20 +141,7 @@ def write_forms(
     rows += [(at, f"Clinic {at}", *position[it]) for at, it in enumerate(middle, 2)]
     write_table(f"{folder}/places.csv", rows)
     first = today.isoformat()
-    rows = [
-        (
-            "number",
-            "name",
-            "from_day",
-            "days",
-            "depot",
-            "capacity",
-            "opens",
-            "closes",
-            "duration",
-            "chairs",
-        )
-    ]
+    rows = [tuple("number name from_day days depot capacity opens closes duration chairs".split())]
     write_table(
         f"{folder}/vehicles.csv",
         [

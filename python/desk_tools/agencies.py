@@ -22,16 +22,11 @@ RECORD_KEY, RECORD_PUBLIC = Path(f"{SETTINGS}/keys/record"), Path(f"{SETTINGS}/r
 # The port of the agency that desk-setup sets up.
 PORT = "8437"
 # What runs beside a desk that serves, one unit for each agency; and the units of the whole machine.
-BESIDE = (
-    "today.service",
-    "record.service",
-    "journal.timer",
-    "retention.timer",
-    "driver-files.timer",
-    "closed-days.timer",
-    "denials.timer",
-    "reminders.timer",
-    "reminders-soon.timer",
+BESIDE = tuple(
+    """
+    today.service record.service journal.timer retention.timer driver-files.timer closed-days.timer
+    denials.timer reminders.timer reminders-soon.timer
+    """.split()
 )
 UNITS_OF_MACHINE = "desk-health.service", "desk-watch.timer", "desk-restart.timer"
 

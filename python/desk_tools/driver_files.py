@@ -26,6 +26,7 @@ from dataclasses import dataclass, field
 from pathlib import Path
 from typing import Any
 
+from desk_tools.arguments import Usage
 from desk_tools.setup import whole_file
 from desk_tools import asking, ending
 from desk_tools.town.site_addresses import End, Known
@@ -358,13 +359,11 @@ def make(folder: Path, url: str, key: str, today: str | None) -> str:
 
 def words_of(arguments: list[str]) -> argparse.Namespace:
     """The words of the command line."""
-    parser = argparse.ArgumentParser(
-        "bin/driver-files", description=(__doc__ or "").split("\n\n")[0]
-    )
-    parser.add_argument("folder", metavar="FOLDER", type=Path, help="the site's folder")
-    parser.add_argument("--key", type=Path, required=True, help="a file with a dispatcher's key")
-    parser.add_argument("--url", default="http://127.0.0.1:8437", help="where the desk answers")
-    parser.add_argument("--today", metavar="DAY", help="YYYY-MM-DD; today where it is left out")
+    parser = Usage("bin/driver-files", description=(__doc__ or "").split("\n\n")[0])
+    parser.takes("folder FOLDER", "the site's folder", type=Path)
+    parser.takes("--key", "a file with a dispatcher's key", type=Path, required=True)
+    parser.takes("--url", "where the desk answers", default="http://127.0.0.1:8437")
+    parser.takes("--today DAY", "YYYY-MM-DD; today where it is left out")
     return parser.parse_args(arguments)
 
 

@@ -4,7 +4,6 @@ pack-pages FROM TO copies the folder of the pages, puts the modules that a scree
 and blanks. Without esbuild the copy is as it is, which is said. What is packed is never edited: change FROM, pack again.
 """
 
-import argparse
 import json
 import re
 import shutil
@@ -17,6 +16,7 @@ from pathlib import Path
 from typing import Any
 
 from desk_tools import ending
+from desk_tools.arguments import usage_of
 
 ESBUILD = "esbuild"
 ENTRIES = ("parts/early.js", "parts/main.js")
@@ -241,15 +241,9 @@ def pack(source: Path, target: Path) -> bool:
 
 def main(words: list[str] | None = None) -> int:
     """Packs the folder that is named on the command line."""
-    reader = argparse.ArgumentParser(
-        prog="deploy/pack-pages",
-        description=__doc__,
-        formatter_class=argparse.RawDescriptionHelpFormatter,
-    )
-    reader.add_argument("source", type=Path, metavar="FROM", help="the folder of the pages")
-    reader.add_argument(
-        "target", type=Path, metavar="TO", help="where the site has them; it is replaced"
-    )
+    reader = usage_of("deploy/pack-pages", __doc__)
+    reader.takes("source FROM", "the folder of the pages", type=Path)
+    reader.takes("target TO", "where the site has them; it is replaced", type=Path)
     given = reader.parse_args(words)
     try:
         is_packed = pack(given.source, given.target)

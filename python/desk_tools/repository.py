@@ -9,7 +9,6 @@ something failed, and 2 for wrong words. It takes Debian's reprepro and gpg.
 
 from __future__ import annotations
 
-import argparse
 import re
 import shutil
 import subprocess
@@ -17,6 +16,7 @@ import sys
 from pathlib import Path
 
 from desk_tools import ending
+from desk_tools.arguments import usage_of
 
 SUITE = "bookworm"
 SETTINGS = """Origin: Chervilnook
@@ -73,14 +73,10 @@ def make(folder: Path, key: str, packages: list[Path]) -> None:
 
 def main(arguments: list[str]) -> int:
     """The command; its exit status."""
-    words = argparse.ArgumentParser(
-        "bin/apt-repository",
-        description=__doc__,
-        formatter_class=argparse.RawDescriptionHelpFormatter,
-    )
-    words.add_argument("--key", required=True, help="a secret key of gpg")
-    words.add_argument("folder", metavar="FOLDER", type=Path)
-    words.add_argument("packages", metavar="FILE.deb", type=Path, nargs="+")
+    words = usage_of("bin/apt-repository", __doc__)
+    words.takes("--key", "a secret key of gpg", required=True)
+    words.takes("folder FOLDER", type=Path)
+    words.takes("packages FILE.deb", type=Path, nargs="+")
     told = words.parse_args(arguments)
     try:
         for tool in ("reprepro", "gpg"):

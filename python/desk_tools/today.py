@@ -5,7 +5,6 @@ It follows the log and writes the file anew every ten seconds, whole each time. 
 missing; what is in it twice counts once. docs/SITE-FILES.md has the form of the file.
 """
 
-import argparse
 import datetime
 import errno
 import json
@@ -21,6 +20,7 @@ from pathlib import Path
 from typing import BinaryIO
 
 from desk_tools import ending, event_log
+from desk_tools.arguments import Usage
 from desk_tools.event_log import LONGEST, Told, UnreadableLog
 from desk_tools.offers import open_offers
 
@@ -511,15 +511,13 @@ def _now() -> datetime.datetime:
 
 def main(arguments: list[str]) -> int:
     """Follows the log until it is ended. Its status is 1 where the log or the file can't be had with --once."""
-    reader = argparse.ArgumentParser("deploy/today", description=__doc__)
-    reader.add_argument("log", type=Path, metavar="LOG", help="the site's log of what it was told")
-    reader.add_argument("output", type=Path, metavar="FILE", help="the file for staff")
-    reader.add_argument("--agency", type=Path, metavar="FILE", help="agency.json, for its zone")
-    reader.add_argument("--group", help="the group that may read the file, such as www-data")
-    reader.add_argument(
-        "--no-shows", type=Path, metavar="FILE", help="the file of no-shows for staff"
-    )
-    reader.add_argument("--once", action="store_true", help="write the file once")
+    reader = Usage("deploy/today", description=__doc__)
+    reader.takes("log LOG", "the site's log of what it was told", type=Path)
+    reader.takes("output FILE", "the file for staff", type=Path)
+    reader.takes("--agency FILE", "agency.json, for its zone", type=Path)
+    reader.takes("--group", "the group that may read the file, such as www-data")
+    reader.takes("--no-shows FILE", "the file of no-shows for staff", type=Path)
+    reader.flag("--once", "write the file once")
     words = reader.parse_args(arguments)
     logging.basicConfig(format="deploy/today: %(message)s")
     work = Work(Follower(words.log), words.output, words.agency, words.group, words.no_shows)

@@ -8,6 +8,7 @@ import os
 import re
 import subprocess
 from collections.abc import Iterator
+from pathlib import Path
 from typing import Any
 
 from audits.over_cases import (
@@ -89,8 +90,7 @@ def copied(file: str, path: str) -> str:
 
 def put_log(folder: str, name: str, text: bytes) -> str:
     path = f"{folder}/{name}"
-    with open(path, "wb") as log:
-        log.write(text)
+    Path(path).write_bytes(text)
     return path
 
 
@@ -443,10 +443,10 @@ CHANGES = [
 
 def blocks_of_page() -> list[bytes]:
     """The logs that stand in docs/AUDIT.md."""
-    with open(PAGE, encoding="utf-8") as page:
-        return [
-            it.encode() for it in re.findall(r"(?ms)^```\n(AUDIT 1\n.*?DONE\n)```$", page.read())
-        ]
+    return [
+        it.encode()
+        for it in re.findall(r"(?ms)^```\n(AUDIT 1\n.*?DONE\n)```$", Path(PAGE).read_text("utf-8"))
+    ]
 
 
 def example(program: str, folder: str, name: str, **van: int) -> str:
@@ -455,8 +455,7 @@ def example(program: str, folder: str, name: str, **van: int) -> str:
         bare_agency(program, f"{folder}/{name}.db", {"opens": 480, "closes": 490, **van}),
         f"{folder}/example.csv",
     )
-    with open(times, "w", encoding="utf-8") as table:
-        table.write(EXAMPLE_TIMES)
+    Path(times).write_text(EXAMPLE_TIMES, "utf-8")
     given = ran(program, "travel", file, ZONE, "radio", 2, TODAY, times)
     if given.stdout != b"done\n":
         raise Refused(f"travel: {given}")
@@ -465,8 +464,7 @@ def example(program: str, folder: str, name: str, **van: int) -> str:
 
 def faults_of_copies(program: str, file: str, folder: str) -> Iterator[str | None]:
     """Whoever has a copy of the database gives a dispatcher in it a key, as the page says, and the file itself knows nothing of it."""
-    with open(PAGE, encoding="utf-8") as page:
-        found = re.search(r'"(UPDATE callers [^"]*)"', page.read())
+    found = re.search(r'"(UPDATE callers [^"]*)"', Path(PAGE).read_text("utf-8"))
     assert found
     statement = found[1].replace("$digest", hashlib.sha256(b"pencil").hexdigest())
     copy, words = copied(file, f"{folder}/copy.db"), asked(key="pencil")

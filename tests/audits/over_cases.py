@@ -13,6 +13,7 @@ import os
 import re
 import subprocess
 from collections.abc import Iterator, Sequence
+from pathlib import Path
 from typing import Any, NamedTuple
 
 from audits import plain
@@ -53,8 +54,7 @@ def content(name: str) -> bytes:
     path = f"{FOLDER}/{name}"
     if not os.path.exists(path):
         return b""
-    with open(path, "rb") as file:
-        return file.read()
+    return Path(path).read_bytes()
 
 
 def messages_in(rehearsal: bytes) -> Iterator[Message]:
@@ -117,8 +117,7 @@ def end_of(run: subprocess.CompletedProcess[Any]) -> End:
 def audited(program: str, file: str, folder: str, words: Sequence[str], text: bytes) -> End:
     """How `audit` ends with this text as its log."""
     path = f"{folder}/log"
-    with open(path, "wb") as log:
-        log.write(text)
+    Path(path).write_bytes(text)
     return end_of(ran(program, "audit", path, file, ZONE, *words))
 
 

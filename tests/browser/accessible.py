@@ -12,20 +12,12 @@ from town import PAGES
 from browser import Browser
 
 VANS = 1
-CONTROLS = {
-    "button",
-    "link",
-    "textbox",
-    "combobox",
-    "checkbox",
-    "DisclosureTriangle",
-    "Date",
-    "searchbox",
-    "option",
-    "image",
-    "radio",
-    "listbox",
-}
+CONTROLS = set(
+    """
+    button link textbox combobox checkbox DisclosureTriangle Date searchbox option image radio
+    listbox
+    """.split()
+)
 # Texts whose contrast is below 4.5, also in pictures, of which axe says that a person has to look.
 CONTRAST = """
 const channels = (text) => (text.match(/[\\d.]+/g) ?? []).map(Number);

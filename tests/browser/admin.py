@@ -5,6 +5,7 @@ import io
 import json
 import os
 import re
+from pathlib import Path
 
 from selenium.webdriver.common.by import By
 from selenium.webdriver.common.keys import Keys
@@ -263,8 +264,7 @@ def a_key_is_canceled_and_the_list_has_names_and_is_saved_and_loaded(at: Place) 
     )
     at.browser.press(re.compile("^All [1-9]"))
     path = os.path.join(at.folder, "callers.csv")
-    with open(path, "w", encoding="utf-8") as file:
-        file.write(CALLERS)
+    Path(path).write_text(CALLERS, "utf-8")
     at.browser.driver.find_element(By.ID, "callers-file").send_keys(path)
     at.browser.sees(
         "2 callers read from the file. These rows have no right number or role and were left out: 4."
@@ -301,8 +301,7 @@ def who_cancels_the_own_key_is_not_locked_out(at: Place) -> None:
 def chosen_file(at: Place, content: str) -> None:
     """The server's file as the admin chooses it; what the page saves of it."""
     path = os.path.join(at.folder, "agency.json")
-    with open(path, "w", encoding="utf-8") as file:
-        file.write(content)
+    Path(path).write_text(content, "utf-8")
     at.browser.script(SAVED)
     at.browser.driver.find_element(By.ID, "server-file").send_keys(path)
 

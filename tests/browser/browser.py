@@ -6,6 +6,7 @@ import re
 import tempfile
 import time
 from collections.abc import Callable, Iterator, Mapping
+from pathlib import Path
 from typing import Any
 
 import urllib3
@@ -516,8 +517,7 @@ class Browser:
     def picture(self, name: str, highest: int = 1500) -> None:
         """Makes a picture of docs/pictures anew."""
         image = reduced(self.sight(highest))
-        with open(f"{PICTURES}/{name}.png", "wb") as file:
-            file.write(image)
+        Path(f"{PICTURES}/{name}.png").write_bytes(image)
 
     def sight(self, highest: int = 4000) -> bytes:
         width, height = self.script("return [innerWidth, document.documentElement.scrollHeight]")
@@ -532,8 +532,7 @@ class Browser:
         with contextlib.suppress(WebDriverException, OSError):
             if folder:
                 os.makedirs(folder, exist_ok=True)
-                with open(f"{folder}/{name}.png", "wb") as file:
-                    file.write(self.sight())
+                Path(f"{folder}/{name}.png").write_bytes(self.sight())
 
     # What the browser notes.
 

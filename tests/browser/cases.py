@@ -4,6 +4,7 @@ import os
 import re
 import subprocess
 from collections.abc import Callable
+from pathlib import Path
 from typing import Any
 
 from checks import Place, check, holds, same
@@ -1108,8 +1109,7 @@ def a_rider_prints_the_own_letter_with_the_own_name(at: Place) -> None:
 def the_program_for_letters_says_what_the_page_says(at: Place) -> None:
     """The text that a page saves is that of bin/letters, which asks the desk."""
     folder, partly = at.town.folder, granted_in_part(at, 1050)
-    with open(f"{folder}/key-of-letters", "w", encoding="ascii") as file:
-        file.write(at.keys["examiner"])
+    Path(f"{folder}/key-of-letters").write_text(at.keys["examiner"], "ascii")
     words = [
         f"{ROOT}/bin/letters",
         "text",
@@ -1136,8 +1136,7 @@ def the_program_for_letters_says_what_the_page_says(at: Place) -> None:
     )
     at.browser.press(f"Text for e-mail of letter 3 of rider {partly}")
     saved = until("no text is saved", lambda: at.browser.script("return window.saved[0]"))
-    with open(f"{folder}/letter.txt", encoding="utf-8") as file:
-        same("the text of the letter", file.read(), saved)
+    same("the text of the letter", Path(f"{folder}/letter.txt").read_text("utf-8"), saved)
     for rider, entry, said in [
         ("9999", None, "the desk has no letter to rider 9999"),
         (str(partly), "7", "the desk has no letter 7 to rider 1050, but 1, 3"),

@@ -7,6 +7,7 @@ import operator
 import os
 import re
 from collections.abc import Callable, Iterator
+from pathlib import Path
 from typing import Any
 
 from selenium.webdriver.common.action_chains import ActionChains
@@ -135,11 +136,11 @@ def an_attendant_and_a_wheelchair_are_on_the_card(at: Place) -> None:
 def a_roster_from_disk_is_read_in_this_window_alone(at: Place) -> None:
     at.town.write_file("staff/roster.csv", None)
     path = os.path.join(at.folder, "own roster.csv")
-    with open(path, "w", encoding="utf-8-sig") as file:
-        file.write(
-            'Name,RIDER,telephone,unknown\n"O\'Neill, Dorothy ""Dot""",1002,555-7777,x\n'
-            "Nobody,zero,,\nTwice,1002,,\n"
-        )
+    Path(path).write_text(
+        'Name,RIDER,telephone,unknown\n"O\'Neill, Dorothy ""Dot""",1002,555-7777,x\n'
+        "Nobody,zero,,\nTwice,1002,,\n",
+        "utf-8-sig",
+    )
     try:
         begin(at)
         at.browser.press("Find riders by name: open a roster")
@@ -326,11 +327,11 @@ def nothing_is_entered_for_nobody_and_for_a_visitor(at: Place) -> None:
 
 @check
 def a_rider_of_the_roster_without_a_record_gets_one(at: Place) -> None:
-    with open(os.path.join(at.folder, "new rider.csv"), "w", encoding="utf-8") as file:
-        file.write("rider,name\n1700,Nora Quinn\n")
+    file = Path(at.folder, "new rider.csv")
+    file.write_text("rider,name\n1700,Nora Quinn\n", "utf-8")
     begin(at)
     at.browser.press(re.compile("^Roster: "))
-    at.browser.driver.find_element(By.ID, "roster-file").send_keys(file.name)
+    at.browser.driver.find_element(By.ID, "roster-file").send_keys(str(file))
     at.browser.sees("From new rider.csv: 1 rider.")
     at.browser.fill("Find a rider", "nora")
     at.browser.keys(Keys.ENTER)
@@ -653,8 +654,7 @@ def a_trip_of_today_is_earlier_once_it_has_an_outcome(at: Place) -> None:
 
 def from_disk(at: Place, *rows: str) -> None:
     path = os.path.join(at.folder, "names.csv")
-    with open(path, "w", encoding="utf-8") as file:
-        file.write("\n".join(["rider,name,telephone", *rows]))
+    Path(path).write_text("\n".join(["rider,name,telephone", *rows]), "utf-8")
     at.browser.press(re.compile("^Roster: "))
     at.browser.driver.find_element(By.ID, "roster-file").send_keys(path)
     at.browser.sees(f"From names.csv: {len(rows)} riders.")

@@ -6,6 +6,7 @@ import http.client
 import re
 import ssl
 from collections.abc import Iterator, Sequence
+from pathlib import Path
 from typing import Any
 
 from selenium.webdriver.common.keys import Keys
@@ -123,8 +124,7 @@ def every_denial_has_words_in_both_languages(_at: Place) -> None:
     names = set(names_of_denials())
     holds(f"only {len(names)} names of denials are found in docs", len(names) > 25)
     for language in ["en", "es"]:
-        with open(f"{PAGES}/words/{language}/denials.js", encoding="utf-8") as text:
-            table = text.read()
+        table = Path(f"{PAGES}/words/{language}/denials.js").read_text("utf-8")
         for name in sorted(names):
             has_both = f'"denials.{name}"' in table and f'"denials.{name}/help"' in table
             holds(f"{language} has no words for {name}", has_both)
@@ -133,8 +133,7 @@ def every_denial_has_words_in_both_languages(_at: Place) -> None:
 @check
 def no_page_reads_markup(_at: Place) -> None:
     for file in glob.glob(f"{PAGES}/**/*.js", recursive=True):
-        with open(file, encoding="utf-8") as text:
-            content = re.sub(r"^\s*(//|\*|/\*).*$", "", text.read(), flags=re.M)
+        content = re.sub(r"^\s*(//|\*|/\*).*$", "", Path(file).read_text("utf-8"), flags=re.M)
         found = re.search(
             r"innerHTML|outerHTML|insertAdjacentHTML|document\.write|\beval\(|new Function", content
         )

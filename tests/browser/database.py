@@ -14,6 +14,7 @@ import sqlite3
 import subprocess
 import time
 from collections.abc import Callable, Iterator
+from pathlib import Path
 from typing import Any
 
 import people
@@ -78,8 +79,7 @@ class Desk:
         self.process: subprocess.Popen[bytes] | None = None
 
     def set_clock(self, day: str, hour: str = people.NOON) -> None:
-        with open(self.clock, "w", encoding="ascii") as text:
-            text.write(moment(day, hour))
+        Path(self.clock).write_text(moment(day, hour), "ascii")
 
     def start(self) -> None:
         words = [self.program, "serve", self.file, people.ZONE_OF_DESK, str(self.port), "1000000"]
@@ -116,8 +116,7 @@ class Desk:
             return json.loads(text) if "json" in (reply.headers.get("Content-Type") or "") else text
 
     def travel(self, day: str, folder: str) -> None:
-        with open(f"{folder}/times.csv", "w", encoding="ascii") as text:
-            text.write(people.travel_file())
+        Path(f"{folder}/times.csv").write_text(people.travel_file(), "ascii")
         words: list[str | int] = [
             self.file,
             people.ZONE_OF_DESK,
@@ -165,10 +164,10 @@ def requests_of(vans: int) -> Iterator[tuple[str, str, dict[str, Any]]]:
         }
     for rider in people.RIDERS:
         yield "clerk", "/riders", {
-            "id": rider[0],
-            "kind": rider[8],
-            "attendant": rider[9],
-            "wheelchair": rider[10],
+            "id": rider.number,
+            "kind": "visitor" if rider.number == people.VISITOR else "resident",
+            "attendant": rider.number in people.WITH_ATTENDANT,
+            "wheelchair": rider.number in people.WITH_WHEELCHAIR,
         }
     yield from [it for it in callers if it[2]["subject"]]
     for number in [*people.GRANTED, people.WAITING, people.CONDITIONAL]:

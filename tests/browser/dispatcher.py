@@ -616,7 +616,7 @@ def a_van_is_closed_by_its_planned_drops_and_who_is_still_aboard_stays(at: Place
 def one_search_finds_by_all_words_and_opens_the_manifest_at_the_stop(at: Place) -> None:
     row = booked_on(at, DAY)[-1]
     rider = int(row["rider"])
-    name, telephone = next((it[1], it[2]) for it in RIDERS if it[0] == rider)
+    name, telephone = next((it.name, it.telephone) for it in RIDERS if it.number == rider)
     sign_in(at, DAY, "10:30")
     for words in [
         name.split()[-1],
@@ -1274,7 +1274,7 @@ def a_day_on_a_wall_stays_without_use_redraws_and_a_touch_signs_out(at: Place) -
             )
             same("something can be done on a board", True, inert)
             text = at.browser.text()
-            same("names on the wall", [], [it[1] for it in RIDERS if it[1] in text])
+            same("names on the wall", [], [it.name for it in RIDERS if it.name in text])
             at.browser.devtools(
                 "Input.dispatchMouseEvent",
                 type="mousePressed",

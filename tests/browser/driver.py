@@ -971,14 +971,9 @@ def the_files_are_the_sites_with_a_line_and_the_kept_ones_without(at: Place) -> 
         if not re.search(r"\.(js|css|svg)$", it) and it not in ("/", "/whole", "/agency.json")
     ]
     same("what is kept beside the files of the pages", [], strange)
-    for path in [
-        "/",
-        "/parts/main.js",
-        "/css/phone.css",
-        "/css/driver.css",
-        "/words/en/driver.js",
-        "/words/es/driver.js",
-    ]:
+    for path in """
+        / /parts/main.js /css/phone.css /css/driver.css /words/en/driver.js /words/es/driver.js
+    """.split():
         holds(f"{path} is kept", path in paths)
     same(
         "styles of other screens that are kept",

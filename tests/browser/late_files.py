@@ -4,6 +4,7 @@ import http.server
 import threading
 import time
 from collections.abc import Iterator
+from pathlib import Path
 from typing import Any
 
 from database import Trouble
@@ -22,8 +23,7 @@ class Answers(http.server.ThreadingHTTPServer):
         self, path: str, content: str | None = None, refusals: int = 0, seconds: float = 0
     ) -> None:
         super().__init__(("127.0.0.1", 0), Answer)
-        with open(f"{PAGES}{path}", "rb") as file:
-            self.content = file.read() if content is None else content.encode()
+        self.content = Path(f"{PAGES}{path}").read_bytes() if content is None else content.encode()
         self.kind, self.refusals, self.seconds, self.asked = (
             KINDS[path.rpartition(".")[2]],
             refusals,
@@ -60,8 +60,7 @@ CUT = "        proxy_intercept_errors on;\n        error_page 503 = @cut;\n"
 def given(town: Town, path: str, is_cut: bool = False, **how: Any) -> Iterator[Answers]:
     """Meanwhile the site gives this file of the pages as Answers has it. is_cut: where that refuses, the connection is closed."""
     conf = f"{town.folder}/nginx.conf"
-    with open(conf, encoding="utf-8") as text:
-        plain = text.read()
+    plain = Path(conf).read_text("utf-8")
     if plain.count(BEFORE) != 1:
         raise Trouble("the site's file has another form than late_files.py knows")
     with Answers(path, **how) as answers:
@@ -77,6 +76,5 @@ def given(town: Town, path: str, is_cut: bool = False, **how: Any) -> Iterator[A
 
 def use(town: Town, conf: str, text: str) -> None:
     town.stop_site()
-    with open(conf, "w", encoding="utf-8") as file:
-        file.write(text)
+    Path(conf).write_text(text, "utf-8")
     town.start_site()

@@ -4,6 +4,7 @@ import json
 import os
 import re
 import subprocess
+from pathlib import Path
 
 import people
 from checks import Place, check, holds, same
@@ -28,8 +29,7 @@ def moved(at: Place, *words: str) -> str:
 
 
 def key_of(at: Place, name: str) -> str:
-    with open(f"{at.folder}/moving/keys/{name}", encoding="utf-8") as file:
-        return file.read().strip()
+    return Path(f"{at.folder}/moving/keys/{name}").read_text("utf-8").strip()
 
 
 @check
@@ -59,8 +59,7 @@ def an_agency_moves_in_and_its_file_is_served(at: Place) -> None:
     words = [f"{ROOT}/bin/site-files", f"{folder}/agency.json", f"{at.folder}/site"]
     made = subprocess.run(words, capture_output=True, text=True)
     same("what site-files says", 0, made.returncode)
-    with open(f"{folder}/agency.json", encoding="utf-8") as file:
-        agency = json.load(file)
+    agency = json.loads(Path(f"{folder}/agency.json").read_text("utf-8"))
     holds(
         f"it has no {agency.keys()}",
         {"name", "zone", "telephone", "places", "routes", "vehicles"} <= agency.keys(),

@@ -1,9 +1,10 @@
 """The agency that the pages are tried with: its places, lines, vans, riders and callers, and the days of the checks."""
 import base64
+import csv
 import hashlib
 import zoneinfo
 from collections.abc import Iterator
-from typing import Any
+from typing import Any, NamedTuple
 
 NAME = "Example Town Transit"
 ZONE = zoneinfo.ZoneInfo("America/New_York")
@@ -47,82 +48,37 @@ LINES = [
 ]
 VAN_NAMES = ["Van 1, blue", "Van 2, white", "Van 3, green"]
 
-# number, name, telephone, language, home, usual places, mobility aid, note, kind, attendant, wheelchair.
+# The roster: a rider a line.
+ROSTER = """rider,name,telephone,language,home,usual,aid,note
+1001,Rosa Álvarez,555-0101,es,11,6;2,cane,speaks Spanish
+1002,Dorothy O'Neill,555-0102,en,12,6,walker,hard of hearing
+1003,Henry Park,555-0103,en,13,2;7,white cane,
+1004,Lucille Baker,555-0104,en,14,9,power wheelchair,ramp needed
+1005,Samuel Grant,555-0105,en,,6;8,,
+1006,Ana María Núñez,555-0106,es,,3,,
+1007,Walter Hughes,555-0107,en,,9;8,scooter,
+1008,Visitor Ellen Stone,555-0108,en,,1,,stays with her son
+1009,Peter Lange,555-0109,en,,,,application waits
+1010,Grace Kim,555-0110,en,,7,,
+"""
+
+
+class Rider(NamedTuple):
+    number: int
+    name: str
+    telephone: str
+    home: int | None
+    note: str
+
+
 RIDERS = [
-    (
-        1001,
-        "Rosa Álvarez",
-        "555-0101",
-        "es",
-        11,
-        "6;2",
-        "cane",
-        "speaks Spanish",
-        "resident",
-        False,
-        False,
-    ),
-    (
-        1002,
-        "Dorothy O'Neill",
-        "555-0102",
-        "en",
-        12,
-        "6",
-        "walker",
-        "hard of hearing",
-        "resident",
-        False,
-        False,
-    ),
-    (1003, "Henry Park", "555-0103", "en", 13, "2;7", "white cane", "", "resident", True, False),
-    (
-        1004,
-        "Lucille Baker",
-        "555-0104",
-        "en",
-        14,
-        "9",
-        "power wheelchair",
-        "ramp needed",
-        "resident",
-        False,
-        True,
-    ),
-    (1005, "Samuel Grant", "555-0105", "en", "", "6;8", "", "", "resident", False, False),
-    (1006, "Ana María Núñez", "555-0106", "es", "", "3", "", "", "resident", False, False),
-    (1007, "Walter Hughes", "555-0107", "en", "", "9;8", "scooter", "", "resident", False, True),
-    (
-        1008,
-        "Visitor Ellen Stone",
-        "555-0108",
-        "en",
-        "",
-        "1",
-        "",
-        "stays with her son",
-        "visitor",
-        False,
-        False,
-    ),
-    (
-        1009,
-        "Peter Lange",
-        "555-0109",
-        "en",
-        "",
-        "",
-        "",
-        "application waits",
-        "resident",
-        False,
-        False,
-    ),
-    (1010, "Grace Kim", "555-0110", "en", "", "7", "", "", "resident", False, False),
+    Rider(int(it["rider"]), it["name"], it["telephone"], int(it["home"] or 0) or None, it["note"])
+    for it in csv.DictReader(ROSTER.splitlines())
 ]
 # Those whose application is granted on the first day; 1009's waits, 1010's has a condition, 1008 is a visitor.
 GRANTED = [1001, 1002, 1003, 1004, 1005, 1006, 1007]
 WAITING, CONDITIONAL, VISITOR = 1009, 1010, 1008
+WITH_ATTENDANT, WITH_WHEELCHAIR = [1003], [1004, 1007]
 TRAVELERS = [*GRANTED, VISITOR]
 ALPHABET = str.maketrans("abcdefghijklmnopqrstuvwxyz234567", "0123456789abcdefghjkmnpqrstvwxyz")
 
@@ -155,7 +111,7 @@ def callers_of(vans: int) -> list[tuple[int, str, int, str]]:
     """Each caller as (number, role, subject, holder)."""
     staff = [(number, holder.split()[-1], 0, holder) for number, holder in STAFF]
     drivers = [(100 + van, "driver", van, f"driver {van}") for van, _ in vans_of(min(vans, 6))]
-    riders = [(rider[0], "rider", rider[0], f"rider {rider[0]}") for rider in RIDERS]
+    riders = [(it.number, "rider", it.number, f"rider {it.number}") for it in RIDERS]
     return staff + drivers + riders
 
 
@@ -215,16 +171,8 @@ def agency_file(vans: int) -> dict[str, Any]:
     }
 
 
-def roster_file() -> str:
-    head = "rider,name,telephone,language,home,usual,aid,note"
-    return "\n".join([head, *(",".join(map(str, rider[:8])) for rider in RIDERS)]) + "\n"
-
-
 def drivers_file() -> str:
-    return (
-        "\n".join(["rider,name,note", *(f"{rider[0]},{rider[1]},{rider[7]}" for rider in RIDERS)])
-        + "\n"
-    )
+    return "rider,name,note\n" + "".join(f"{it.number},{it.name},{it.note}\n" for it in RIDERS)
 
 
 def minutes_between(
@@ -250,7 +198,7 @@ def wishes(vans: int) -> Iterator[dict[str, Any]]:
     goals = [2, 6, 7, 9, 3, 8, 1]
     for at in range(13 * vans):
         rider = TRAVELERS[at % len(TRAVELERS)]
-        home = next((it[4] for it in RIDERS if it[0] == rider and it[4]), 5)
+        home = next((it.home for it in RIDERS if it.number == rider and it.home), 5)
         goal = goals[(at * 3) % len(goals)]
         start, end = (home, goal) if at % 2 == 0 else (goal, home)
         yield {

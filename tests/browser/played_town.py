@@ -38,18 +38,9 @@ LATER_DAYS = {
 SHIFTS = [(300, 1410), (300, 870), (690, 1410), (300, 870)]
 DEPOT, GOALS = 1, range(2, 12)
 ALWAYS = ["always"]
-NAMES = [
-    "Guadalupe",
-    "Deshawn",
-    "Marguerite",
-    "Terrence",
-    "Ngozi",
-    "Wilhelmina",
-    "Óscar",
-    "Bernadette",
-    "Hyun-woo",
-    "Priscilla",
-]
+NAMES = """
+    Guadalupe Deshawn Marguerite Terrence Ngozi Wilhelmina Óscar Bernadette Hyun-woo Priscilla
+""".split()
 FAMILIES = [
     "Okonkwo",
     "Johnson",

@@ -10,6 +10,7 @@ import ssl
 import subprocess
 import time
 from collections.abc import Mapping
+from pathlib import Path
 from typing import Any
 
 import people
@@ -25,28 +26,10 @@ PAGES = os.environ.get("PAGES_FOLDER", f"{ROOT}/pages")
 
 
 def write_certificate(folder: str) -> None:
-    subprocess.run(
-        [
-            "openssl",
-            "req",
-            "-x509",
-            "-newkey",
-            "rsa:2048",
-            "-nodes",
-            "-days",
-            "2",
-            "-subj",
-            "/CN=localhost",
-            "-addext",
-            "subjectAltName=IP:127.0.0.1,DNS:localhost",
-            "-keyout",
-            f"{folder}/key.pem",
-            "-out",
-            f"{folder}/certificate.pem",
-        ],
-        check=True,
-        capture_output=True,
-    )
+    words = "openssl req -x509 -newkey rsa:2048 -nodes -days 2 -subj /CN=localhost".split()
+    words += ["-addext", "subjectAltName=IP:127.0.0.1,DNS:localhost"]
+    words += ["-keyout", f"{folder}/key.pem", "-out", f"{folder}/certificate.pem"]
+    subprocess.run(words, check=True, capture_output=True)
 
 
 def packed_pages(folder: str) -> str:
@@ -77,8 +60,7 @@ def write_conf(folder: str, port: int, desk_port: int, pages: str) -> None:
     made = subprocess.run([str(it) for it in words], capture_output=True, text=True)
     if made.returncode:
         raise Trouble(f"deploy/site: {made.stderr}")
-    with open(f"{folder}/nginx.conf", "w", encoding="utf-8") as text:
-        text.write(made.stdout)
+    Path(f"{folder}/nginx.conf").write_text(made.stdout, "utf-8")
 
 
 def read_tail(path: str) -> str:
@@ -152,8 +134,7 @@ class Town:
         made = subprocess.run(words, env=clocked(self.desk.clock), capture_output=True, text=True)
         if made.returncode or made.stderr:
             raise Trouble(f"deploy/today: {made}")
-        with open(f"{self.folder}/site/staff/today.json", encoding="utf-8") as text:
-            return json.load(text)
+        return json.loads(Path(f"{self.folder}/site/staff/today.json").read_text("utf-8"))
 
     def copied(self) -> str:
         """A copy of the desk's file, as a backup makes it of the halted desk."""
@@ -216,7 +197,7 @@ class Town:
         write_site_files(
             self.folder,
             {**people.agency_file(max(self.vans, 1)), **changed},
-            people.roster_file(),
+            people.ROSTER,
             people.drivers_file(),
         )
         self.write_drivers_files()
@@ -241,8 +222,7 @@ class Town:
 
     def file(self, name: str) -> bytes:
         """The bytes of a file of the site."""
-        with open(f"{self.folder}/site/{name}", "rb") as file:
-            return file.read()
+        return Path(f"{self.folder}/site/{name}").read_bytes()
 
     def write_file(self, name: str, content: str | bytes | None) -> None:
         """One file of the site with these bytes, or none of this name."""
@@ -252,8 +232,7 @@ class Town:
                 os.remove(path)
             return
         os.makedirs(os.path.dirname(path), exist_ok=True)
-        with open(path, "wb") as file:
-            file.write(content if isinstance(content, bytes) else content.encode())
+        Path(path).write_bytes(content if isinstance(content, bytes) else content.encode())
 
     # Requests beside the pages, as by another device; they go by the site.
 
@@ -326,8 +305,7 @@ def write_site_files(folder: str, agency: dict[str, Any], roster: str, drivers: 
         ("roster.csv", roster),
         ("drivers.csv", drivers),
     ]:
-        with open(f"{folder}/source-{name}", "w", encoding="utf-8") as text:
-            text.write(content)
+        Path(f"{folder}/source-{name}").write_text(content, "utf-8")
     words = [
         f"{ROOT}/bin/site-files",
         f"{folder}/source-agency.json",

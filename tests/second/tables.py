@@ -22,22 +22,10 @@ NONE = -1
 # What is read of each table. How a request and a reply are spelled in `kept` is no part of docs/FORMATS.md.
 QUERIES = {
     table: f"SELECT {'caller, number' if table == 'kept' else '*'} FROM {table}"
-    for table in [
-        "desk",
-        "callers",
-        "kept",
-        "places",
-        "fixed",
-        "vehicles",
-        "riders",
-        "entries",
-        "trips",
-        "stops",
-        "travel",
-        "rider_chairs",
-        "vehicle_chairs",
-        "trip_chairs",
-    ]
+    for table in """
+        desk callers kept places fixed vehicles riders entries trips stops travel rider_chairs
+        vehicle_chairs trip_chairs
+    """.split()
 }
 
 

@@ -23,6 +23,7 @@ import sys
 import tempfile
 import threading
 import time
+from pathlib import Path
 
 from desk_tools.ops.content import TABLES
 from desk_tools.tree import TOP
@@ -201,8 +202,7 @@ def faults_of_tables(program, file, folder):
     }
     for name, (text, fault) in named.items():
         times = f"{folder}/{name}.csv"
-        with open(times, "w", encoding="utf-8") as made:
-            made.write(text)
+        Path(times).write_text(text, "utf-8")
         run = ran(program, "travel", file, ZONE, "radio", 9, TODAY, times)
         yield ends(f"travel with the table {text!r}", run, OTHER, fault=fault)
     run = ran(program, "travel", file, ZONE, "radio", 9, TODAY, f"{folder}/not-there.csv")
@@ -254,8 +254,7 @@ def faults_of_files(program, file, folder):
         make(path)
         for words in over_file(path, times, port)[-1 if name != "other.db" else 0 :]:
             yield ends(f"{words[0]} of {name}", ran(program, *words), NO_STORE, fault=(30, 0))
-    with open(f"{folder}/text.db", "w", encoding="utf-8") as text:
-        text.write("no database " * 1000)
+    Path(f"{folder}/text.db").write_text("no database " * 1000, "utf-8")
     run = ran(program, "trips", f"{folder}/text.db", ZONE, "radio", TOMORROW)
     yield ends("trips of a text", run, NO_STORE, fault=(32, 0))
 
@@ -854,12 +853,11 @@ def faults_of_moments(program):
         run = ran(program, "rehearse", "abc", input=MOMENTS[0] + NOWHERE + line)
         yield ends(f"a rehearsal with the line {line}", run, OTHER, NO_PATH, fault=(48, 0))
     conversation = f"{TOP}/tests/rehearsals/rights/from-the-presumption-to-a-grant"
-    with open(f"{conversation}.out", "rb") as wanted:
-        yield difference(
-            "input in pieces of seven bytes",
-            wanted.read(),
-            rehearsed_in_pieces(program, asked_in(conversation), 7),
-        )
+    yield difference(
+        "input in pieces of seven bytes",
+        Path(f"{conversation}.out").read_bytes(),
+        rehearsed_in_pieces(program, asked_in(conversation), 7),
+    )
     for count, status, said in (MOST_MESSAGES, DONE, b""), (
         MOST_MESSAGES + 1,
         OTHER,
@@ -909,8 +907,7 @@ def faults_of_fronts(program):
     """Each proper front of a conversation: its whole messages are answered, and what breaks off is told."""
     conversation = f"{TOP}/tests/rehearsals/rights/from-the-presumption-to-a-grant"
     content = asked_in(conversation)
-    with open(f"{conversation}.out", "rb") as wanted:
-        replies = re.split(rb"(?=HTTP/1\.1 )", wanted.read())[1:]
+    replies = re.split(rb"(?=HTTP/1\.1 )", Path(f"{conversation}.out").read_bytes())[1:]
     places = list(ends_in(content))
     for length in range(len(content)):
         whole, last, fault = told_of_front(length, places)
@@ -955,8 +952,7 @@ def faults_of_table_texts(program, file, folder):
     cases = [(text, None) for text in TABLES_OF_THREE_ROWS]
     cases += [(CUT[:length], fault_of_cut(length)) for length in range(len(CUT) + 1)]
     for number, (text, fault) in enumerate(cases, 10):
-        with open(times, "wb") as made:
-            made.write(text)
+        Path(times).write_bytes(text)
         run = ran(program, "travel", path, ZONE, "radio", number, LAST_DAY, times)
         yield ends(
             f"travel with {text}", run, OTHER if fault else DONE, b"" if fault else b"done\n", fault
@@ -993,8 +989,7 @@ def faults_of_full_table(program, file, folder):
         b"done\n",
         None,
     ):
-        with open(times, "w", encoding="utf-8") as made:
-            made.write(text + more)
+        Path(times).write_text(text + more, "utf-8")
         yield ends(
             f"travel with 9,900 rows and {more!r}",
             ran(program, "travel", path, ZONE, "radio", 9, day, times),
@@ -1072,8 +1067,7 @@ def ahead(days):
 
 def make_town(program, folder):
     file, times = f"{folder}/town.db", f"{folder}/town.csv"
-    with open(times, "w", encoding="utf-8") as made:
-        made.write(TOWN_TIMES)
+    Path(times).write_text(TOWN_TIMES, "utf-8")
     ran(program, "init", file, ADMINS_KEY)
     van = {**VAN, "opens": 480, "closes": 1020, "duration": 480}
     with Desk(program, file) as desk:
@@ -1281,16 +1275,7 @@ SPELLED = [
     (
         "admin",
         "/policy",
-        {
-            "base": 175,
-            "transfer": 50,
-            "fare": 400,
-            "service": 4,
-            "extra_ride": 20,
-            "min_missed": 3,
-            "percent": 10,
-            "span_days": 30,
-        },
+        {**POLICY, "service": 4},
         b"\2" + big(175, 50, 400, 4, 20, 3, 10, 30),
         b"\0",
     ),

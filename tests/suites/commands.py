@@ -14,6 +14,7 @@ import subprocess
 import sys
 import tempfile
 import time
+from pathlib import Path
 
 from desk_tools.tree import TOP
 
@@ -113,14 +114,11 @@ def faults_of(name):
     """What a command does otherwise than it must; a text or None for each try."""
     with tempfile.TemporaryDirectory(prefix="desk-commands-") as folder:
         os.chmod(folder, 0o777)
-        with open(f"{folder}/bytes", "wb") as file:
-            file.write(bytes(range(256)) * 40)
-        with open(f"{folder}/deep", "w", encoding="utf-8") as file:
-            file.write("[" * 100_000)
+        Path(f"{folder}/bytes").write_bytes(bytes(range(256)) * 40)
+        Path(f"{folder}/deep").write_text("[" * 100_000, "utf-8")
         # (files of the folder in which somebody works are none of a command's modules)
         for module in "argparse", "json", "pathlib":
-            with open(f"{folder}/{module}.py", "w", encoding="utf-8") as file:
-                file.write("raise SystemExit(99)\n")
+            Path(f"{folder}/{module}.py").write_text("raise SystemExit(99)\n", "utf-8")
         for label, words, wanted in tries(name, folder):
             status, said = ran(name, words, folder)
             fault = fault_of(status, said, wanted)

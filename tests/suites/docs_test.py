@@ -33,19 +33,11 @@ MADE = {".git", "out", "__pycache__", "RUNNING.md"}
 PLACEHOLDERS = {"NAME", "AGENCY", "F", "my"}
 PARTS_OF_CRATES = {"src", "specs", "proofs", "must-fail"}
 PATH = re.compile(r"[\w.@-]+(/[\w.@-]+)*/?")
-EXTENSIONS = {
-    ".rt",
-    ".antt",
-    ".md",
-    ".program",
-    ".requests",
-    ".replies",
-    ".edit",
-    ".service",
-    ".timer",
-    ".nginx",
-    ".yaml",
-}
+EXTENSIONS = set(
+    """
+    .rt .antt .md .program .requests .replies .edit .service .timer .nginx .yaml
+    """.split()
+)
 CODE = re.compile(r"^```.*?^```$|(?<!`)`[^`\n]+(?:\n[^`\n]+)?`(?!`)", re.M | re.S)
 LINK = re.compile(r"\[[^\]\n]*\]\(([^)#\s]*)(#[^)\s]*)?\)")
 # A name and the file that is to have it.

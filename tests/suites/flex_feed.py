@@ -11,6 +11,7 @@ import subprocess
 import sys
 import tempfile
 import zipfile
+from pathlib import Path
 
 from desk_tools.tree import TOP
 from desk_tools.setup import plane
@@ -63,8 +64,7 @@ def ran(folder, *words, **given):
         if held is None:
             os.remove(f"{folder}/{name}")
             continue
-        with open(f"{folder}/{name}", "w", encoding="utf-8") as file:
-            json.dump(held, file)
+        Path(f"{folder}/{name}").write_text(json.dumps(held), "utf-8")
     done = subprocess.run(
         [f"{TOP}/bin/flex-feed", "agency.json", *words],
         cwd=folder,
@@ -147,8 +147,7 @@ def faults_of_feed(folder):
         "the zone with a hole", [2], [len(it) for it in zones[0]["geometry"]["coordinates"]]
     )
     yield difference("points on the wrong side", [0, 0], list(wrong_points(zones)))
-    with open(f"{folder}/feed.zip", "rb") as file:
-        before = file.read()
+    before = Path(f"{folder}/feed.zip").read_bytes()
     ran(folder, *URL, "--output", "feed.zip", "--until", "16:30")
     with open(f"{folder}/feed.zip", "rb") as file:
         yield difference("the same again, byte for byte", before, file.read())

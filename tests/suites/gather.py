@@ -12,6 +12,7 @@ import shutil
 import subprocess
 import sys
 import tempfile
+from pathlib import Path
 
 from desk_tools.tree import TOP
 import town_parts as parts
@@ -186,10 +187,10 @@ def faults_of_joining(folder):
     )
     yield None if run.returncode == 1 and "lies outside every corridor" in run.stdout else f"an address outside: {run}"
     yield from faults_of_rewriting(folder, given)
-    with open(f"{folder}/people.csv", "w", encoding="cp1252") as file:
-        file.write(
-            f"Number;Name;Phone;Home Address;Until\n0101;Ana Peña;555;1 new st.;6/30/2027\n102;Bo;555;{near['street']};46568\n103;Cy;x;;\n"
-        )
+    Path(f"{folder}/people.csv").write_text(
+        f"Number;Name;Phone;Home Address;Until\n0101;Ana Peña;555;1 new st.;6/30/2027\n102;Bo;555;{near['street']};46568\n103;Cy;x;;\n",
+        "cp1252",
+    )
     run = moved(folder, "people", "people.csv")
     is_right = (
         run.returncode == 1
@@ -250,8 +251,7 @@ def faults_of_joining(folder):
 def faults_of_rewriting(folder, given):
     """A table of the agency's own keeps its columns and its rows, and it as it was stays beside it."""
     own = "Parcel No;Address;ID;Note\nP-9;3 Señor St;7;gate\n\n;4 Oak St;8;\n".encode("cp1252")
-    with open(f"{folder}/own.csv", "wb") as file:
-        file.write(own)
+    Path(f"{folder}/own.csv").write_bytes(own)
     run = ran("address", f"{folder}/own.csv", "--street", "1 New St", *given)
     said = f"{folder}/own.csv is written anew, as UTF-8 with commas (1 lines are no UTF-8 and were read as Windows-1252; semicolons between the columns;"
     is_told = (
@@ -260,8 +260,7 @@ def faults_of_rewriting(folder, given):
         and f"The table as it was is {folder}/own.csv.before" in run.stdout
     )
     yield None if is_told else f"a table of one's own: {run}"
-    with open(f"{folder}/own.csv.before", "rb") as file:
-        yield difference("the table as it was", own, file.read())
+    yield difference("the table as it was", own, Path(f"{folder}/own.csv.before").read_bytes())
     rows = [
         (it["id"], it["street"], it["note"], it["parcel_no"]) for it in table(f"{folder}/own.csv")
     ]
@@ -333,10 +332,10 @@ def faults_of_two_at_once(folder):
 
 def faults_of_a_grant(folder, near):
     """A home that joins later is at no place where its rider's grant holds less, and a rider who is in no right row is named."""
-    with open(f"{folder}/grants.csv", "w", encoding="utf-8") as file:
-        file.write(
-            "Rider #,Name,Conditions\n501,Ana,No Lift; farther:100000\n502,Bo,always\n503,Cy,sometimes\n"
-        )
+    Path(f"{folder}/grants.csv").write_text(
+        "Rider #,Name,Conditions\n501,Ana,No Lift; farther:100000\n502,Bo,always\n503,Cy,sometimes\n",
+        "utf-8",
+    )
     given = [
         f"{folder}/gathered-addresses.csv",
         "--folder",
@@ -410,8 +409,7 @@ def faults_of_bad_input(folder):
         for it in WRITTEN:
             if os.path.exists(f"{folder}/{it}"):
                 os.remove(f"{folder}/{it}")
-        with open(f"{folder}/bad.csv", "wb") as file:
-            file.write(content)
+        Path(f"{folder}/bad.csv").write_bytes(content)
         run = moved(folder, "gather", "bad.csv")
         is_right = (
             run.returncode == status

@@ -25,6 +25,7 @@ import tempfile
 import threading
 import time
 import urllib.parse
+from pathlib import Path
 
 from desk_tools.tree import TOP
 from serving import (
@@ -131,8 +132,7 @@ class Site:
         self.numbers = {}
         for name, text in FILES.items():
             os.makedirs(os.path.dirname(f"{folder}/site/{name}"), exist_ok=True)
-            with open(f"{folder}/site/{name}", "w", encoding="utf-8") as file:
-                file.write(text)
+            Path(f"{folder}/site/{name}").write_text(text, "utf-8")
         words = [
             f"{TOP}/deploy/site",
             "--trial",
@@ -539,8 +539,7 @@ def faults_of_http2(site):
         "%{http_version} ",
     ]
     for at, (name, body) in enumerate(zip(names, bodies)):
-        with open(name, "w", encoding="utf-8") as file:
-            file.write(body)
+        Path(name).write_text(body, "utf-8")
         site.numbers["radio"] = site.numbers.get("radio", 100) + 1
         words += ["--next"] if at else []
         words += [
@@ -719,8 +718,7 @@ def faults_of_borrowing(site):
     yield None if names and names[
         0
     ] == "Rosa Peña, examiner (caller 8)" else f"the name of caller 8: {names}"
-    with open(f"{site.folder}/journal/callers.csv", encoding="utf-8") as file:
-        text = file.read()
+    text = Path(f"{site.folder}/journal/callers.csv").read_text("utf-8")
     yield difference("the digits of a name's key", 2, text.count(digits(KEYS["second"])))
     own = site.journal("own", 11, "--csv").stdout
     yield None if "walks to the bus stop" in own and "Rosa" not in own and "(caller" not in own else f"a rider's own copy: {own}"
@@ -743,12 +741,10 @@ def faults_of_chain(site):
     copy = f"{site.folder}/changed"
     shutil.copytree(f"{site.folder}/journal", copy)
     [path] = [f"{copy}/record/{it}" for it in os.listdir(f"{copy}/record") if it.endswith(".jsonl")]
-    with open(path, "rb") as file:
-        content = file.read()
+    content = Path(path).read_bytes()
     at = content.index(b"/cancel")
     entry = content[: content.rindex(b"\n", 0, at)].count(b"\n") + 2
-    with open(path, "wb") as file:
-        file.write(content.replace(b"/cancel", b"/change", 1))
+    Path(path).write_bytes(content.replace(b"/cancel", b"/change", 1))
     told = site.journal("verify", folder=copy)
     yield None if told.returncode == 1 and f"line {entry}: entry {entry} was changed" in told.stdout else f"a changed line {entry}: {told}"
     for question in ("trip", 1), ("keys",), ("own", 7), ("standing", 7):
@@ -765,8 +761,7 @@ def faults_of_chain(site):
     yield None if told.returncode == 2 and "callers.csv, row " in told.stderr and told.stderr.count(
         "\n"
     ) == 1 else f"callers.csv cut to 300 bytes: {told}"
-    with open(path, "wb") as file:
-        file.write(content[: content.rindex(b"\n", 0, -1) + 1])
+    Path(path).write_bytes(content[: content.rindex(b"\n", 0, -1) + 1])
     told = site.journal("verify", folder=copy)
     yield None if told.returncode == 3 else f"the last line gone, where a head names it: {told}"
     shutil.rmtree(copy)
@@ -774,8 +769,7 @@ def faults_of_chain(site):
 
 def faults_of_corrections(site):
     path = f"{site.folder}/corrections.csv"
-    with open(path, "w", encoding="utf-8") as file:
-        file.write("trip,outcome,who,why\n1,ridden,Rosa Peña,=the van was there\n")
+    Path(path).write_text("trip,outcome,who,why\n1,ridden,Rosa Peña,=the van was there\n", "utf-8")
     site.take(), site.take()
     told = [it for it in site.answer("trip", 1) if it["what"] == "corrected the outcome"]
     yield difference(
@@ -871,8 +865,7 @@ def program_files(folder):
         "riders.csv": "number,kind,attendant\n44,visitor,no\n",
     }
     for name, text in texts.items():
-        with open(f"{folder}/{name}", "w", encoding="utf-8") as file:
-            file.write(text)
+        Path(f"{folder}/{name}").write_text(text, "utf-8")
 
 
 def run_program(folder, *words):
@@ -1092,9 +1085,9 @@ def copy_keys(source, folder):
 
 def radio(folder, walk):
     """A file with the dispatcher's key."""
-    with open(f"{folder}/dispatcher.key", "w", encoding="utf-8") as file:
-        file.write(walk.keys["dispatcher"])
-    return file.name
+    path = f"{folder}/dispatcher.key"
+    Path(path).write_text(walk.keys["dispatcher"], "utf-8")
+    return path
 
 
 def faults_of_root(site, program, before, after):
@@ -1209,8 +1202,7 @@ def faults_of_secrets(site, file):
                 or name.endswith(".db")
             ):
                 continue
-            with open(path, "rb") as content:
-                text = content.read()
+            text = Path(path).read_bytes()
             looked += 1
             found = [it for it in keys + words if it in text]
             if found:
@@ -1220,24 +1212,9 @@ def faults_of_secrets(site, file):
 
 def faults(program, folder, count):
     file = make_agency(program, folder)
-    words = [
-        "openssl",
-        "req",
-        "-x509",
-        "-newkey",
-        "ec",
-        "-pkeyopt",
-        "ec_paramgen_curve:P-256",
-        "-nodes",
-        "-days",
-        "2",
-        "-subj",
-        "/CN=localhost",
-        "-keyout",
-        f"{folder}/key.pem",
-        "-out",
-        f"{folder}/certificate.pem",
-    ]
+    words = "openssl req -x509 -newkey ec -pkeyopt ec_paramgen_curve:P-256 -nodes -days 2".split()
+    words += ["-subj", "/CN=localhost", "-keyout", f"{folder}/key.pem"]
+    words += ["-out", f"{folder}/certificate.pem"]
     subprocess.run(words, check=True, capture_output=True, timeout=SECONDS)
     subprocess.run(
         ["ssh-keygen", "-q", "-t", "ed25519", "-N", "", "-f", f"{folder}/record"],

@@ -18,6 +18,7 @@ import sqlite3
 import subprocess
 import sys
 import tempfile
+from pathlib import Path
 
 from desk_tools.tree import TOP
 from serving import (
@@ -94,8 +95,7 @@ class Refusing:
     def __init__(self, folder):
         self.library = f"{folder}/refusing.so"
         self.file = f"{folder}/counted"
-        with open(f"{folder}/refusing.c", "w", encoding="utf-8") as text:
-            text.write(LIBRARY)
+        Path(f"{folder}/refusing.c").write_text(LIBRARY, "utf-8")
         subprocess.run(
             ["gcc", "-O1", "-shared", "-fPIC", "-o", self.library, f"{folder}/refusing.c", "-ldl"],
             check=True,
@@ -103,8 +103,7 @@ class Refusing:
 
     def variables(self, refused, **more):
         """What the environment of a program needs that is refused this allocation, or none where it is 0."""
-        with open(self.file, "wb") as file:
-            file.write(bytes(8))
+        Path(self.file).write_bytes(bytes(8))
         return variables(LD_PRELOAD=self.library, COUNTED=self.file, REFUSED=str(refused), **more)
 
     def count(self):
@@ -222,8 +221,7 @@ def files(program, file, folder):
     full, log = f"{folder}/full.db", f"{folder}/log"
     copy_database(file, full)
     with_database(full, lambda it: it.executescript(route_of(50)))
-    with open(log, "wb") as text:
-        text.write(ran(program, "explain", full, ZONE, *QUESTION).stdout)
+    Path(log).write_bytes(ran(program, "explain", full, ZONE, *QUESTION).stdout)
     return {
         "init": f"{folder}/none.db",
         "migrate": copied(FIRST, f"{folder}/first.db"),

@@ -19,6 +19,7 @@ import signal
 import subprocess
 import sys
 import tempfile
+from pathlib import Path
 
 from desk_tools.tree import TOP
 import moving_parts as parts
@@ -46,8 +47,7 @@ def faults_of_page(program, town):
     if not os.path.exists(PAGE):
         yield f"there is no {PAGE}"
         return
-    with open(PAGE, encoding="utf-8") as file:
-        blocks = BLOCK.findall(file.read())
+    blocks = BLOCK.findall(Path(PAGE).read_text("utf-8"))
     printed, said = run_of_page(program, town, blocks)
     pieces = re.split(r"(?m)^== \d+\n", printed)
     for at, (commands, wanted) in enumerate(blocks):
@@ -110,14 +110,7 @@ SAME = {
 def faults_of_kills(program, town, folder):
     """A run that is killed at every tenth request and run again leaves the rows of the page's."""
     os.makedirs(folder)
-    for name in (
-        "feed.zip",
-        "places.csv",
-        "callers.csv",
-        "vehicles.csv",
-        "riders.csv",
-        "policy.json",
-    ):
+    for name in "feed.zip places.csv callers.csv vehicles.csv riders.csv policy.json".split():
         shutil.copy(f"{town}/{name}", folder)
     shutil.copytree(f"{town}/keys", f"{folder}/keys")
     serving.ran(program, "init", f"{folder}/desk.db", "first-key")
@@ -232,18 +225,10 @@ FIGURES = """
         sum((status = 2) * (1 + companions + attendant)), sum(status = 3), sum(status = 4), sum(status = 1),
         sum(status = 0), sum((status = 2) * fare * (1 + companions))
     FROM trips GROUP BY day ORDER BY day"""
-SHOWN = [
-    "vehicles_operated",
-    "riders",
-    "companions",
-    "attendants",
-    "unlinked_passenger_trips",
-    "no_shows_by_rider",
-    "missed_by_operator",
-    "cancelled",
-    "to_come",
-    "fares_cents",
-]
+SHOWN = """
+    vehicles_operated riders companions attendants unlinked_passenger_trips no_shows_by_rider
+    missed_by_operator cancelled to_come fares_cents
+""".split()
 
 
 def faults_of_report(town):
@@ -303,8 +288,7 @@ def faults_of_refusals(desk, town):
         name: TODAY + datetime.timedelta(days=it)
         for name, it in (("far", 365), ("near", 30), ("past", -1))
     }
-    with open(f"{town}/more.csv", "w", encoding="utf-8") as file:
-        file.write(RIDERS.format(**days))
+    Path(f"{town}/more.csv").write_text(RIDERS.format(**days), "utf-8")
     url = f"http://127.0.0.1:{desk.port}"
     words = [
         "riders",
@@ -356,8 +340,7 @@ PRIVATE = """number,name,latitude,longitude,note,private
 def faults_of_homes(desk, town):
     """Riders' homes become private to them; what places.csv or the agency says of a place is kept."""
     for name, text in (("homes.csv", HOMES), ("private.csv", PRIVATE)):
-        with open(f"{town}/{name}", "w", encoding="utf-8") as file:
-            file.write(text)
+        Path(f"{town}/{name}").write_text(text, "utf-8")
     url = f"http://127.0.0.1:{desk.port}"
     moved(town, "places", "private.csv", "--url", url, "--admin", "keys/1-admin")
     with open(f"{town}/refused-places.csv", encoding="utf-8") as file:
@@ -404,8 +387,7 @@ def faults_of_homes(desk, town):
 
 def faults_of_agency_file(town):
     """agency.json is what the pages read: its fields are all right, and the site's files come of it."""
-    with open(f"{town}/agency.json", encoding="utf-8") as file:
-        agency = json.load(file)
+    agency = json.loads(Path(f"{town}/agency.json").read_text("utf-8"))
     said = {"name": "Lake Town Transit", "zone": "America/Chicago", "telephone": "612-555-0100"}
     yield difference("what agency.json says", said, {name: agency.get(name) for name in said})
     modes = {
@@ -441,8 +423,7 @@ def faults_of_old_agency(town, folder):
         agency_file.text_of(agency_file.read(f"{it}/agency.json").agency) for it in (town, folder)
     ]
     yield difference("an old agency.json, written anew", *texts)
-    with open(f"{folder}/agency.json", "w", encoding="utf-8") as file:
-        file.write('{"zone": "Chicago"}')
+    Path(f"{folder}/agency.json").write_text('{"zone": "Chicago"}', "utf-8")
     run = moved(folder, "times")
     wanted = 2, (
         'bin/move-in: ./agency.json has a fault: zone: "Chicago" is not an IANA zone, such as '
@@ -461,10 +442,9 @@ def faults_of_keys(town):
     yield difference("typed keys", made, [keys.normalized(it) for it in typed])
     others = ["first-key", "ABC", made[0][:25], f"{made[0]}a", f"{made[0][:25]}u"]
     yield difference("other keys", others, [keys.normalized(it) for it in others])
-    with open(f"{town}/keys/2-clerk", encoding="ascii") as file:
-        yield None if re.fullmatch(
-            "[0-9a-z]{26}", file.read()
-        ) else "the clerk's key is no made key"
+    yield None if re.fullmatch(
+        "[0-9a-z]{26}", Path(f"{town}/keys/2-clerk").read_text("ascii")
+    ) else "the clerk's key is no made key"
 
 
 def faults_of_new_feed(desk, town):

@@ -13,6 +13,7 @@ import subprocess
 import sys
 import tempfile
 import time
+from pathlib import Path
 
 from desk_tools.tree import TOP
 import serving
@@ -48,8 +49,7 @@ class Town:
         """The files, and an empty desk."""
         parts.write_forms(self.folder, TODAY, self.lines, self.count, self.riders, VANS)
         os.mkdir(f"{self.folder}/keys", 0o700)
-        with open(f"{self.folder}/{KEYS['admin']}", "w", encoding="ascii") as file:
-            file.write("first-key")
+        Path(f"{self.folder}/{KEYS['admin']}").write_text("first-key", "ascii")
         serving.ran(self.program, "init", f"{self.folder}/desk.db", "first-key")
         self.serve()
 
@@ -126,8 +126,7 @@ def faults_of_moving_in(town):
     yield town.run("move-in", "times", "--speed", 25, "--detour", 1.4, sends=False)
     yield town.run("move-in", "times", "--check", "times.csv", sends=False)
     town.desk.kill()
-    with open(f"{town.folder}/{KEYS['dispatcher']}", encoding="ascii") as file:
-        key = file.read().strip()
+    key = Path(f"{town.folder}/{KEYS['dispatcher']}").read_text("ascii").strip()
     given = serving.ran(
         town.program,
         "travel",
@@ -148,14 +147,7 @@ def faults_of_moving_in(town):
 def faults_of_first_day(town):
     """What the pages need, the standing orders of the first day, and its papers."""
     os.mkdir(f"{town.folder}/site")
-    words = [
-        "agency.json",
-        "--roster",
-        "cut-roster.csv",
-        "--addresses",
-        "cut-addresses.csv",
-        "site",
-    ]
+    words = "agency.json --roster cut-roster.csv --addresses cut-addresses.csv site".split()
     # (a home outside every corridor has no place, and is named)
     yield town.run("site-files", *words, ends=(0, 1), sends=False)
     parts.write_orders(town.folder, TOMORROW)

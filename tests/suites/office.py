@@ -21,6 +21,7 @@ import time
 import urllib.error
 import urllib.request
 import zoneinfo
+from pathlib import Path
 
 from desk_tools import agencies
 from desk_tools.tree import TOP
@@ -29,19 +30,12 @@ from serving import difference
 
 ADDRESS = re.compile(r"(http://localhost:\d+)/")
 SECONDS = 600
-PUBLIC = {
-    "name",
-    "telephone",
-    "address",
-    "zone",
-    "first_weekday",
-    "place_word",
-    "clock",
-    "languages",
-    "wait_minutes",
-    "idle_minutes",
-    "appeal",
-}
+PUBLIC = set(
+    """
+    name telephone address zone first_weekday place_word clock languages wait_minutes idle_minutes
+    appeal
+    """.split()
+)
 
 
 class Running:
@@ -99,8 +93,7 @@ class Running:
         return self.process.wait(60)
 
     def key(self, who):
-        with open(f"{self.folder}/keys.json", encoding="ascii") as file:
-            return json.load(file)[who]
+        return json.loads(Path(f"{self.folder}/keys.json").read_text("ascii"))[who]
 
     def ask(self, *words, **named):
         """The status, headers and text of a reply; where the site has had too much at once, it is asked again."""
@@ -301,8 +294,7 @@ def faults_of_denial(office):
         time.sleep(0.2)
     with open(path, encoding="utf-8") as file:
         yield None if "It says: yes." in file.read() else "the log of the denied trip is not judged yes"
-    with open(f"{office.folder}/denied/refusal.log", encoding="utf-8") as file:
-        log = file.read()
+    log = Path(f"{office.folder}/denied/refusal.log").read_text("utf-8")
     yield None if log.rstrip().endswith("DONE") else "the log of the denied trip has no end"
     yield from faults_of_sentences(f"{office.folder}/denied/refusal.log", log)
     yield from faults_of_marks(office)
@@ -329,8 +321,7 @@ def faults_of_marks(office):
         if datetime.datetime.now(datetime.timezone.utc).hour >= 10
         else "Pacific/Pago_Pago"
     )
-    with open(f"{room}/main.json", "w", encoding="utf-8") as file:
-        json.dump({"zone": zone}, file)
+    Path(f"{room}/main.json").write_text(json.dumps({"zone": zone}), "utf-8")
     helped = subprocess.run(
         [f"{TOP}/deploy/backup", "--help"],
         capture_output=True,
@@ -352,8 +343,7 @@ def faults_of_marks(office):
         (mark, "1 marked denial: a trip asked for on 2026-12-06 at 21:40"),
         (mark, "no denial is marked that has no copy"),
     ):
-        with open(f"{room}/tally.log", "w", encoding="utf-8") as file:
-            file.write(content)
+        Path(f"{room}/tally.log").write_text(content, "utf-8")
         ran = run()
         yield None if ran.returncode == 0 and wanted in ran.stdout else f"--for-denial with {content!r}: {ran}"
     copies = glob.glob(f"{room}/copies/denial-*.db")
@@ -419,8 +409,7 @@ def faults_of_checks(log, question):
 
 def faults_of_rotation(run, log, mark):
     """A mark that logrotate moved away before its minute came is found; one that was moved away long ago is not."""
-    with open(f"{log}-20251201", "w", encoding="utf-8") as file:
-        file.write(mark.replace("7" * 26, "5" * 26))
+    Path(f"{log}-20251201").write_text(mark.replace("7" * 26, "5" * 26), "utf-8")
     os.utime(f"{log}-20251201", (0, 0))
     with open(f"{log}-20261201", "w", encoding="utf-8") as file:
         file.write(mark.replace("7" * 26, "6" * 26).replace("1300", "1301"))
@@ -443,10 +432,10 @@ def faults_of_rotation(run, log, mark):
 
 def faults_of_units():
     """The condition of the units that look for marks, over a log and one that was rotated."""
-    with open(f"{TOP}/deploy/desk-denials@.service", encoding="utf-8") as file:
-        condition = re.search(r"(?m)^ExecCondition=/bin/sh -c '(.*)'$", file.read())[1].replace(
-            "%i", "one"
-        )
+    condition = re.search(
+        r"(?m)^ExecCondition=/bin/sh -c '(.*)'$",
+        Path(f"{TOP}/deploy/desk-denials@.service").read_text("utf-8"),
+    )[1].replace("%i", "one")
     for marked, wanted in (
         ("", 1),
         ("tally-one.log", 0),
@@ -517,8 +506,7 @@ def refused(*words, **given):
 
 def refusals(program, room, office):
     """What is tried, with the words that are wanted of its one line."""
-    with open(f"{room}/no-program", "w", encoding="ascii") as file:
-        file.write("nothing\n")
+    Path(f"{room}/no-program").write_text("nothing\n", "ascii")
     os.chmod(f"{room}/no-program", 0o755)
     os.makedirs(f"{room}/other")
     shutil.copy(__file__, f"{room}/other/notes")
@@ -595,8 +583,7 @@ def faults_of_first(program, room):
 
 def faults_of_second(program, room):
     """A second start of the same folder, behind the proxy: what was done is there, and what is served is the same."""
-    with open(f"{room}/a/keys.json", encoding="ascii") as file:
-        before = file.read()
+    before = Path(f"{room}/a/keys.json").read_text("ascii")
     with Running(program, f"{room}/a", "--proxy", "--unproved") as office:
         yield None if "small proxy" in office.said() else "the proxy is not used"
         for faults in (
@@ -605,8 +592,7 @@ def faults_of_second(program, room):
             faults_of_town(office),
         ):
             yield from faults
-        with open(f"{room}/a/keys.json", encoding="ascii") as file:
-            yield difference("the keys", before, file.read())
+        yield difference("the keys", before, Path(f"{room}/a/keys.json").read_text("ascii"))
         booked = [
             it
             for it in office.json("/riders/104/trips", "clerk")["trips"]

@@ -17,7 +17,7 @@ import sys
 
 from desk_tools.tree import TOP
 from suites.rehearsals import replies_in
-from serving import difference, tally, told_program
+from serving import LINE, POLICY, difference, tally, told_program
 
 try:
     import jsonschema
@@ -158,48 +158,19 @@ TIME = {
     "attendant": True,
     "companions": 1,
 }
+
+
+def put_caller(number, role):
+    digest = hashlib.sha256(role.encode()).hexdigest()
+    fields = {"id": number, "role": role, "subject": CALLERS[role], "digest": digest}
+    return ADMINS_KEY, "putCaller", fields
+
+
 RIGHT = [
-    *(
-        (
-            ADMINS_KEY,
-            "putCaller",
-            {
-                "id": at,
-                "role": role,
-                "subject": 0,
-                "digest": hashlib.sha256(role.encode()).hexdigest(),
-            },
-        )
-        for at, role in enumerate(("clerk", "examiner", "officer", "dispatcher"), 2)
-    ),
-    (
-        ADMINS_KEY,
-        "putPolicy",
-        {
-            "base": 175,
-            "transfer": 50,
-            "fare": 350,
-            "service": 2,
-            "extra_ride": 20,
-            "min_missed": 1,
-            "percent": 1,
-            "span_days": 30,
-        },
-    ),
+    *(put_caller(*it) for it in enumerate(("clerk", "examiner", "officer", "dispatcher"), 2)),
+    (ADMINS_KEY, "putPolicy", {**POLICY, "fare": 350, "min_missed": 1, "percent": 1}),
     (ADMINS_KEY, "putPlace", {"id": 1, "x": 0, "y": 0, "core": False}),
-    (
-        ADMINS_KEY,
-        "putRoute",
-        {
-            "id": 1,
-            "width": 3960,
-            "points": [[0, 0], [100, 0]],
-            "accessible": True,
-            "days": DAYS,
-            "first": 0,
-            "last": 1439,
-        },
-    ),
+    (ADMINS_KEY, "putRoute", {**LINE, "points": [[0, 0], [100, 0]]}),
     (
         "dispatcher",
         "putVehicle",
@@ -216,19 +187,7 @@ RIGHT = [
         },
     ),
     ("clerk", "putRider", {"id": 7, "kind": "resident", "attendant": True, "wheelchair": False}),
-    *(
-        (
-            ADMINS_KEY,
-            "putCaller",
-            {
-                "id": at,
-                "role": role,
-                "subject": CALLERS[role],
-                "digest": hashlib.sha256(role.encode()).hexdigest(),
-            },
-        )
-        for at, role in enumerate(("driver", "rider"), 6)
-    ),
+    *(put_caller(*it) for it in enumerate(("driver", "rider"), 6)),
     ("clerk", "enter", {"rider": 7, "entry": "complete"}),
     ("examiner", "enter", {"rider": 7, "entry": "refuse", "reasons": "not yet"}),
     ("clerk", "enter", {"rider": 7, "entry": "appeal", "against": 1}),

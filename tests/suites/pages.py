@@ -10,7 +10,6 @@ another library than Debian's libfaketime as FAKETIME_LIBRARY, other pages as PA
 where a check failed as PAGES_SIGHTS, and parts of the names of checks, by commas, as PAGES_CHECK. The last line is
 'N passed, M failed', and the exit status 1 where something failed.
 """
-import argparse
 import concurrent.futures
 import glob
 import os
@@ -22,48 +21,20 @@ import tempfile
 import threading
 import time
 
+from desk_tools.arguments import usage_of
 from desk_tools.tree import TOP
 
 PYTHON = "/usr/bin/python3"
-PACKAGES = [
-    "chromium",
-    "chromium-driver",
-    "nginx",
-    "faketime",
-    "openssl",
-    "poppler-utils",
-    "python3-selenium",
-    "python3-brotli",
-    "zbar-tools",
-]
+PACKAGES = """
+    chromium chromium-driver nginx faketime openssl poppler-utils python3-selenium python3-brotli
+    zbar-tools
+""".split()
 # Those that take longest begin first.
-FILES = [
-    "accessible",
-    "spanish",
-    "story",
-    "common",
-    "broken_line",
-    "printed",
-    "names",
-    "moved_in",
-    "booking",
-    "addresses",
-    "driver",
-    "dispatcher",
-    "out_of_service",
-    "clerk",
-    "cases",
-    "week",
-    "admin",
-    "record",
-    "rider",
-    "counted",
-    "left_open",
-    "offers",
-    "no_store",
-    "played_day",
-    "law",
-]
+FILES = """
+    accessible spanish story common broken_line printed names moved_in booking addresses driver
+    dispatcher out_of_service clerk cases week admin record rider counted left_open offers no_store
+    played_day law
+""".split()
 LONGEST, BESIDE = 2700, 2
 # What stands in the list of failed checks for a file that ended before its last one.
 UNENDED = ""
@@ -150,16 +121,12 @@ def run_again(name, words, towns, before):
 
 
 def wanted_words():
-    parser = argparse.ArgumentParser(
-        prog="tests/pages",
-        description=__doc__,
-        formatter_class=argparse.RawDescriptionHelpFormatter,
-    )
-    parser.add_argument("--install", action="store_true")
-    parser.add_argument("--pictures", action="store_true")
-    parser.add_argument("--only", default="")
-    parser.add_argument("--towns", default="")
-    parser.add_argument("program", metavar="PROGRAM")
+    parser = usage_of("tests/pages", __doc__)
+    parser.flag("--install")
+    parser.flag("--pictures")
+    parser.takes("--only", default="")
+    parser.takes("--towns", default="")
+    parser.takes("program PROGRAM")
     words = parser.parse_args()
     if not os.path.isfile(words.program):
         parser.error(f"{words.program} is no file")

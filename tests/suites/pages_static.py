@@ -8,7 +8,6 @@ and select what some page says.
 --install first installs what it takes by apt: node-typescript, nodejs. What is not installed is left out, in one line.
 FOLDER is another folder of pages. The last line is 'N passed, M failed', and the exit status 1 where something failed.
 """
-import argparse
 import functools
 import glob
 import json
@@ -18,6 +17,7 @@ import shutil
 import subprocess
 import sys
 
+from desk_tools.arguments import usage_of
 from desk_tools.tree import TOP
 
 LANGUAGES = ["en", "es"]
@@ -456,13 +456,9 @@ def install():
 
 
 def main():
-    parser = argparse.ArgumentParser(
-        prog="tests/pages_static",
-        description=__doc__,
-        formatter_class=argparse.RawDescriptionHelpFormatter,
-    )
-    parser.add_argument("--install", action="store_true")
-    parser.add_argument("folder", metavar="FOLDER", nargs="?", default=f"{TOP}/pages")
+    parser = usage_of("tests/pages_static", __doc__)
+    parser.flag("--install")
+    parser.takes("folder FOLDER", nargs="?", default=f"{TOP}/pages")
     words = parser.parse_args()
     folder = os.path.realpath(words.folder)
     if words.install:

@@ -14,6 +14,7 @@ import subprocess
 import sys
 import tempfile
 import time
+from pathlib import Path
 
 from desk_tools.tree import TOP
 import serving
@@ -30,15 +31,13 @@ TAKES = '#!/bin/sh\n{ echo "to $*"; cat; echo "--"; } >>sent\n'
 
 
 def write(path, text, mode=0o644):
-    with open(path, "w", encoding="utf-8") as file:
-        file.write(text)
+    Path(path).write_text(text, "utf-8")
     os.chmod(path, mode)
 
 
 def read(path):
     try:
-        with open(path, encoding="utf-8") as file:
-            return file.read()
+        return Path(path).read_text("utf-8")
     except FileNotFoundError:
         return ""
 

@@ -21,6 +21,7 @@ import subprocess
 import sys
 import tempfile
 import zipfile
+from pathlib import Path
 
 from desk_tools.tree import TOP
 import serving
@@ -262,8 +263,7 @@ def faults_of_notes(folder, copy, day, agency):
     wanted = f'Day,Time,Vehicle,Trip,Note\n{day},10:15,Van <1>,,"\'=flat tire, Van 7"\n{day},10:20,Van <1>,1,left at the side door\n'
     yield difference("the notes of a day", wanted, csv_told(*words))
     run_of(*words, "--html", f"{folder}/page.html")
-    with open(f"{folder}/page.html", encoding="utf-8") as file:
-        text = file.read()
+    text = Path(f"{folder}/page.html").read_text("utf-8")
     for part in "Notes of the day", "left at the side door", "Van &lt;1&gt;", "Trips asked for":
         yield None if part in text else f"the day's page does not say {part!r}"
     ran = run_of("day", copy, "--from", day, "--to", day)
@@ -275,8 +275,7 @@ def faults_of_notes(folder, copy, day, agency):
 
 
 def page_in(path):
-    with open(path, encoding="utf-8") as file:
-        return Page(file.read())
+    return Page(Path(path).read_text("utf-8"))
 
 
 def faults_of_page(folder, copy, log, agency):
@@ -1031,8 +1030,7 @@ def faults_of_copies(folder, copy):
         yield refused(
             "an empty file", run_of(report, write(f"{folder}/empty.db")), "is no database of SQLite"
         )
-        with open(copy, "rb") as file:
-            content = file.read()
+        content = Path(copy).read_bytes()
         for length in 40, 99, 4_096, len(content) // 2, len(content) - 1:
             said = f"was cut: it has {length:,} bytes of "
             yield refused(
@@ -1239,13 +1237,11 @@ def all_faults(program):
         copy, log = made_months(program, folder)
         yield from faults_of_months(folder, copy, log)
         yield from faults_of_corrections(folder, copy, log)
-        with open(copy, "rb") as file:
-            before = file.read()
+        before = Path(copy).read_bytes()
         yield from faults_of_copies(folder, copy)
         yield from faults_of_logs(folder, copy)
         yield from faults_of_words(copy)
-        with open(copy, "rb") as file:
-            yield None if file.read() == before else f"{copy} was changed"
+        yield None if Path(copy).read_bytes() == before else f"{copy} was changed"
 
 
 if __name__ == "__main__":

@@ -11,6 +11,7 @@ import stat
 import subprocess
 import sys
 import tempfile
+from pathlib import Path
 
 from desk_tools.tree import TOP
 from desk_tools.setup import agency_file, site_files
@@ -103,8 +104,7 @@ def files_in(folder):
 
 
 def text_in(folder, path):
-    with open(f"{folder}/site/{path}", encoding="utf-8") as file:
-        return file.read()
+    return Path(f"{folder}/site/{path}").read_text("utf-8")
 
 
 # What is published.
@@ -138,10 +138,11 @@ def faults_of_whole(folder):
         yield difference(
             f"unproved {value}", wanted, json.loads(site_files.texts_of(agency)["agency.json"])
         )
-    with open(f"{TOP}/pages/agency.json", "rb") as file:
-        yield difference(
-            "the example of the pages", [], agency_file.of_bytes(file.read(), "agency.json").faults
-        )
+    yield difference(
+        "the example of the pages",
+        [],
+        agency_file.of_bytes(Path(f"{TOP}/pages/agency.json").read_bytes(), "agency.json").faults,
+    )
 
 
 def faults_of_shared_homes(folder):
@@ -174,8 +175,7 @@ def faults_of_shared_homes(folder):
 
 def faults_of_rosters(folder):
     """Rosters are given where they are named, and taken away where they are not; other files stay."""
-    with open(f"{folder}/roster.csv", "w", encoding="utf-8") as file:
-        file.write(ROSTER)
+    Path(f"{folder}/roster.csv").write_text(ROSTER, "utf-8")
     path = f"{folder}/roster.csv"
     run = made(folder, WHOLE, "--roster", path, "--drivers", path)
     told = [f"{path}: row 2: usual 9 is no place of the agency", f"{path}: row 3: name is missing"]
@@ -185,8 +185,7 @@ def faults_of_rosters(folder):
     yield difference("the roster of staff", wanted, text_in(folder, "staff/roster.csv"))
     wanted = 'rider,name,note\n101,"Núñez, Ana",\n'
     yield difference("the roster of drivers", wanted, text_in(folder, "drivers/roster.csv"))
-    with open(f"{folder}/site/staff/worklist.html", "w", encoding="utf-8") as file:
-        file.write("kept")
+    Path(f"{folder}/site/staff/worklist.html").write_text("kept", "utf-8")
     made(folder, {**WHOLE, "places": [HALL, {**HOME, "private": 102}]})
     wanted = [
         "agency.json",
@@ -271,11 +270,11 @@ UNREADABLE = [
 
 def faults_of_duty(folder):
     """Who drives what: rows that are right, by day and vehicle, and a sentence for each other row."""
-    with open(f"{folder}/duty.csv", "w", encoding="utf-8") as file:
-        file.write(
-            'day,vehicle,label\n2026-12-07,9,Ann\n2026-12-07,109,"Joe Núñez, in Van 144"\n2026-12-07,9,Bo\n2026-13-07,1,x\n'
-            "2026-12-07,0,y\n2026-12-07,5,\n2026-12-07,5," + "z" * 61 + "\n"
-        )
+    Path(f"{folder}/duty.csv").write_text(
+        'day,vehicle,label\n2026-12-07,9,Ann\n2026-12-07,109,"Joe Núñez, in Van 144"\n2026-12-07,9,Bo\n2026-13-07,1,x\n'
+        "2026-12-07,0,y\n2026-12-07,5,\n2026-12-07,5," + "z" * 61 + "\n",
+        "utf-8",
+    )
     run = made(folder, WHOLE, "--duty", f"{folder}/duty.csv")
     wanted = {"2026-12-07": {"9": "Bo", "109": "Joe Núñez, in Van 144"}}
     yield difference(
@@ -290,8 +289,7 @@ def faults_of_duty(folder):
         (8, "one line of 1 to 60"),
     ):
         yield None if f"row {row}: " in run.stderr and said in run.stderr else f"row {row} of duty.csv: {run.stderr}"
-    with open(f"{folder}/duty.csv", "w", encoding="utf-8") as file:
-        file.write("a,b\n1,2\n")
+    Path(f"{folder}/duty.csv").write_text("a,b\n1,2\n", "utf-8")
     run = made(folder, WHOLE, "--duty", f"{folder}/duty.csv")
     yield difference(
         "a file without its columns",
@@ -570,8 +568,7 @@ def faults_of_kills(folder):
     chance = random.Random(SEED)
     many = {**WHOLE, "places": [{**HOME, "id": it, "private": it} for it in range(1, 101)]}
     for turn in range(10):
-        with open(f"{folder}/agency.json", "w", encoding="utf-8") as file:
-            json.dump(many if turn % 2 else WHOLE, file)
+        Path(f"{folder}/agency.json").write_text(json.dumps(many if turn % 2 else WHOLE), "utf-8")
         run = subprocess.Popen(
             [SITE_FILES, f"{folder}/agency.json", f"{folder}/site"], stdout=subprocess.DEVNULL
         )

@@ -15,6 +15,7 @@ import signal
 import subprocess
 import sys
 import tempfile
+from pathlib import Path
 from types import SimpleNamespace
 
 from desk_tools.tree import TOP
@@ -144,12 +145,11 @@ def faults_of_spreadsheets(room):
             "12/24/2026..12/25/2026",
             "Señal",
         ]
-        with open(f"{folder}/orders.csv", "wb") as file:
-            file.write(
-                "\r\n".join(
-                    [HEADER.strip().upper().replace(",", mark), mark.join(line), ""]
-                ).encode(encoding)
+        Path(f"{folder}/orders.csv").write_bytes(
+            "\r\n".join([HEADER.strip().upper().replace(",", mark), mark.join(line), ""]).encode(
+                encoding
             )
+        )
         run = subprocess.run(
             [TOOL, "orders.csv", "--plan", "--today", "2026-11-29"],
             cwd=folder,
@@ -166,10 +166,9 @@ def faults_of_spreadsheets(room):
             and "2026-11-30, order" not in run.stdout
         )
         yield None if is_right else f"{AS_SAVED[at]}: {run}"
-        with open(f"{folder}/capacity.csv", "wb") as file:
-            file.write(
-                f"Weekday{mark}Hour{mark}Trips\r\nMon-Fri{mark}9.0{mark}012\r\n".encode(encoding)
-            )
+        Path(f"{folder}/capacity.csv").write_bytes(
+            f"Weekday{mark}Hour{mark}Trips\r\nMon-Fri{mark}9.0{mark}012\r\n".encode(encoding)
+        )
         found = share.capacity_in(f"{folder}/capacity.csv")
         yield difference(f"capacity as {encoding}", {(day, 9): 12 for day in range(1, 6)}, found)
 

@@ -43,6 +43,7 @@ import subprocess
 import sys
 import tempfile
 import time
+from pathlib import Path
 
 from desk_tools.tree import TOP
 from serving import (
@@ -305,8 +306,7 @@ def without_ending(folder, ending):
     found = {}
     for name in NAMES:
         if os.path.exists(f"{folder}/{name}{ending}"):
-            with open(f"{folder}/{name}{ending}", "rb") as file:
-                found[name] = file.read()
+            found[name] = Path(f"{folder}/{name}{ending}").read_bytes()
     return found
 
 
@@ -318,8 +318,7 @@ class Machine:
         self.folder, self.other_folder = f"{folder}/run", f"{folder}/left"
         self.file, self.left_file = f"{self.folder}/{DATABASE}", f"{self.other_folder}/{DATABASE}"
         self.tried = collections.Counter()
-        with open(f"{folder}/stopping.c", "w", encoding="utf-8") as text:
-            text.write(LIBRARY)
+        Path(f"{folder}/stopping.c").write_text(LIBRARY, "utf-8")
         subprocess.run(
             ["gcc", "-O1", "-shared", "-fPIC", "-o", self.library, f"{folder}/stopping.c", "-ldl"],
             check=True,
@@ -337,8 +336,7 @@ class Machine:
 
     def stopping(self, how, name=LOG, at=0, **more):
         """What the environment of a program needs at whose call the machine stops."""
-        with open(self.told, "wb") as file:
-            file.write(bytes(TOLD.size))
+        Path(self.told).write_bytes(bytes(TOLD.size))
         given = {
             "HOW": how,
             "CHOSEN": NAMES.index(name),
@@ -358,8 +356,7 @@ class Machine:
 
     def heard(self):
         """What the library told: how many calls of each file there were, whether a stop came, and which files the folder may not have."""
-        with open(self.told, "rb") as file:
-            of_database, of_log, came, *unnamed = TOLD.unpack(file.read())
+        of_database, of_log, came, *unnamed = TOLD.unpack(Path(self.told).read_bytes())
         return Told(
             {DATABASE: of_database, LOG: of_log},
             bool(came),
@@ -619,8 +616,7 @@ def faults_of_migrated(case, machine, label, allowed):
 
 
 def kept_bytes(name):
-    with open(f"{KEPT}/{name}", "rb") as file:
-        return file.read()
+    return Path(f"{KEPT}/{name}").read_bytes()
 
 
 def faults_of_told(label, desk):
@@ -749,8 +745,7 @@ def torn_booking(machine, case):
 
 def all_faults(machine, folder, step):
     times = f"{folder}/times.csv"
-    with open(times, "w", encoding="utf-8") as text:
-        text.write(TIMES)
+    Path(times).write_text(TIMES, "utf-8")
     init = Command("init", {}, lambda file: ["init", file, ADMINS_KEY], faults_of_made)
     yield from faults_of_stops(machine, init, step)
     first = Served("the first messages", init.files_after, FIRST_MESSAGES)

@@ -11,6 +11,7 @@ import stat
 import subprocess
 import sys
 import tempfile
+from pathlib import Path
 
 from desk_tools.tree import TOP
 import serving
@@ -80,8 +81,7 @@ def faults_of_day(desk, room):
         f"the run: {run}", (0, True), (run.returncode, "not compared with the report" in run.stdout)
     )
     yield difference("who reads it", 0o600, stat.S_IMODE(os.stat(f"{room}/trips.json").st_mode))
-    with open(f"{room}/trips.json", encoding="utf-8") as file:
-        held = json.load(file)
+    held = json.loads(Path(f"{room}/trips.json").read_text("utf-8"))
     trips = {it["tripRequest"]["tripTicketId"]: it for it in held["trips"]}
     export = list(
         csv.DictReader(desk.get(f"/days/{TOMORROW}/trips.csv", "radio").body.splitlines())
@@ -128,8 +128,7 @@ def faults_of_day(desk, room):
         f"{room}/numbers.json",
         "--without-names",
     )
-    with open(f"{room}/numbers.json", encoding="utf-8") as file:
-        text = file.read()
+    text = Path(f"{room}/numbers.json").read_text("utf-8")
     yield None if "Ana" not in text and "555-0107" not in text and '"1006"' not in text else "names are there without names"
 
 

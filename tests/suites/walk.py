@@ -19,6 +19,7 @@ import sys
 import tempfile
 import time
 
+from desk_tools.arguments import usage_of
 from desk_tools.tree import TOP
 
 os.environ["PATH"] = f"{os.environ.get('PATH', '/usr/bin:/bin')}:/usr/sbin"
@@ -156,20 +157,18 @@ def with_faults(words: argparse.Namespace) -> int:
 
 def main() -> int:
     """Reads the words of the command."""
-    parser = argparse.ArgumentParser(
-        prog="tests/walk", description=__doc__, formatter_class=argparse.RawDescriptionHelpFormatter
-    )
-    parser.add_argument("--seed", type=int, default=None)
-    parser.add_argument("--steps", type=int, default=100)
-    parser.add_argument("--role", default="clerk,rider,dispatcher,driver,examiner,officer,admin")
-    parser.add_argument("--seconds", type=float, default=86_400)
-    parser.add_argument("--towns", default="")
-    parser.add_argument("--actions", action="store_true")
-    parser.add_argument("--first", action="store_true")
-    parser.add_argument("--planted", default=None, const="", nargs="?", metavar="NAME")
-    parser.add_argument("--does", default="", metavar="TASK")
-    parser.add_argument("--beside", type=int, default=BESIDE)
-    parser.add_argument("program", metavar="PROGRAM")
+    parser = usage_of("tests/walk", __doc__)
+    parser.takes("--seed", type=int, default=None)
+    parser.takes("--steps", type=int, default=100)
+    parser.takes("--role", default="clerk,rider,dispatcher,driver,examiner,officer,admin")
+    parser.takes("--seconds", type=float, default=86_400)
+    parser.takes("--towns", default="")
+    parser.flag("--actions")
+    parser.flag("--first")
+    parser.takes("--planted NAME", default=None, const="", nargs="?")
+    parser.takes("--does TASK", default="")
+    parser.takes("--beside", type=int, default=BESIDE)
+    parser.takes("program PROGRAM")
     words = parser.parse_args()
     if not os.path.isfile(words.program):
         parser.error(f"{words.program} is no file")

@@ -12,6 +12,7 @@ import stat
 import subprocess
 import sys
 import tempfile
+from pathlib import Path
 
 from desk_tools.tree import TOP
 import serving
@@ -133,10 +134,8 @@ def faults_of_words(room, file, copy, folder):
     yield refused(
         "another program's file", ran(other, f"{room}/x"), "no sound copy of a desk's file"
     )
-    with open(copy, "rb") as file_of_copy:
-        content = file_of_copy.read()
-    with open(f"{room}/cut.db", "wb") as cut:
-        cut.write(content[: len(content) // 2])
+    content = Path(copy).read_bytes()
+    Path(f"{room}/cut.db").write_bytes(content[: len(content) // 2])
     yield refused("a copy that was cut", ran(f"{room}/cut.db", f"{room}/x"), "was cut")
     serving.copy_database(copy, f"{room}/odd.db")
     serving.with_database(f"{room}/odd.db", lambda it: it.execute("UPDATE stops SET kind = 7"))

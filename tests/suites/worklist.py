@@ -603,8 +603,7 @@ def faults_of_lists(folder, copy, words):
     """Each list of the page has the rows that were worked by hand, and the text has the same."""
     ran = run_of(copy, *words, "--html", f"{folder}/page.html")
     yield difference("the page's run", (0, ""), (ran.returncode, ran.stderr))
-    with open(f"{folder}/page.html", encoding="utf-8") as file:
-        text = file.read()
+    text = pathlib.Path(f"{folder}/page.html").read_text("utf-8")
     page = Page(text)
     printed = run_of(copy, *words).stdout
     squeezed = [re.sub(" {2,}", "|", it) for it in printed.splitlines()]
@@ -648,8 +647,7 @@ def faults_of_counts(folder, copy, words):
     def titles_of(label, given, wanted):
         ran = run_of(copy, *given, "--html", f"{folder}/counts.html")
         yield difference(f"{label}: the page's run", 0, ran.returncode)
-        with open(f"{folder}/counts.html", encoding="utf-8") as file:
-            text = file.read()
+        text = pathlib.Path(f"{folder}/counts.html").read_text("utf-8")
         counts, nothing = counts_of(text)
         links = {
             name: title[title.find(":") :] if ":" in title else ""
@@ -803,11 +801,9 @@ def faults_of_refusals(folder, copy):
     yield refused("a text", other, "is no database of SQLite")
     yield refused("no file", f"{folder}/none.db", "can't be read: No such file")
     os.makedirs(f"{folder}/empty")
-    with open(copy, "rb") as file:
-        content = file.read()
+    content = pathlib.Path(copy).read_bytes()
     for length in 40, 4_096, len(content) - 1:
-        with open(f"{folder}/cut.db", "wb") as file:
-            file.write(content[:length])
+        pathlib.Path(f"{folder}/cut.db").write_bytes(content[:length])
         yield refused(
             f"a file cut to {length} bytes",
             f"{folder}/cut.db",
@@ -883,8 +879,7 @@ def faults_of_other_copies(folder, copy, words):
 
 def faults(program, folder):
     file, copy, words = made(program, folder)
-    with open(copy, "rb") as bytes_of_copy:
-        before = bytes_of_copy.read()
+    before = pathlib.Path(copy).read_bytes()
     yield from faults_of_lists(folder, copy, words)
     yield from faults_of_counts(folder, copy, words)
     yield from faults_of_standings(program, file, copy)
@@ -893,8 +888,7 @@ def faults(program, folder):
     yield from faults_of_policies(copy)
     yield from faults_of_refusals(folder, copy)
     yield from faults_of_other_copies(folder, copy, words)
-    with open(copy, "rb") as bytes_of_copy:
-        yield None if bytes_of_copy.read() == before else f"{copy} was changed"
+    yield None if pathlib.Path(copy).read_bytes() == before else f"{copy} was changed"
 
 
 def main(program):

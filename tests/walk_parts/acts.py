@@ -452,19 +452,12 @@ def choose_van(walker: "Walker") -> Task:
         yield keys(walker, Keys.ENTER)
 
 
-STOP_WORDS = (
-    "driver.arrived",
-    "driver.aboard",
-    "driver.ridden",
-    "driver.missed-rider",
-    "driver.missed-operator",
-    "driver.left",
-    "driver.done-here",
-    "driver.start-here",
-    "driver.to-next",
-    "driver.take-back",
-    "driver.all-stops",
-    "driver.next",
+STOP_WORDS = tuple(
+    """
+    driver.arrived driver.aboard driver.ridden driver.missed-rider driver.missed-operator
+    driver.left driver.done-here driver.start-here driver.to-next driver.take-back driver.all-stops
+    driver.next
+    """.split()
 )
 
 

@@ -19,14 +19,7 @@ PARTS: dict[str, list[tuple[str, str]]] = {
     "examiner": [(it, "cases.cases") for it in ("grant", "refuse", "in-part", "rest")],
     "officer": [
         (it, "cases.cases")
-        for it in (
-            "heard",
-            "appeal-granted",
-            "appeal-denied",
-            "overturn",
-            "notice-heard",
-            "suspend",
-        )
+        for it in "heard appeal-granted appeal-denied overturn notice-heard suspend".split()
     ],
 }
 # Whose case fits an entry, by the standing on the first day.

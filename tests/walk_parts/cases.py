@@ -46,19 +46,11 @@ APPEALABLE, ANSWERED, APPEAL_DAYS = (
 )
 # The desk's name of what the form of a kind enters, where it is another one.
 ENTRIES = {"in-part": "refuse", "rest": "grant"}
-KINDS = (
-    "complete",
-    "grant",
-    "in-part",
-    "rest",
-    "refuse",
-    "heard",
-    "appeal-granted",
-    "appeal-denied",
-    "overturn",
-    "notice",
-    "notice-heard",
-    "suspend",
+KINDS = tuple(
+    """
+    complete grant in-part rest refuse heard appeal-granted appeal-denied overturn notice
+    notice-heard suspend
+    """.split()
 )
 # Of entries in a row at most four have no letter.
 WITHOUT_LETTER = 4

@@ -6,6 +6,7 @@ import shutil
 import subprocess
 import tempfile
 from dataclasses import dataclass
+from pathlib import Path
 
 WALK = os.path.join(os.path.dirname(os.path.dirname(os.path.realpath(__file__))), "walk")
 SECONDS = 600
@@ -330,12 +331,10 @@ def planted_in(pages: str, fault: Planted, folder: str) -> str:
     copy = os.path.join(folder, "pages")
     shutil.copytree(pages, copy)
     path = os.path.join(copy, fault.file)
-    with open(path, encoding="utf-8") as file:
-        text = file.read()
+    text = Path(path).read_text("utf-8")
     if fault.old not in text:
         raise ValueError(f"{fault.file} has no {fault.old!r}")
-    with open(path, "w", encoding="utf-8") as file:
-        file.write(text.replace(fault.old, fault.new, 1))
+    Path(path).write_text(text.replace(fault.old, fault.new, 1), "utf-8")
     return copy
 
 

@@ -5,34 +5,12 @@ import re
 
 DASH = "–"
 CONDITION = re.compile(r"(?<![\w:])(always|nolift|months:[\d,]+|farther:\d+)(;|$)")
-MONTHS = [
-    "January",
-    "February",
-    "March",
-    "April",
-    "May",
-    "June",
-    "July",
-    "August",
-    "September",
-    "October",
-    "November",
-    "December",
-]
-MONTHS_ES = [
-    "enero",
-    "febrero",
-    "marzo",
-    "abril",
-    "mayo",
-    "junio",
-    "julio",
-    "agosto",
-    "septiembre",
-    "octubre",
-    "noviembre",
-    "diciembre",
-]
+MONTHS = """
+    January February March April May June July August September October November December
+""".split()
+MONTHS_ES = """
+    enero febrero marzo abril mayo junio julio agosto septiembre octubre noviembre diciembre
+""".split()
 
 
 def clock(minute: int, halves: tuple[str, str] = ("AM", "PM")) -> str:

@@ -8,6 +8,7 @@ import os
 import random
 import subprocess
 import time
+from pathlib import Path
 from typing import Any
 
 import people
@@ -301,8 +302,7 @@ class WalkTown(base.Town):
         made = subprocess.run(words, capture_output=True, text=True, check=False)
         if made.returncode:
             raise Trouble(f"bin/worklist: {made.stderr}")
-        with open(path, encoding="utf-8") as file:
-            self.worklists.append(file.read())
+        self.worklists.append(Path(path).read_text("utf-8"))
 
     def now(self) -> datetime.datetime:
         """What the town's clock shows."""
@@ -311,8 +311,7 @@ class WalkTown(base.Town):
     def goes_to(self, moment: datetime.datetime) -> None:
         """The town's clock goes on from this moment. It runs, as clocks do: a page asks again after so many seconds of it. The night makes the list of what waits."""
         self.ahead = round(moment.timestamp() - time.time())
-        with open(f"{self.desk.clock}.new", "w", encoding="ascii") as text:
-            text.write(f"{self.ahead:+d}\n")
+        Path(f"{self.desk.clock}.new").write_text(f"{self.ahead:+d}\n", "ascii")
         # (a program that reads an empty file would believe the machine's clock)
         os.replace(f"{self.desk.clock}.new", self.desk.clock)
         if (day := self.now().date().isoformat()) != self.today or not self.worklists:
@@ -324,8 +323,7 @@ class WalkTown(base.Town):
         """The lines of the site's log of what it was told."""
         if not os.path.exists(self.tally_log):
             return []
-        with open(self.tally_log, encoding="utf-8") as log:
-            return log.read().splitlines()
+        return Path(self.tally_log).read_text("utf-8").splitlines()
 
 
 Past = list[tuple[int, str, str, dict[str, Any]]]

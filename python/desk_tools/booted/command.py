@@ -30,6 +30,7 @@ from pathlib import Path
 from types import FrameType
 
 from desk_tools import ending
+from desk_tools.arguments import usage_of
 from desk_tools.booted import (
     acme,
     earlier,
@@ -81,26 +82,21 @@ class TooLong(RuntimeError):
 
 def words_of(arguments: list[str]) -> argparse.Namespace:
     """The command's words."""
-    words = argparse.ArgumentParser(
-        "tests/booted", description=__doc__, formatter_class=argparse.RawDescriptionHelpFormatter
-    )
-    words.add_argument("--all", action="store_true", help="the slow parts too, and two machines")
-    words.add_argument(
+    words = usage_of("tests/booted", __doc__)
+    words.flag("--all", "the slow parts too, and two machines")
+    words.takes(
         "--only",
+        "this part alone, and the setup",
         choices=[*PARTS, *SLOW, *LAST, SETUPS, TWO, MOVING_IN, EARLIER],
-        help="this part alone, and the setup",
     )
-    words.add_argument("--keep", type=Path, help="a folder in which the machines stay, to look at")
-    words.add_argument(
-        "--package", type=Path, help="a package that is tried in place of this tree's"
-    )
-    words.add_argument(
-        "--earlier",
-        metavar="FILE",
+    words.takes("--keep", "a folder in which the machines stay, to look at", type=Path)
+    words.takes("--package", "a package that is tried in place of this tree's", type=Path)
+    words.takes(
+        "--earlier FILE",
+        "a package of an earlier version: a machine that it set up is upgraded",
         type=Path,
-        help="a package of an earlier version: a machine that it set up is upgraded",
     )
-    words.add_argument("program", metavar="PROGRAM", type=Path)
+    words.takes("program PROGRAM", type=Path)
     return words.parse_args(arguments)
 
 

@@ -10,7 +10,9 @@ from desk_tools.build import sources
 CRATE = "crates/pt_app"
 PROGRAM, NOTE = f"{CRATE}/out/pt_app", f"{CRATE}/out/desk.built"
 # Where bin/meter and bin/desk keep what they saw of proofs on this machine.
-STATE = os.path.join(os.environ.get("XDG_STATE_HOME") or os.path.expanduser("~/.local/state"), "desk-gate")
+STATE = os.path.join(
+    os.environ.get("XDG_STATE_HOME") or os.path.expanduser("~/.local/state"), "desk-gate"
+)
 # Of each text of a crate that was proved, how many functions it has.
 COUNTS = f"{STATE}/functions.json"
 # Two kits with the same logic prove alike, whatever else differs in them.
@@ -61,7 +63,9 @@ def keep_counts(top: str, lines: list[str]) -> None:
     found: dict[str, int] = {}
     crate: str | None = None
     for line in lines:
-        named, proved = re.match(r"== (\w+)$", line), re.match(r"logic=proved functions=(\d+)", line)
+        named, proved = re.match(r"== (\w+)$", line), re.match(
+            r"logic=proved functions=(\d+)", line
+        )
         crate = named[1] if named else crate
         if proved and crate and os.path.isdir(f"{top}/crates/{crate}"):
             found[sources.digest_of_crate(top, crate)], crate = int(proved[1]), None
@@ -74,5 +78,7 @@ def keep_counts(top: str, lines: list[str]) -> None:
 
 def functions_proved(top: str) -> int | None:
     """How many functions the prover counted in the crates of the program; None where a crate's count is missing."""
-    counts, own = read(COUNTS), [sources.digest_of_crate(top, it) for it in sources.crates_of(top)[0]]
+    counts, own = read(COUNTS), [
+        sources.digest_of_crate(top, it) for it in sources.crates_of(top)[0]
+    ]
     return sum(counts[it] for it in own) if all(it in counts for it in own) else None

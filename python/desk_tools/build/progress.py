@@ -35,7 +35,12 @@ class Progress:
             minutes = int((time.monotonic() - start) // 60)
             line = f"bin/desk: {done} of {len(self.crates)} crates done, {minutes} minutes so far"
             if is_seen or done != self.said:
-                print(f"\r\033[K{line} " if is_seen else line, end="" if is_seen else "\n", file=sys.stderr, flush=True)
+                print(
+                    f"\r\033[K{line} " if is_seen else line,
+                    end="" if is_seen else "\n",
+                    file=sys.stderr,
+                    flush=True,
+                )
             self.said = done
 
     def __enter__(self) -> None:

@@ -16,9 +16,17 @@ LEFT_OUT = "out", "must-fail"
 def copy_crates(top: str, folder: str, crates: list[str]) -> None:
     """Copies these crates, their lines of crates.txt and HANDLES."""
     for name in crates:
-        shutil.copytree(f"{top}/crates/{name}", f"{folder}/crates/{name}", ignore=shutil.ignore_patterns(*LEFT_OUT))
+        shutil.copytree(
+            f"{top}/crates/{name}",
+            f"{folder}/crates/{name}",
+            ignore=shutil.ignore_patterns(*LEFT_OUT),
+        )
     with open(f"{top}/crates.txt", encoding="utf-8") as file:
-        lines = [line for line in file if line.split(":")[0].split()[:1] and line.split(":")[0].split()[0] in crates]
+        lines = [
+            line
+            for line in file
+            if line.split(":")[0].split()[:1] and line.split(":")[0].split()[0] in crates
+        ]
     with open(f"{folder}/crates.txt", "w", encoding="utf-8") as file:
         file.writelines(lines)
     shutil.copy(f"{top}/HANDLES", folder)

@@ -8,13 +8,20 @@ PARTS = "src", "specs", "proofs"
 
 def files_of(top: str, crate: str) -> list[str]:
     """The files of one crate, or of each by `*`, by their names from the top, in order."""
-    found = [it for part in PARTS for it in glob.glob(f"{top}/crates/{crate}/{part}/**", recursive=True)]
+    found = [
+        it for part in PARTS for it in glob.glob(f"{top}/crates/{crate}/{part}/**", recursive=True)
+    ]
     return sorted(os.path.relpath(it, top) for it in found if os.path.isfile(it))
 
 
 def files(top: str) -> list[str]:
     """Their names from the top, in order."""
-    return sorted([*files_of(top, "*"), *(it for it in ("crates.txt", "HANDLES") if os.path.isfile(f"{top}/{it}"))])
+    return sorted(
+        [
+            *files_of(top, "*"),
+            *(it for it in ("crates.txt", "HANDLES") if os.path.isfile(f"{top}/{it}")),
+        ]
+    )
 
 
 def digest_of(path: str) -> str:
@@ -24,7 +31,9 @@ def digest_of(path: str) -> str:
 
 def digest_of_files(top: str, names: list[str]) -> str:
     """The SHA-256 of a list as `sha256sum` prints it: a line a file."""
-    return hashlib.sha256("".join(f"{digest_of(f'{top}/{it}')}  {it}\n" for it in names).encode()).hexdigest()
+    return hashlib.sha256(
+        "".join(f"{digest_of(f'{top}/{it}')}  {it}\n" for it in names).encode()
+    ).hexdigest()
 
 
 def digest(top: str) -> str:

@@ -17,31 +17,25 @@ import contextlib
 import sys
 
 from desk_tools import ending
+from desk_tools.arguments import usage_of
 from desk_tools.setup import gathering, whole_file
 from desk_tools.setup.limits import Wrong
 
 
 def words_of(arguments: list[str]) -> argparse.Namespace:
-    parser = argparse.ArgumentParser(
-        "bin/address", description=__doc__, formatter_class=argparse.RawDescriptionHelpFormatter
+    parser = usage_of("bin/address", __doc__)
+    parser.takes("csv CSV", "the table of addresses; it is made where there is none")
+    parser.takes("--folder", "where agency.json and plane.json are", default=".")
+    parser.takes("--street", "the address, as people say it", required=True)
+    parser.takes("--at LATITUDE,LONGITUDE", "where it is", required=True)
+    parser.takes("--id NUMBER", "the number of the address")
+    parser.takes("--note", "what a driver has to know", default="")
+    parser.takes("--rider NUMBER", "whose home it is", default="")
+    parser.takes(
+        "--riders CSV",
+        "number and conditions of riders: the home is at no place where its rider's grant holds less",
     )
-    parser.add_argument(
-        "csv", metavar="CSV", help="the table of addresses; it is made where there is none"
-    )
-    parser.add_argument("--folder", default=".", help="where agency.json and plane.json are")
-    parser.add_argument("--street", required=True, help="the address, as people say it")
-    parser.add_argument("--at", required=True, metavar="LATITUDE,LONGITUDE", help="where it is")
-    parser.add_argument("--id", metavar="NUMBER", help="the number of the address")
-    parser.add_argument("--note", default="", help="what a driver has to know")
-    parser.add_argument("--rider", default="", metavar="NUMBER", help="whose home it is")
-    parser.add_argument(
-        "--riders",
-        metavar="CSV",
-        help="number and conditions of riders: the home is at no place where its rider's grant holds less",
-    )
-    parser.add_argument(
-        "--plan", action="store_true", help="says what it would do, and does nothing"
-    )
+    parser.flag("--plan", "says what it would do, and does nothing")
     return parser.parse_args(arguments)
 
 

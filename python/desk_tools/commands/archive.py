@@ -9,26 +9,24 @@ The earlier file stays in a folder beside it. The environment may give FILE, the
 
 from __future__ import annotations
 
-import argparse
 import sys
 
+from desk_tools.arguments import Usage
 from desk_tools.ops.archiving import Archive
 from desk_tools.ops.ending import run_script
 from desk_tools.ops.places import Desk
 
 
 def main(words: list[str]) -> None:
-    usage = argparse.ArgumentParser(
-        prog="deploy/archive",
+    usage = Usage(
+        "deploy/archive",
         description=__doc__.partition("\n\n")[0],
         epilog="the environment may give FILE and DESK",
     )
-    usage.add_argument("day", metavar="DAY", help="the first day that stays, YYYY-MM-DD")
-    usage.add_argument("archive", metavar="ARCHIVE", nargs="?", help="the new file")
-    usage.add_argument("agency", metavar="AGENCY", nargs="?", help="the agency's short name (main)")
-    usage.add_argument(
-        "--dry-run", action="store_true", help="say what would be done, and do nothing"
-    )
+    usage.takes("day DAY", "the first day that stays, YYYY-MM-DD")
+    usage.takes("archive ARCHIVE", "the new file", nargs="?")
+    usage.takes("agency AGENCY", "the agency's short name (main)", nargs="?")
+    usage.flag("--dry-run", "say what would be done, and do nothing")
     given = usage.parse_args(words)
     if not given.archive and not given.dry_run:
         usage.error("ARCHIVE is missing")

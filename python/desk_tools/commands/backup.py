@@ -24,12 +24,12 @@ the program that judges the copy (that of the process, else /usr/bin/desk).
 
 from __future__ import annotations
 
-import argparse
 import json
 import os
 import sys
 from pathlib import Path
 
+from desk_tools.arguments import usage_of
 from desk_tools.ops.backing_up import Backup, MOST
 from desk_tools.ops.content import content_of, identity_of
 from desk_tools.ops.ending import Failure, run_script, WRONG_WORDS
@@ -45,28 +45,14 @@ def seconds_of(text: str) -> int:
 
 
 def main(words: list[str]) -> None:
-    usage = argparse.ArgumentParser(
-        prog="deploy/backup",
-        description=__doc__,
-        formatter_class=argparse.RawDescriptionHelpFormatter,
+    usage = usage_of("deploy/backup", __doc__)
+    usage.flag(
+        "--for-denial", "COPY is a folder, which gets a copy for the denials that dispatch marked"
     )
-    usage.add_argument(
-        "--for-denial",
-        action="store_true",
-        help="COPY is a folder, which gets a copy for the denials that dispatch marked",
-    )
-    usage.add_argument(
-        "--identity",
-        action="store_true",
-        help="print by what the agency of the backup COPY is known",
-    )
-    usage.add_argument(
-        "--files",
-        action="store_true",
-        help="COPY gets the names of the files of the machine's copy",
-    )
-    usage.add_argument("copy", metavar="COPY", help="the new file")
-    usage.add_argument("agency", metavar="AGENCY", nargs="?", help="the agency's short name (main)")
+    usage.flag("--identity", "print by what the agency of the backup COPY is known")
+    usage.flag("--files", "COPY gets the names of the files of the machine's copy")
+    usage.takes("copy COPY", "the new file")
+    usage.takes("agency AGENCY", "the agency's short name (main)", nargs="?")
     given = usage.parse_args(words)
     if given.identity:
         print(json.dumps(identity_of(content_of(given.copy))))

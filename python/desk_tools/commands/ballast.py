@@ -8,22 +8,22 @@ may give FILE, the database.
 
 from __future__ import annotations
 
-import argparse
 import sys
 from typing import Any
 
+from desk_tools.arguments import Usage
 from desk_tools.ops.ballast import tended
 from desk_tools.ops.ending import run_script
 from desk_tools.ops.places import Desk
 
 
 def main(words: list[Any]) -> None:
-    usage = argparse.ArgumentParser(
-        prog="deploy/ballast",
+    usage = Usage(
+        "deploy/ballast",
         description=__doc__.partition("\n\n")[0],
         epilog="the environment may give FILE",
     )
-    usage.add_argument("agency", metavar="AGENCY", nargs="?", help="the agency's short name (main)")
+    usage.takes("agency AGENCY", "the agency's short name (main)", nargs="?")
     told = tended(Desk(usage.parse_args(words).agency))
     if told:
         print(f"deploy/ballast: {told}")

@@ -10,23 +10,23 @@ environment may give FILE, the database, and ZONE, the agency's zone.
 
 from __future__ import annotations
 
-import argparse
 import os
 import sys
 import time
 
+from desk_tools.arguments import Usage
 from desk_tools.ops import clock
 from desk_tools.ops.ending import Failure, run_script
 from desk_tools.ops.places import Desk
 
 
 def main(words: list[str]) -> None:
-    usage = argparse.ArgumentParser(
-        prog="deploy/clock-check",
+    usage = Usage(
+        "deploy/clock-check",
         description=__doc__.partition("\n\n")[0],
         epilog="the environment may give FILE and ZONE",
     )
-    usage.add_argument("agency", metavar="AGENCY", nargs="?", help="the agency's short name (main)")
+    usage.takes("agency AGENCY", "the agency's short name (main)", nargs="?")
     task = usage.add_mutually_exclusive_group()
     task.add_argument(
         "--really", action="store_true", help="the clock is right: the desk may serve by it"

@@ -25,6 +25,7 @@ import sys
 from collections.abc import Iterator
 from typing import Any
 
+from desk_tools.arguments import usage_of
 from desk_tools.days import clock_of_twelve as clock, now_in
 from desk_tools import ending, events, outbox, telling
 from desk_tools.counting import counted
@@ -50,52 +51,21 @@ LIST, EVENTS, LOCK, PURPOSE = (
 )
 # What the nightly unit is set to do: CLOSED_DAYS of /etc/desk/main-closed-days.conf.
 JUST_LIST, CANCEL = "list", "cancel"
-COLUMNS = (
-    "day",
-    "window_from",
-    "window_to",
-    "trip",
-    "rider",
-    "name",
-    "telephone",
-    "vehicle",
-    "canceled",
-)
+COLUMNS = tuple("day window_from window_to trip rider name telephone vehicle canceled".split())
 CANCELED, LEFT = "yes", "no"
 
 
 def words_of(arguments: list[str]) -> argparse.Namespace:
-    parser = argparse.ArgumentParser(
-        "bin/closed-days", description=__doc__, formatter_class=argparse.RawDescriptionHelpFormatter
+    parser = usage_of("bin/closed-days", __doc__)
+    parser.takes(
+        "--agency AGENCY.json", "the agency's file: its closed days and zone", required=True
     )
-    parser.add_argument(
-        "--agency",
-        metavar="AGENCY.json",
-        required=True,
-        help="the agency's file: its closed days and zone",
-    )
-    parser.add_argument(
-        "--url", required=True, help="the desk's address, such as http://127.0.0.1:8437"
-    )
-    parser.add_argument(
-        "--certificate", metavar="FILE", help="of an https address, where you made it yourself"
-    )
-    parser.add_argument(
-        "--patience",
-        type=int,
-        default=600,
-        metavar="SECONDS",
-        help="how long an answer is waited for",
-    )
-    parser.add_argument(
-        "--dispatcher", metavar="FILE", required=True, help="the file with a dispatcher's key"
-    )
-    parser.add_argument(
-        "--roster", metavar="CSV", help="the agency's roster: names and telephone numbers"
-    )
-    parser.add_argument(
-        "--folder", default=".", help="where the call list and what was sent are kept"
-    )
+    parser.takes("--url", "the desk's address, such as http://127.0.0.1:8437", required=True)
+    parser.takes("--certificate FILE", "of an https address, where you made it yourself")
+    parser.takes("--patience SECONDS", "how long an answer is waited for", type=int, default=600)
+    parser.takes("--dispatcher FILE", "the file with a dispatcher's key", required=True)
+    parser.takes("--roster CSV", "the agency's roster: names and telephone numbers")
+    parser.takes("--folder", "where the call list and what was sent are kept", default=".")
     parser.add_argument(
         "--cancel",
         dest="do",
@@ -104,16 +74,14 @@ def words_of(arguments: list[str]) -> argparse.Namespace:
         default=JUST_LIST,
         help="cancels the trips, as the agency's cancellation",
     )
-    parser.add_argument(
-        "--do",
-        metavar="WORD",
+    parser.takes(
+        "--do WORD",
+        f"{JUST_LIST}, or {CANCEL} as --cancel does; nothing is {JUST_LIST}",
         type=what_to_do,
-        help=f"{JUST_LIST}, or {CANCEL} as --cancel does; nothing is {JUST_LIST}",
     )
-    parser.add_argument(
-        "--site",
-        metavar="NAME",
-        help="the site that is told each cancellation: that of this machine by its "
+    parser.takes(
+        "--site NAME",
+        "the site that is told each cancellation: that of this machine by its "
         "name on the net (NAME, or NAME@ADDRESS:PORT), or an address such as https://desk.example.org",
     )
     return parser.parse_args(arguments)

@@ -13,13 +13,17 @@ The exit status is 0 where all was done, 1 where something failed and all is as 
 
 from __future__ import annotations
 
-import argparse
 import os
 import shutil
 import sys
 from typing import Any
 
+<<<<<<< HEAD
 from desk_tools import agencies, ending
+=======
+from desk_tools import ending
+from desk_tools.arguments import usage_of
+>>>>>>> house
 from desk_tools.machine import settings as told
 from desk_tools.machine import (
     acme,
@@ -203,56 +207,31 @@ def need_names() -> None:
 
 
 def words_of(arguments: Any) -> Any:
-    parser = argparse.ArgumentParser(
-        "desk-setup", description=__doc__, formatter_class=argparse.RawDescriptionHelpFormatter
+    parser = usage_of("desk-setup", __doc__)
+    parser.takes("--agency NAME", "the agency's name")
+    parser.takes("--zone", "its IANA zone, such as America/New_York")
+    parser.takes("--name HOST", "the site's name on the net")
+    parser.takes("--port", "the site's port (443)")
+    parser.takes("--alarm WHO", "who is told: a mail address, an https:// address, or none yet")
+    parser.takes(
+        "--nightly WORDS",
+        f"what runs each night, of {', '.join(told.NIGHTLY)}, or none (the first two)",
     )
-    parser.add_argument("--agency", metavar="NAME", help="the agency's name")
-    parser.add_argument("--zone", help="its IANA zone, such as America/New_York")
-    parser.add_argument("--name", metavar="HOST", help="the site's name on the net")
-    parser.add_argument("--port", help="the site's port (443)")
-    parser.add_argument(
-        "--alarm",
-        metavar="WHO",
-        help="who is told: a mail address, an https:// address, or none yet",
-    )
-    parser.add_argument(
-        "--nightly",
-        metavar="WORDS",
-        help=f"what runs each night, of {', '.join(told.NIGHTLY)}, or none (the first two)",
-    )
-    parser.add_argument(
-        "--acme",
-        metavar="AUTHORITY",
+    parser.takes(
+        "--acme AUTHORITY",
+        "has the certificate from this authority by ACME: letsencrypt where none is named, or a directory's address",
         nargs="?",
         const=acme.PUBLIC,
-        help="has the certificate from this authority by ACME: letsencrypt where none is named, or a directory's address",
     )
-    parser.add_argument(
-        "--offsite", metavar="PLACE", help=f"where copies go beside this machine: {told.OFFSITE}"
+    parser.takes("--offsite PLACE", f"where copies go beside this machine: {told.OFFSITE}")
+    parser.takes(
+        "--restore COPY", "COPY [MACHINE.tar.gz]: bring a lost machine back here", nargs="+"
     )
-    parser.add_argument(
-        "--restore",
-        metavar="COPY",
-        nargs="+",
-        help="COPY [MACHINE.tar.gz]: bring a lost machine back here",
-    )
-    parser.add_argument(
-        "--second",
-        action="store_true",
-        help="of --restore: make this a second machine, which does not serve yet",
-    )
-    parser.add_argument(
-        "--identity", metavar="FILE", help="of --restore: the private key of encrypted copies"
-    )
-    parser.add_argument(
-        "--another", action="store_true", help="of --restore: also where it is another agency's"
-    )
-    parser.add_argument(
-        "--anyway",
-        action="store_true",
-        help="of --restore: also where nothing shows that both are of one agency",
-    )
-    parser.add_argument("--site", action="store_true", help="make only the files of the site again")
+    parser.flag("--second", "of --restore: make this a second machine, which does not serve yet")
+    parser.takes("--identity FILE", "of --restore: the private key of encrypted copies")
+    parser.flag("--another", "of --restore: also where it is another agency's")
+    parser.flag("--anyway", "of --restore: also where nothing shows that both are of one agency")
+    parser.flag("--site", "make only the files of the site again")
     return parser.parse_args(arguments)
 
 

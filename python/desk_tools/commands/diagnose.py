@@ -11,10 +11,10 @@ database.
 
 from __future__ import annotations
 
-import argparse
 import os
 import sys
 
+from desk_tools.arguments import Usage
 from desk_tools.ops.diagnosis import cause_of, serves
 from desk_tools.ops.ending import run_script
 from desk_tools.ops.places import Desk
@@ -32,17 +32,13 @@ IS_WELL = (
 
 
 def main(words: list[str]) -> int:
-    usage = argparse.ArgumentParser(
-        prog="deploy/diagnose",
+    usage = Usage(
+        "deploy/diagnose",
         description=__doc__.partition("\n\n")[0],
         epilog="the environment may give FILE",
     )
-    usage.add_argument("agency", metavar="AGENCY", nargs="?", help="the agency's short name (main)")
-    usage.add_argument(
-        "--after-stop",
-        action="store_true",
-        help="for the unit: only where the desk ended by a fault",
-    )
+    usage.takes("agency AGENCY", "the agency's short name (main)", nargs="?")
+    usage.flag("--after-stop", "for the unit: only where the desk ended by a fault")
     given = usage.parse_args(words)
     status = os.environ.get("EXIT_STATUS") if given.after_stop else None
     if given.after_stop and status not in (STORE_FAILED, OTHER_FAULT):

@@ -16,6 +16,7 @@ import os
 import sys
 
 from desk_tools import agencies, elsewhere
+from desk_tools.arguments import Usage
 from desk_tools.ops.copying import folder_within
 from desk_tools.ops.drilling import Drill, newest_backup, newest_elsewhere
 from desk_tools.ops.ending import Failure, run_script, WRONG_WORDS
@@ -38,25 +39,17 @@ def told_elsewhere(given: argparse.Namespace) -> str:
 
 
 def main(words: list[str]) -> None:
-    usage = argparse.ArgumentParser(
-        prog="deploy/drill",
+    usage = Usage(
+        "deploy/drill",
         description=__doc__.partition("\n\n")[0],
         epilog="the environment may give DESK, the program, and SSH",
     )
-    usage.add_argument(
-        "folder",
-        metavar="FOLDER",
-        nargs="?",
-        default=agencies.Agency().backups,
-        help="where the backups are",
+    usage.takes(
+        "folder FOLDER", "where the backups are", nargs="?", default=agencies.Agency().backups
     )
-    usage.add_argument("--at", metavar="PLACE", default="/var/tmp", help="the folder for the trial")
-    usage.add_argument(
-        "--elsewhere",
-        metavar="PLACE",
-        help="from another place alone: a folder, or MACHINE:/FOLDER",
-    )
-    usage.add_argument("--identity", metavar="FILE", help="the private key of encrypted copies")
+    usage.takes("--at PLACE", "the folder for the trial", default="/var/tmp")
+    usage.takes("--elsewhere PLACE", "from another place alone: a folder, or MACHINE:/FOLDER")
+    usage.takes("--identity FILE", "the private key of encrypted copies")
     given = usage.parse_args(words)
     os.umask(0o077)
     told = (

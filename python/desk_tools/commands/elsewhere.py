@@ -11,23 +11,19 @@ The unit desk-elsewhere runs it after each night's backup. BACKUPS.md has how th
 
 from __future__ import annotations
 
-import argparse
 import os
 import sys
 
+from desk_tools.arguments import usage_of
 from desk_tools.ops import elsewhere
 from desk_tools.ops.ending import Failure, run_script, WRONG_WORDS
 from desk_tools.ops.places import Desk
 
 
 def main(words: list[str]) -> None:
-    usage = argparse.ArgumentParser(
-        prog="deploy/elsewhere",
-        description=__doc__,
-        formatter_class=argparse.RawDescriptionHelpFormatter,
-    )
-    usage.add_argument("task", metavar="TASK", choices=["send", "list"], help="send or list")
-    usage.add_argument("agency", metavar="AGENCY", nargs="?", help="the agency's short name (main)")
+    usage = usage_of("deploy/elsewhere", __doc__)
+    usage.takes("task TASK", "send or list", choices=["send", "list"])
+    usage.takes("agency AGENCY", "the agency's short name (main)", nargs="?")
     given = usage.parse_args(words)
     os.umask(0o077)
     desk, settings = Desk(given.agency), elsewhere.Settings()

@@ -23,7 +23,7 @@ from collections.abc import Iterator
 from typing import Any
 
 from desk_tools import ending
-from desk_tools.arguments import day_of
+from desk_tools.arguments import day_of, usage_of
 from desk_tools.flex import checking, feed
 from desk_tools.flex.outline import Line
 from desk_tools.setup import agency_file, carry, plane, whole_file
@@ -41,46 +41,35 @@ def a_minute(text: str) -> int:
 
 
 def words_of(arguments: list[str]) -> argparse.Namespace:
-    parser = argparse.ArgumentParser(
-        "bin/flex-feed", description=__doc__, formatter_class=argparse.RawDescriptionHelpFormatter
+    parser = usage_of("bin/flex-feed", __doc__)
+    parser.takes(
+        "agency AGENCY.json",
+        "the agency's file: its fixed routes, name, telephone, zone and closed days",
     )
-    parser.add_argument(
-        "agency",
-        metavar="AGENCY.json",
-        help="the agency's file: its fixed routes, name, telephone, zone and closed days",
-    )
-    parser.add_argument(
-        "--url", required=True, help="where riders read about the service, and book"
-    )
-    parser.add_argument(
-        "--until",
+    parser.takes("--url", "where riders read about the service, and book", required=True)
+    parser.takes(
+        "--until TIME",
+        "until when tomorrow's trips are booked; 17:00 where it is not given",
         type=a_minute,
         default=a_minute("17:00"),
-        metavar="TIME",
-        help="until when tomorrow's trips are booked; 17:00 where it is not given",
     )
-    parser.add_argument(
-        "--from",
+    parser.takes(
+        "--from DAY",
+        "the first day of the feed; today where it is not given",
         dest="first",
         type=day_of,
-        metavar="DAY",
-        help="the first day of the feed; today where it is not given",
     )
-    parser.add_argument(
+    parser.takes(
         "--days",
+        f"how many days the feed holds, 1 to {MOST_DAYS}; {DAYS} where it is not given",
         type=int,
         default=DAYS,
-        help=f"how many days the feed holds, 1 to {MOST_DAYS}; {DAYS} where it is not given",
     )
-    parser.add_argument(
-        "--plane",
-        metavar="FOLDER",
-        help="where plane.json is; the folder of AGENCY.json where it is not given",
+    parser.takes(
+        "--plane FOLDER", "where plane.json is; the folder of AGENCY.json where it is not given"
     )
-    parser.add_argument("--output", metavar="FEED.zip", help="the feed")
-    parser.add_argument(
-        "--plan", action="store_true", help="says what the feed would have, and writes nothing"
-    )
+    parser.takes("--output FEED.zip", "the feed")
+    parser.flag("--plan", "says what the feed would have, and writes nothing")
     words = parser.parse_args(arguments)
     if not words.output and not words.plan:
         parser.error("this takes --output FEED.zip, or --plan")

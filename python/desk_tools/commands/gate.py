@@ -16,7 +16,6 @@ failed.
 
 from __future__ import annotations
 
-import argparse
 import contextlib
 import os
 import re
@@ -30,6 +29,7 @@ import threading
 import time
 from typing import Any
 
+from desk_tools.arguments import Usage
 from desk_tools.build import built, mutants
 from desk_tools.tree import TOP
 
@@ -407,15 +407,9 @@ def gate(is_all: bool) -> int:
 
 
 def main() -> int:
-    parser = argparse.ArgumentParser("bin/gate", description=__doc__.split("\n\n")[0])
-    parser.add_argument(
-        "--install", action="store_true", help="first install the packages that the scripts use"
-    )
-    parser.add_argument(
-        "--all",
-        action="store_true",
-        help="try each mutant, also those that are known to be refused",
-    )
+    parser = Usage("bin/gate", description=__doc__.split("\n\n")[0])
+    parser.flag("--install", "first install the packages that the scripts use")
+    parser.flag("--all", "try each mutant, also those that are known to be refused")
     words = parser.parse_args()
     if not shutil.which("rt"):
         print(

@@ -16,6 +16,7 @@ import os
 import sqlite3
 import sys
 
+from desk_tools.arguments import usage_of
 from desk_tools.ops import interrupted
 from desk_tools.ops.ending import Failure, run_script, WRONG_WORDS
 from desk_tools.ops.keys import changing, forget_number, key_made_or_in, make_admin, put_key
@@ -53,15 +54,11 @@ def mended_while_stopped(desk: Desk, given: argparse.Namespace, key: str | None)
 
 
 def main(words: list[str]) -> None:
-    usage = argparse.ArgumentParser(
-        prog="deploy/mend-caller",
-        description=__doc__,
-        formatter_class=argparse.RawDescriptionHelpFormatter,
-    )
-    usage.add_argument("what", choices=["key", "admin", "number"])
-    usage.add_argument("caller", metavar="CALLER", type=int, help="the caller's number")
-    usage.add_argument("keyfile", metavar="KEYFILE", nargs="?", help="the file of the key")
-    usage.add_argument("--agency", help="the agency's short name (main)")
+    usage = usage_of("deploy/mend-caller", __doc__)
+    usage.takes("what", choices=["key", "admin", "number"])
+    usage.takes("caller CALLER", "the caller's number", type=int)
+    usage.takes("keyfile KEYFILE", "the file of the key", nargs="?")
+    usage.takes("--agency", "the agency's short name (main)")
     given = usage.parse_args(words)
     if (given.what == "key") != (given.keyfile is not None):
         raise Failure("`key` takes a KEYFILE, and nothing else does", WRONG_WORDS)

@@ -32,7 +32,7 @@ from collections.abc import Callable
 from typing import Any
 
 from desk_tools import ending
-from desk_tools.arguments import day_of
+from desk_tools.arguments import Usage, day_of, usage_of
 from desk_tools.setup import commands, example, gathering, riders, times, whole_file
 from desk_tools.setup.limits import (
     GREATEST_WIDTH,
@@ -67,29 +67,24 @@ def add_command(
     roles: tuple[Any, ...] | list[str] = (),
     has_plan: bool = True,
     plan: str = "says what it would do, and does nothing",
-) -> argparse.ArgumentParser:
+) -> Usage:
     """The parser of a command that goes to the desk with keys of these roles."""
-    parser: argparse.ArgumentParser = parsers.add_parser(name, help=about, description=about)
+    parser: Usage = parsers.add_parser(name, help=about, description=about)
     parser.set_defaults(do=do, plan=False)
-    parser.add_argument(
-        "--folder", default=".", help="where plane.json, agency.json and the other files are"
-    )
+    parser.takes("--folder", "where plane.json, agency.json and the other files are", default=".")
     if has_plan:
-        parser.add_argument("--plan", action="store_true", help=plan)
+        parser.flag("--plan", plan)
     if roles:
-        parser.add_argument("--url", help="the desk's address, such as http://127.0.0.1:8437")
-        parser.add_argument(
-            "--certificate", metavar="FILE", help="of an https address, where you made it yourself"
-        )
-        parser.add_argument(
-            "--patience",
+        parser.takes("--url", "the desk's address, such as http://127.0.0.1:8437")
+        parser.takes("--certificate FILE", "of an https address, where you made it yourself")
+        parser.takes(
+            "--patience SECONDS",
+            "how long an answer is waited for (600)",
             type=number(0, 86_400),
             default=600,
-            metavar="SECONDS",
-            help="how long an answer is waited for (600)",
         )
     for role in roles:
-        parser.add_argument(f"--{role}", metavar="FILE", help=f"the file with the {role}'s key")
+        parser.takes(f"--{role} FILE", f"the file with the {role}'s key")
     return parser
 
 
@@ -97,91 +92,64 @@ def add_routes(parsers: Any) -> None:
     parser = add_command(
         parsers, "routes", commands.routes, "Puts the fixed routes of a GTFS feed.", ["admin"]
     )
-    parser.add_argument("feed", metavar="FEED.zip")
-    parser.add_argument(
-        "--from", dest="start", type=day_of, metavar="DAY", help="the first day that counts (today)"
-    )
-    parser.add_argument(
-        "--days", type=number(1, 366), default=28, help="how many days from then count (28)"
-    )
-    parser.add_argument(
-        "--width",
+    parser.takes("feed FEED.zip")
+    parser.takes("--from DAY", "the first day that counts (today)", dest="start", type=day_of)
+    parser.takes("--days", "how many days from then count (28)", type=number(1, 366), default=28)
+    parser.takes(
+        "--width FEET",
+        f"to each side of a line ({LEAST_WIDTH})",
         type=number(LEAST_WIDTH, GREATEST_WIDTH),
         default=LEAST_WIDTH,
-        metavar="FEET",
-        help=f"to each side of a line ({LEAST_WIDTH})",
     )
-    parser.add_argument(
-        "--tolerance",
+    parser.takes(
+        "--tolerance FEET",
+        "lines of a route that lie so near each other become one, and it becomes wider; where the "
+        "feed would be too many, corridors reach so much farther at most (500)",
         type=number(0, GREATEST_WIDTH - LEAST_WIDTH),
         default=500,
-        metavar="FEET",
-        help="lines of a route that lie so near each other become one, and it becomes wider; where the "
-        "feed would be too many, corridors reach so much farther at most (500)",
     )
-    parser.add_argument(
-        "--pause",
+    parser.takes(
+        "--pause MINUTES",
+        "a longer pause between two trips parts the hours of a route (120)",
         type=number(0, 1440),
         default=120,
-        metavar="MINUTES",
-        help="a longer pause between two trips parts the hours of a route (120)",
     )
-    parser.add_argument(
-        "--rounding",
+    parser.takes(
+        "--rounding MINUTES",
+        "weekdays whose hours differ by so much at most become one, with the longer hours (0)",
         type=number(0, 1440),
         default=0,
-        metavar="MINUTES",
-        help="weekdays whose hours differ by so much at most become one, with the longer hours (0)",
     )
-    parser.add_argument(
-        "--most",
+    parser.takes(
+        "--most COUNT",
+        f"where the feed would be more fixed routes, some become one ({MOST_ROUTES})",
         type=number(1, MOST_ROUTES),
         default=MOST_ROUTES,
-        metavar="COUNT",
-        help=f"where the feed would be more fixed routes, some become one ({MOST_ROUTES})",
     )
-    parser.add_argument("--all-accessible", action="store_true", help="each bus takes a wheelchair")
-    parser.add_argument(
-        "--leave-out", nargs="+", default=[], metavar="ROUTE", help="route_ids that are left out"
-    )
+    parser.flag("--all-accessible", "each bus takes a wheelchair")
+    parser.takes("--leave-out ROUTE", "route_ids that are left out", nargs="+", default=[])
 
 
 def add_times(parsers: Any) -> None:
     about = "Writes the driving times between the places of agency.json, for `desk travel`."
     parser = add_command(parsers, "times", times.times, about)
-    parser.add_argument(
-        "--output", metavar="CSV", help="the file that is written (times.csv in the folder)"
+    parser.takes("--output CSV", "the file that is written (times.csv in the folder)")
+    parser.takes(
+        "--speed MPH", "by straight lines: how fast (25)", type=number(1, 70, float), default=25.0
     )
-    parser.add_argument(
-        "--speed",
-        type=number(1, 70, float),
-        default=25.0,
-        metavar="MPH",
-        help="by straight lines: how fast (25)",
-    )
-    parser.add_argument(
-        "--detour",
+    parser.takes(
+        "--detour FACTOR",
+        "by straight lines: how much longer the way is (1.4)",
         type=number(1, 10, float),
         default=1.4,
-        metavar="FACTOR",
-        help="by straight lines: how much longer the way is (1.4)",
     )
-    parser.add_argument("--osrm", metavar="URL", help="asks the table service of an OSRM server")
-    parser.add_argument(
-        "--valhalla", metavar="URL", help="asks the table service of a Valhalla server"
-    )
-    parser.add_argument(
-        "--osm",
-        metavar="FILE.osm.pbf",
-        help="goes along the streets of an extract of OpenStreetMap",
-    )
-    parser.add_argument(
-        "--symmetric", action="store_true", help="takes the longer time of the two ways for both"
-    )
-    parser.add_argument(
-        "--check",
-        metavar="CSV",
-        help="lists the rows of a table that nobody can drive, and those that `desk travel` refuses",
+    parser.takes("--osrm URL", "asks the table service of an OSRM server")
+    parser.takes("--valhalla URL", "asks the table service of a Valhalla server")
+    parser.takes("--osm FILE.osm.pbf", "goes along the streets of an extract of OpenStreetMap")
+    parser.flag("--symmetric", "takes the longer time of the two ways for both")
+    parser.takes(
+        "--check CSV",
+        "lists the rows of a table that nobody can drive, and those that `desk travel` refuses",
     )
 
 
@@ -194,66 +162,51 @@ def add_gather(parsers: Any) -> None:
         about,
         plan="says what it would do, writes the map gathered.svg, and does no more",
     )
-    parser.add_argument(
-        "csv",
-        metavar="CSV",
-        help="id, street, latitude and longitude or x and y; place, note, rider, core",
+    parser.takes(
+        "csv CSV", "id, street, latitude and longitude or x and y; place, note, rider, core"
     )
-    parser.add_argument(
-        "--most",
+    parser.takes(
+        "--most COUNT",
+        f"how many places there may be, with those that stand ({MOST_PLACES})",
         type=number(1, MOST_PLACES),
         default=MOST_PLACES,
-        metavar="COUNT",
-        help=f"how many places there may be, with those that stand ({MOST_PLACES})",
     )
-    parser.add_argument(
-        "--speed", type=number(1, 70, float), default=25.0, metavar="MPH", help="how fast (25)"
-    )
-    parser.add_argument(
-        "--detour",
+    parser.takes("--speed MPH", "how fast (25)", type=number(1, 70, float), default=25.0)
+    parser.takes(
+        "--detour FACTOR",
+        "how much longer the way is than the straight line (1.4)",
         type=number(1, 10, float),
         default=1.4,
-        metavar="FACTOR",
-        help="how much longer the way is than the straight line (1.4)",
     )
-    parser.add_argument(
-        "--riders",
-        metavar="CSV",
-        help="number and conditions of riders: no home with nolift or farther is put where the grant holds less",
+    parser.takes(
+        "--riders CSV",
+        "number and conditions of riders: no home with nolift or farther is put where the grant holds less",
     )
-    parser.add_argument(
-        "--serve-outside",
-        action="store_true",
-        help="also takes addresses outside every corridor, which the desk then serves",
+    parser.flag(
+        "--serve-outside", "also takes addresses outside every corridor, which the desk then serves"
     )
 
 
 def add_people(parsers: Any) -> None:
     about = "Cuts one table of riders into cut-riders.csv, cut-roster.csv and cut-addresses.csv. It sends nothing."
     parser = add_command(parsers, "people", gathering.people, about)
-    parser.add_argument(
-        "csv", metavar="CSV", help="number, name, telephone, home_address, and what the desk needs"
-    )
-    parser.add_argument(
-        "--addresses",
-        metavar="CSV",
-        help="the addresses that are known (gathered-addresses.csv in the folder, if it is there)",
+    parser.takes("csv CSV", "number, name, telephone, home_address, and what the desk needs")
+    parser.takes(
+        "--addresses CSV",
+        "the addresses that are known (gathered-addresses.csv in the folder, if it is there)",
     )
 
 
 def add_riders(parsers: Any) -> None:
     about = "Puts riders and grants what they are certified for."
     parser = add_command(parsers, "riders", riders.riders, about, ["clerk", "examiner"])
-    parser.add_argument("csv", metavar="CSV")
-    parser.add_argument(
-        "--as-of",
+    parser.takes("csv CSV")
+    parser.takes(
+        "--as-of DAY",
+        "puts nobody, and lists the riders whose certification ends soon after that day",
         type=day_of,
-        metavar="DAY",
-        help="puts nobody, and lists the riders whose certification ends soon after that day",
     )
-    parser.add_argument(
-        "--within", type=number(0, 3660), default=60, metavar="DAYS", help="how soon (60)"
-    )
+    parser.takes("--within DAYS", "how soon (60)", type=number(0, 3660), default=60)
 
 
 def add_own(parsers: Any) -> None:
@@ -265,22 +218,18 @@ def add_own(parsers: Any) -> None:
         "Sends one write, whose fields a file holds.",
         commands.ROLES,
     )
-    parser.add_argument("path", metavar="PATH", help="such as /policy")
-    parser.add_argument("json", metavar="JSON", help="a file with one JSON object")
+    parser.takes("path PATH", "such as /policy")
+    parser.takes("json JSON", "a file with one JSON object")
     parser = add_command(
         parsers, "read", riders.read, "Reads what a path tells.", commands.ROLES, has_plan=False
     )
-    parser.add_argument("path", metavar="PATH")
+    parser.takes("path PATH")
     about = "Writes a small agency's files into a folder."
-    add_command(parsers, "example", example.example, about, has_plan=False).add_argument(
-        "into", metavar="FOLDER"
-    )
+    add_command(parsers, "example", example.example, about, has_plan=False).takes("into FOLDER")
 
 
-def parser_of_all() -> argparse.ArgumentParser:
-    parser = argparse.ArgumentParser(
-        "bin/move-in", description=__doc__, formatter_class=argparse.RawDescriptionHelpFormatter
-    )
+def parser_of_all() -> Usage:
+    parser = usage_of("bin/move-in", __doc__)
     parsers = parser.add_subparsers(required=True, metavar="COMMAND")
     add_routes(parsers)
     add_gather(parsers)
@@ -292,7 +241,7 @@ def parser_of_all() -> argparse.ArgumentParser:
         ("vehicles", commands.vehicles, "Puts the vehicles of a table.", "dispatcher"),
         ("callers", commands.callers, "Makes keys and puts callers.", "admin"),
     ]:
-        add_command(parsers, name, do, about, [role]).add_argument("csv", metavar="CSV")
+        add_command(parsers, name, do, about, [role]).takes("csv CSV")
     add_own(parsers)
     return parser
 

@@ -11,6 +11,7 @@ import argparse
 import os
 import sys
 
+from desk_tools.arguments import usage_of
 from desk_tools.ops.asking import Asking, line_to
 from desk_tools.ops.ending import Failure, run_script
 from desk_tools.ops.keys import digest_of, key_made_or_in
@@ -39,20 +40,12 @@ def change(given: argparse.Namespace) -> None:
 
 
 def main(words: list[str]) -> None:
-    usage = argparse.ArgumentParser(
-        prog="deploy/new-admin-key",
-        description=__doc__,
-        formatter_class=argparse.RawDescriptionHelpFormatter,
-    )
-    usage.add_argument("old", metavar="OLD")
-    usage.add_argument("new", metavar="NEW")
-    usage.add_argument("url", metavar="URL")
-    usage.add_argument(
-        "--certificate", metavar="FILE", help="the site's certificate, where you made it yourself"
-    )
-    usage.add_argument(
-        "--caller", metavar="NUMBER", type=int, default=1, help="the admin's number (1)"
-    )
+    usage = usage_of("deploy/new-admin-key", __doc__)
+    usage.takes("old OLD")
+    usage.takes("new NEW")
+    usage.takes("url URL")
+    usage.takes("--certificate FILE", "the site's certificate, where you made it yourself")
+    usage.takes("--caller NUMBER", "the admin's number (1)", type=int, default=1)
     given = usage.parse_args(words)
     try:
         change(given)

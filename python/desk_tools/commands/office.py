@@ -29,6 +29,7 @@ from collections.abc import Iterator
 from typing import Any
 
 from desk_tools import ending, law
+from desk_tools.arguments import usage_of
 from desk_tools.demo import building, folder, keys, mark, program, record, site, town
 from desk_tools.demo.serving import Desk, Trouble
 from desk_tools.tree import TOP
@@ -68,37 +69,19 @@ SHOWN = [
 
 
 def words_of(arguments: list[str]) -> argparse.Namespace:
-    parser = argparse.ArgumentParser(
-        "bin/office", description=__doc__, formatter_class=argparse.RawDescriptionHelpFormatter
-    )
-    parser.add_argument(
-        "folder",
-        metavar="FOLDER",
-        nargs="?",
-        default=folder.default(),
-        help="where the office lives",
-    )
-    parser.add_argument(
-        "--unproved",
-        action="store_true",
-        help="compile the program without proofs; each page then says so",
-    )
-    parser.add_argument("--program", metavar="FILE", help="serve this program")
-    parser.add_argument(
+    parser = usage_of("bin/office", __doc__)
+    parser.takes("folder FOLDER", "where the office lives", nargs="?", default=folder.default())
+    parser.flag("--unproved", "compile the program without proofs; each page then says so")
+    parser.takes("--program FILE", "serve this program")
+    parser.takes(
         "--port",
+        f"the port of the pages; {PORT} where it is left out, 0 for any",
         type=int,
         default=PORT,
-        help=f"the port of the pages; {PORT} where it is left out, 0 for any",
     )
-    parser.add_argument(
-        "--anew", action="store_true", help="make the office anew; what was done in it is lost"
-    )
-    parser.add_argument(
-        "--proxy",
-        action="store_true",
-        help="use the small proxy of this program, also where there is nginx",
-    )
-    parser.add_argument("--no-browser", action="store_true", help="open no browser")
+    parser.flag("--anew", "make the office anew; what was done in it is lost")
+    parser.flag("--proxy", "use the small proxy of this program, also where there is nginx")
+    parser.flag("--no-browser", "open no browser")
     words = parser.parse_args(arguments)
     if not 0 <= words.port <= 65_535:
         parser.error("argument --port: 0 to 65535")

@@ -12,7 +12,6 @@ package was made, or is the same; 1 where not; 2 for wrong words.
 
 from __future__ import annotations
 
-import argparse
 import concurrent.futures
 import os
 import re
@@ -23,6 +22,7 @@ import time
 from typing import Any
 
 from desk_tools import ending, page_packing
+from desk_tools.arguments import usage_of
 from desk_tools.build import built, sources
 from desk_tools.demo import mark
 from desk_tools.packaging import completion, layout, licences, receipt
@@ -202,17 +202,11 @@ def check(given: Any, words: Any) -> int:
 
 
 def words_of(arguments: Any) -> Any:
-    parser = argparse.ArgumentParser(
-        "bin/package", description=__doc__, formatter_class=argparse.RawDescriptionHelpFormatter
-    )
-    parser.add_argument(
-        "--for-trial", action="store_true", help="pack a program that need not be proved"
-    )
-    parser.add_argument("--program", metavar="FILE", help="with --for-trial, the program")
-    parser.add_argument("--output", metavar="FOLDER", default=".", help="where the package goes")
-    parser.add_argument(
-        "--check", metavar="FILE", help="compare this package with one that is made anew"
-    )
+    parser = usage_of("bin/package", __doc__)
+    parser.flag("--for-trial", "pack a program that need not be proved")
+    parser.takes("--program FILE", "with --for-trial, the program")
+    parser.takes("--output FOLDER", "where the package goes", default=".")
+    parser.takes("--check FILE", "compare this package with one that is made anew")
     words = parser.parse_args(arguments)
     if words.for_trial != (words.program is not None):
         parser.error(

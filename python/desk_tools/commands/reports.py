@@ -30,6 +30,7 @@ from collections.abc import Iterable
 from typing import Any, TYPE_CHECKING
 
 from desk_tools import ending, sponsors
+from desk_tools.arguments import Usage, usage_of
 from desk_tools.counting import counted
 from desk_tools.reports import (
     copies,
@@ -94,9 +95,7 @@ def minutes(text: str) -> int:
 
 
 def words_of(arguments: list[str]) -> argparse.Namespace:
-    parser = argparse.ArgumentParser(
-        "bin/reports", description=__doc__, formatter_class=argparse.RawDescriptionHelpFormatter
-    )
+    parser = usage_of("bin/reports", __doc__)
     parsers = parser.add_subparsers(required=True, metavar="REPORT")
     for name, do, said in (
         ("months", by_month, "trips by month"),
@@ -108,90 +107,48 @@ def words_of(arguments: list[str]) -> argparse.Namespace:
     ):
         one = parsers.add_parser(name, help=said)
         one.set_defaults(do=do)
-        one.add_argument(
-            "copy", metavar="COPY.db", help="a backup, or a folder of backups named desk-*.db"
-        )
-        one.add_argument("--month", metavar="MONTH", type=month, help="YYYY-MM: this month alone")
-        one.add_argument(
-            "--from",
-            dest="first",
-            metavar="DAY",
-            type=day,
-            help="YYYY-MM-DD, the first day that counts",
-        )
-        one.add_argument(
-            "--to",
-            dest="last",
-            metavar="DAY",
-            type=day,
-            help="YYYY-MM-DD, the last day that counts",
-        )
-        one.add_argument("--agency", metavar="AGENCY.json", help="the agency's names")
-        one.add_argument("--corrections", metavar="CSV", help="outcomes that were entered wrongly")
+        one.takes("copy COPY.db", "a backup, or a folder of backups named desk-*.db")
+        one.takes("--month MONTH", "YYYY-MM: this month alone", type=month)
+        one.takes("--from DAY", "YYYY-MM-DD, the first day that counts", dest="first", type=day)
+        one.takes("--to DAY", "YYYY-MM-DD, the last day that counts", dest="last", type=day)
+        one.takes("--agency AGENCY.json", "the agency's names")
+        one.takes("--corrections CSV", "outcomes that were entered wrongly")
         if do is not for_sponsors:
-            one.add_argument(
-                "--program",
-                metavar="FILE",
+            one.takes(
+                "--program FILE",
+                "the desk's program, which is asked; the installed one where it is not given",
                 type=pathlib.Path,
-                help="the desk's program, which is asked; the installed one where it is not given",
             )
-        one.add_argument(
-            "--tally", metavar="LOG", nargs="+", help="the site's logs, packed by gzip or not"
-        )
+        one.takes("--tally LOG", "the site's logs, packed by gzip or not", nargs="+")
         if do in (each_trip, for_sponsors):
-            one.add_argument(
-                "--addresses", metavar="CSV", help="the agency's addresses: streets of homes"
-            )
+            one.takes("--addresses CSV", "the agency's addresses: streets of homes")
         if do in (by_month, for_transit_database, of_day):
-            one.add_argument("--html", metavar="FILE", help="writes a page beside the CSV")
-    parsers.choices["ntd"].add_argument(
-        "--forms",
-        metavar="FOLDER",
-        help="a new or empty folder, which gets miles, hours and the lines of forms MR-20, RR-20 and S-10, named from memory; takes --tally",
+            one.takes("--html FILE", "writes a page beside the CSV")
+    parsers.choices["ntd"].takes(
+        "--forms FOLDER",
+        "a new or empty folder, which gets miles, hours and the lines of forms MR-20, RR-20 and S-10, named from memory; takes --tally",
     )
     paid = parsers.choices["invoices"]
-    paid.add_argument(
-        "--sponsors",
-        metavar="CSV",
-        required=True,
-        help="who pays for whose trips, from when to when, and how much",
+    paid.takes(
+        "--sponsors CSV", "who pays for whose trips, from when to when, and how much", required=True
     )
-    paid.add_argument(
-        "--folder",
-        metavar="FOLDER",
-        required=True,
-        help="a new or empty folder, which gets the invoices",
-    )
-    paid.add_argument("--roster", metavar="CSV", help="the agency's roster: names of riders")
-    paid.add_argument(
-        "--plan", action="store_true", help="says what the invoices come to, and writes nothing"
-    )
+    paid.takes("--folder FOLDER", "a new or empty folder, which gets the invoices", required=True)
+    paid.takes("--roster CSV", "the agency's roster: names of riders")
+    paid.flag("--plan", "says what the invoices come to, and writes nothing")
     review = parsers.choices["review"]
-    review.add_argument(
-        "--folder",
-        metavar="FOLDER",
-        required=True,
-        help="a new or empty folder, which gets the files",
+    review.takes("--folder FOLDER", "a new or empty folder, which gets the files", required=True)
+    review.takes(
+        "--feed FEED.zip", "the GTFS feed of that month: rides are compared with its buses"
     )
-    review.add_argument(
-        "--feed",
-        metavar="FEED.zip",
-        help="the GTFS feed of that month: rides are compared with its buses",
+    review.takes(
+        "--plane FOLDER", "where move-in's plane.json is; the folder of AGENCY.json by default"
     )
-    review.add_argument(
-        "--plane",
-        metavar="FOLDER",
-        help="where move-in's plane.json is; the folder of AGENCY.json by default",
-    )
-    parsers.choices["trips"].add_argument(
-        "--roster", metavar="CSV", help="the agency's roster: names of riders"
-    )
-    parsers.choices["months"].add_argument(
-        "--late",
-        metavar="MINUTES",
+    parsers.choices["trips"].takes("--roster CSV", "the agency's roster: names of riders")
+    parsers.choices["months"].takes(
+        "--late MINUTES",
+        "how many minutes before the promised window a cancellation is late; 120 where it is not given",
         type=minutes,
         default=LATE_MINUTES,
-        help="how many minutes before the promised window a cancellation is late; 120 where it is not given",
     )
     parsers.choices["day"].set_defaults(late=LATE_MINUTES)
     words = parser.parse_args(arguments)
@@ -199,7 +156,7 @@ def words_of(arguments: list[str]) -> argparse.Namespace:
     return words
 
 
-def period_of(words: argparse.Namespace, parser: argparse.ArgumentParser) -> months.Period | None:
+def period_of(words: argparse.Namespace, parser: Usage) -> months.Period | None:
     if words.do in (for_reviewer, for_sponsors) and not words.month:
         parser.error(
             f"{'review' if words.do is for_reviewer else 'invoices'} takes --month YYYY-MM"

@@ -13,30 +13,20 @@ the program (/usr/bin/desk).
 
 from __future__ import annotations
 
-import argparse
 import sys
 
+from desk_tools.arguments import usage_of
 from desk_tools.ops.ending import run_script
 from desk_tools.ops.places import Desk
 from desk_tools.ops.restoring import Restore
 
 
 def main(words: list[str]) -> None:
-    usage = argparse.ArgumentParser(
-        prog="deploy/restore",
-        description=__doc__,
-        formatter_class=argparse.RawDescriptionHelpFormatter,
-    )
-    usage.add_argument("copy", metavar="COPY", help="the backup")
-    usage.add_argument("agency", metavar="AGENCY", nargs="?", help="the agency's short name (main)")
-    usage.add_argument(
-        "--migrate", action="store_true", help="take a backup of an older version, and migrate it"
-    )
-    usage.add_argument(
-        "--another",
-        action="store_true",
-        help="take a backup of which no caller is one of the present file",
-    )
+    usage = usage_of("deploy/restore", __doc__)
+    usage.takes("copy COPY", "the backup")
+    usage.takes("agency AGENCY", "the agency's short name (main)", nargs="?")
+    usage.flag("--migrate", "take a backup of an older version, and migrate it")
+    usage.flag("--another", "take a backup of which no caller is one of the present file")
     given = usage.parse_args(words)
     restored = Restore(Desk(given.agency), given.copy, given.migrate, given.another).make()
     for line in [*restored.told().splitlines(), *restored.keys_not_known()]:

@@ -13,6 +13,7 @@ import argparse
 import sys
 
 from desk_tools import ending
+from desk_tools.arguments import usage_of
 from desk_tools.counting import counted
 from desk_tools.setup import agency_file, roster_file, whole_file
 from desk_tools.setup.limits import Wrong
@@ -48,26 +49,18 @@ def drivers(words: argparse.Namespace) -> bool:
 
 
 def words_of(arguments: list[str]) -> argparse.Namespace:
-    parser = argparse.ArgumentParser(
-        "bin/roster", description=__doc__, formatter_class=argparse.RawDescriptionHelpFormatter
-    )
+    parser = usage_of("bin/roster", __doc__)
     parsers = parser.add_subparsers(required=True, metavar="COMMAND")
     one = parsers.add_parser("check", help="says what is wrong, by row")
     one.set_defaults(do=check)
-    one.add_argument("file", metavar="FILE")
-    one.add_argument(
-        "--agency",
-        metavar="AGENCY.json",
-        help="homes and usual places have to be places of this file",
-    )
+    one.takes("file FILE")
+    one.takes("--agency AGENCY.json", "homes and usual places have to be places of this file")
     one = parsers.add_parser(
         "drivers", help="makes the smaller file for drivers: rider, name, note"
     )
     one.set_defaults(do=drivers)
-    one.add_argument("file", metavar="FILE")
-    one.add_argument(
-        "--output", metavar="CSV", help="the file that is written, in place of standard output"
-    )
+    one.takes("file FILE")
+    one.takes("--output CSV", "the file that is written, in place of standard output")
     return parser.parse_args(arguments)
 
 

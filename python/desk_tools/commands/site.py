@@ -21,6 +21,7 @@ import sys
 from typing import Any, NoReturn
 
 from desk_tools import agencies, ending
+from desk_tools.arguments import usage_of
 from desk_tools.ports import free_port
 from desk_tools.tree import DEPLOY, TOP
 
@@ -181,32 +182,15 @@ def of_trial(site: str, told: argparse.Namespace) -> str:
 
 
 def main(words: list[str]) -> None:
-    reader = argparse.ArgumentParser(
-        prog="deploy/site",
-        description=__doc__,
-        formatter_class=argparse.RawDescriptionHelpFormatter,
-    )
-    reader.add_argument("folder", nargs="?", metavar="FOLDER")
-    reader.add_argument("--trial", metavar="HERE", type=lambda it: os.path.abspath(it))
-    reader.add_argument(
-        "--desk", type=int, metavar="PORT", help="of a trial: the port of the one desk"
-    )
-    reader.add_argument(
-        "--tls", type=int, metavar="PORT", help="of a trial: the port of the site (a free one)"
-    )
-    reader.add_argument(
-        "--plain", type=int, metavar="PORT", help="of a trial: the port that sends on (a free one)"
-    )
-    reader.add_argument(
-        "--health",
-        type=int,
-        metavar="PORT",
-        help="of a trial: the port of deploy/health (a free one)",
-    )
-    reader.add_argument(
-        "--pages", default=f"{TOP}/pages", help="of a trial: the folder of the pages"
-    )
-    reader.add_argument("--files", help="of a trial: the folder of the agency's files (HERE/site)")
+    reader = usage_of("deploy/site", __doc__)
+    reader.takes("folder FOLDER", nargs="?")
+    reader.takes("--trial HERE", type=lambda it: os.path.abspath(it))
+    reader.takes("--desk PORT", "of a trial: the port of the one desk", type=int)
+    reader.takes("--tls PORT", "of a trial: the port of the site (a free one)", type=int)
+    reader.takes("--plain PORT", "of a trial: the port that sends on (a free one)", type=int)
+    reader.takes("--health PORT", "of a trial: the port of deploy/health (a free one)", type=int)
+    reader.takes("--pages", "of a trial: the folder of the pages", default=f"{TOP}/pages")
+    reader.takes("--files", "of a trial: the folder of the agency's files (HERE/site)")
     told = reader.parse_args(words)
     try:
         print(site_for(told), end="")

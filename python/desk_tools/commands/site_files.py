@@ -16,6 +16,7 @@ import sys
 from typing import Any
 
 from desk_tools import ending
+from desk_tools.arguments import usage_of
 from desk_tools.counting import counted
 from desk_tools.setup import agency_file, carry, duty_file, roster_file, site_files
 from desk_tools.setup.limits import Wrong
@@ -23,26 +24,14 @@ from desk_tools.town import addresses, sheets, site_addresses
 
 
 def words_of(arguments: list[str]) -> argparse.Namespace:
-    parser = argparse.ArgumentParser(
-        "bin/site-files", description=__doc__, formatter_class=argparse.RawDescriptionHelpFormatter
-    )
-    parser.add_argument("agency", metavar="AGENCY.json", help="the agency's own file")
-    parser.add_argument("--roster", metavar="FILE", help="the roster, for staff alone")
-    parser.add_argument("--drivers", metavar="FILE", help="the smaller roster, for drivers")
-    parser.add_argument(
-        "--duty", metavar="FILE", help="who drives what on which day, for staff alone"
-    )
-    parser.add_argument(
-        "--addresses", metavar="FILE", help="the addresses of the town, each at a place"
-    )
-    parser.add_argument(
-        "--plan",
-        action="store_true",
-        help="says what is wrong and what it would write, and writes nothing",
-    )
-    parser.add_argument(
-        "folder", metavar="FOLDER", help="what the site serves; other files in it stay as they are"
-    )
+    parser = usage_of("bin/site-files", __doc__)
+    parser.takes("agency AGENCY.json", "the agency's own file")
+    parser.takes("--roster FILE", "the roster, for staff alone")
+    parser.takes("--drivers FILE", "the smaller roster, for drivers")
+    parser.takes("--duty FILE", "who drives what on which day, for staff alone")
+    parser.takes("--addresses FILE", "the addresses of the town, each at a place")
+    parser.flag("--plan", "says what is wrong and what it would write, and writes nothing")
+    parser.takes("folder FOLDER", "what the site serves; other files in it stay as they are")
     return parser.parse_args(arguments)
 
 

@@ -24,6 +24,7 @@ import sys
 from collections.abc import Iterable
 from typing import Any
 
+from desk_tools.arguments import Usage
 from desk_tools.ops import doors, elsewhere, missing, opening, standby, stolen
 from desk_tools.ops.ending import Failure, run_script, WRONG_WORDS
 from desk_tools.ops.places import Desk
@@ -31,8 +32,8 @@ from desk_tools.ops.places import Desk
 ASKED = "SSH_ORIGINAL_COMMAND"
 
 
-def usage() -> argparse.ArgumentParser:
-    words = argparse.ArgumentParser(prog="deploy/standby", description=__doc__.partition("\n\n")[0])
+def usage() -> Usage:
+    words = Usage("deploy/standby", description=__doc__.partition("\n\n")[0])
     tasks = words.add_subparsers(dest="task", required=True, metavar="TASK")
     for name, means in (
         ("send", "first machine: make a checked backup and bring it to the second"),
@@ -41,29 +42,17 @@ def usage() -> argparse.ArgumentParser:
         ("missing", "fenced machine: list what it answered and the other lacks, and whom to call"),
     ):
         task = tasks.add_parser(name, help=means)
-        task.add_argument("agency", metavar="AGENCY", nargs="?")
+        task.takes("agency AGENCY", nargs="?")
         if name == "send":
-            task.add_argument(
-                "--rate", type=int, metavar="KB", help="so many kilobytes a second at most"
-            )
+            task.takes("--rate KB", "so many kilobytes a second at most", type=int)
         if name == "missing":
-            task.add_argument(
-                "--copy",
-                metavar="COPY",
-                help="a copy of what the other machine opened, where it cannot be fetched",
+            task.takes(
+                "--copy COPY", "a copy of what the other machine opened, where it cannot be fetched"
             )
-            task.add_argument(
-                "--roster", metavar="FILE", default=stolen.ROSTER, help="names and telephones"
-            )
+            task.takes("--roster FILE", "names and telephones", default=stolen.ROSTER)
         if name == "fence":
-            task.add_argument(
-                "--undo",
-                action="store_true",
-                help="serve again, where the second has not opened the desk",
-            )
-            task.add_argument(
-                "--answer", action="store_true", help="answer the second machine in JSON"
-            )
+            task.flag("--undo", "serve again, where the second has not opened the desk")
+            task.flag("--answer", "answer the second machine in JSON")
     for name, means in (
         ("state", "second machine: `waiting`, `opening` or `opened`"),
         ("list", "second machine: the copies"),
@@ -74,20 +63,16 @@ def usage() -> argparse.ArgumentParser:
         ("open", "second machine: serve from now on"),
     ):
         task = tasks.add_parser(name, help=means)
-        task.add_argument("folder", metavar="FOLDER")
+        task.takes("folder FOLDER")
         if name == "receive":
-            task.add_argument("digest", metavar="SHA256")
+            task.takes("digest SHA256")
         if name == "add":
-            task.add_argument("name", metavar="NAME")
-            task.add_argument("digest", metavar="SHA256")
+            task.takes("name NAME")
+            task.takes("digest SHA256")
         if name == "open":
-            task.add_argument("agency", metavar="AGENCY", nargs="?")
-            task.add_argument(
-                "--first", metavar="MACHINE", help="the first machine, as ssh names it"
-            )
-            task.add_argument(
-                "--first-is-off", action="store_true", help="its power or its network is gone"
-            )
+            task.takes("agency AGENCY", nargs="?")
+            task.takes("--first MACHINE", "the first machine, as ssh names it")
+            task.flag("--first-is-off", "its power or its network is gone")
             task.add_argument(
                 opening.FLAG,
                 action="store_true",

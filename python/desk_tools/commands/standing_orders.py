@@ -21,7 +21,7 @@ from collections.abc import Iterator
 from typing import Any
 
 from desk_tools import ending, telling
-from desk_tools.arguments import day_of
+from desk_tools.arguments import day_of, usage_of
 from desk_tools.counting import counted
 from desk_tools.days import now_in
 from desk_tools.setup import agency_file, desk, whole_file
@@ -43,54 +43,25 @@ USUAL_SHARE = 50
 
 
 def words_of(arguments: list[str]) -> argparse.Namespace:
-    parser = argparse.ArgumentParser(
-        "bin/standing-orders",
-        description=__doc__,
-        formatter_class=argparse.RawDescriptionHelpFormatter,
-    )
-    parser.add_argument("orders", metavar="ORDERS.csv", help="the table of standing orders")
-    parser.add_argument("--url", help="the desk's address, such as http://127.0.0.1:8437")
-    parser.add_argument(
-        "--certificate", metavar="FILE", help="of an https address, where you made it yourself"
-    )
-    parser.add_argument(
-        "--patience",
-        type=int,
-        default=600,
-        metavar="SECONDS",
-        help="how long an answer is waited for",
-    )
-    parser.add_argument(
-        "--clerk", metavar="FILE", help="the file with the key of a clerk that no one else uses"
-    )
-    parser.add_argument(
-        "--dispatcher",
-        metavar="FILE",
-        help="the file with a dispatcher's key, to count trips by hour",
-    )
-    parser.add_argument(
-        "--site",
-        metavar="NAME",
-        help="the site that is told each denial: that of this machine by its "
+    parser = usage_of("bin/standing-orders", __doc__)
+    parser.takes("orders ORDERS.csv", "the table of standing orders")
+    parser.takes("--url", "the desk's address, such as http://127.0.0.1:8437")
+    parser.takes("--certificate FILE", "of an https address, where you made it yourself")
+    parser.takes("--patience SECONDS", "how long an answer is waited for", type=int, default=600)
+    parser.takes("--clerk FILE", "the file with the key of a clerk that no one else uses")
+    parser.takes("--dispatcher FILE", "the file with a dispatcher's key, to count trips by hour")
+    parser.takes(
+        "--site NAME",
+        "the site that is told each denial: that of this machine by its "
         "name on the net (NAME, or NAME@ADDRESS:PORT), or an address such as https://desk.example.org",
     )
-    parser.add_argument(
-        "--capacity",
-        metavar="CSV",
-        help="trips available, by weekday and hour, where you know them",
+    parser.takes("--capacity CSV", "trips available, by weekday and hour, where you know them")
+    parser.takes(
+        "--agency AGENCY.json", "the agency's file: its zone, clock, lead, places and share"
     )
-    parser.add_argument(
-        "--agency",
-        metavar="AGENCY.json",
-        help="the agency's file: its zone, clock, lead, places and share",
-    )
-    parser.add_argument(
-        "--folder", default=".", help="where standing-orders.jsonl and report.csv are"
-    )
-    parser.add_argument("--today", type=day_of, metavar="DAY", help="the day that counts as today")
-    parser.add_argument(
-        "--plan", action="store_true", help="says which trips it would look at, and asks nothing"
-    )
+    parser.takes("--folder", "where standing-orders.jsonl and report.csv are", default=".")
+    parser.takes("--today DAY", "the day that counts as today", type=day_of)
+    parser.flag("--plan", "says which trips it would look at, and asks nothing")
     return parser.parse_args(arguments)
 
 

@@ -23,6 +23,7 @@ from __future__ import annotations
 import argparse
 import sys
 
+from desk_tools.arguments import usage_of
 from desk_tools.journal.places import AGENCY, FOLDER as RECORD
 from desk_tools.ops import stolen, stolen_staff
 from desk_tools.ops.asking import Asking, line_to
@@ -55,60 +56,30 @@ def run(given: argparse.Namespace) -> int:
 
 
 def words_of(words: list[str]) -> argparse.Namespace:
-    usage = argparse.ArgumentParser(
-        prog="deploy/stolen-key",
-        description=__doc__,
-        formatter_class=argparse.RawDescriptionHelpFormatter,
+    usage = usage_of("deploy/stolen-key", __doc__)
+    usage.takes("rider RIDER", type=int, nargs="?")
+    usage.takes("--vehicle NUMBER", "of a driver's key: the driver's vehicle", type=int)
+    usage.takes("--staff CALLER", "of a key of the office: the caller's number", type=int)
+    usage.takes("--url", "the desk's address", required=True)
+    usage.takes("--clerk KEYFILE", "a clerk's key, for a rider's trips")
+    usage.takes("--certificate FILE", "the site's certificate, where you made it yourself")
+    usage.takes("--backup COPY", "a backup of before the theft")
+    usage.takes("--now COPY", "a backup of now (one is made on the desk's machine)")
+    usage.takes("--agency AGENCY", "the agency, where this machine has several")
+    usage.takes("--after TRIP", "without a backup: only trips above it", type=int, default=0)
+    usage.takes("--since TIME", "the theft, for the site's log: 2026-12-01T18:30")
+    usage.takes("--cancel TRIP", "numbers of trips, or all", nargs="+")
+    usage.takes("--admin KEYFILE")
+    usage.takes("--caller NUMBER", type=int)
+    usage.takes("--new-key FILE")
+    usage.takes("--other-caller NUMBER", "a number that no caller has", type=int)
+    usage.takes("--roster FILE", "names and telephones", default=stolen.ROSTER)
+    usage.takes("--log FILE", "the site's log", nargs="+")
+    usage.takes("--record FOLDER", f"the record of who did what ({RECORD})", default=str(RECORD))
+    usage.takes(
+        "--agency-file FILE", f"the agency's zone and names ({AGENCY})", default=str(AGENCY)
     )
-    usage.add_argument("rider", metavar="RIDER", type=int, nargs="?")
-    usage.add_argument(
-        "--vehicle", metavar="NUMBER", type=int, help="of a driver's key: the driver's vehicle"
-    )
-    usage.add_argument(
-        "--staff", metavar="CALLER", type=int, help="of a key of the office: the caller's number"
-    )
-    usage.add_argument("--url", required=True, help="the desk's address")
-    usage.add_argument("--clerk", metavar="KEYFILE", help="a clerk's key, for a rider's trips")
-    usage.add_argument(
-        "--certificate", metavar="FILE", help="the site's certificate, where you made it yourself"
-    )
-    usage.add_argument("--backup", metavar="COPY", help="a backup of before the theft")
-    usage.add_argument(
-        "--now", metavar="COPY", help="a backup of now (one is made on the desk's machine)"
-    )
-    usage.add_argument(
-        "--agency", metavar="AGENCY", help="the agency, where this machine has several"
-    )
-    usage.add_argument(
-        "--after", metavar="TRIP", type=int, default=0, help="without a backup: only trips above it"
-    )
-    usage.add_argument(
-        "--since", metavar="TIME", help="the theft, for the site's log: 2026-12-01T18:30"
-    )
-    usage.add_argument("--cancel", metavar="TRIP", nargs="+", help="numbers of trips, or all")
-    usage.add_argument("--admin", metavar="KEYFILE")
-    usage.add_argument("--caller", metavar="NUMBER", type=int)
-    usage.add_argument("--new-key", metavar="FILE")
-    usage.add_argument(
-        "--other-caller", metavar="NUMBER", type=int, help="a number that no caller has"
-    )
-    usage.add_argument(
-        "--roster", metavar="FILE", default=stolen.ROSTER, help="names and telephones"
-    )
-    usage.add_argument("--log", metavar="FILE", nargs="+", help="the site's log")
-    usage.add_argument(
-        "--record",
-        metavar="FOLDER",
-        default=str(RECORD),
-        help=f"the record of who did what ({RECORD})",
-    )
-    usage.add_argument(
-        "--agency-file",
-        metavar="FILE",
-        default=str(AGENCY),
-        help=f"the agency's zone and names ({AGENCY})",
-    )
-    usage.add_argument("--site", metavar="FOLDER", default=stolen.SITE, help="the site's files")
+    usage.takes("--site FOLDER", "the site's files", default=stolen.SITE)
     return usage.parse_args(words)
 
 

@@ -21,6 +21,7 @@ import argparse
 import sys
 
 from desk_tools import ending
+from desk_tools.arguments import usage_of
 from desk_tools.counting import counted
 from desk_tools.setup import agency_file, tally_log, tally_tables, whole_file
 from desk_tools.setup.limits import Wrong
@@ -67,21 +68,17 @@ def events(words: argparse.Namespace) -> None:
 
 
 def words_of(arguments: list[str]) -> argparse.Namespace:
-    parser = argparse.ArgumentParser(
-        "bin/tally", description=__doc__, formatter_class=argparse.RawDescriptionHelpFormatter
-    )
+    parser = usage_of("bin/tally", __doc__)
     parsers = parser.add_subparsers(required=True, metavar="COMMAND")
     one = parsers.add_parser("denials", help="denied trips by month, channel and rule")
     one.set_defaults(do=denials)
-    one.add_argument("logs", nargs="+", metavar="LOG")
-    one.add_argument(
-        "--html", metavar="FILE", help="writes the same as a page, to look at or to print"
-    )
-    one.add_argument("--agency", metavar="AGENCY.json", help="whose name stands on the page")
+    one.takes("logs LOG", nargs="+")
+    one.takes("--html FILE", "writes the same as a page, to look at or to print")
+    one.takes("--agency AGENCY.json", "whose name stands on the page")
     for kind, said in LISTS.items():
         one = parsers.add_parser(kind, help=said)
         one.set_defaults(do=events, kind=kind)
-        one.add_argument("logs", nargs="+", metavar="LOG")
+        one.takes("logs LOG", nargs="+")
     return parser.parse_args(arguments)
 
 

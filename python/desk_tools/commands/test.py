@@ -9,23 +9,19 @@ run counts. The last line is 'N passed, M failed', and the exit status 1 where s
 
 from __future__ import annotations
 
-import argparse
 import os
 
 from desk_tools import ending
+from desk_tools.arguments import usage_of
 from desk_tools.build import built
 from desk_tools.commands import gate
 from desk_tools.tree import TOP
 
 
 def main(arguments: list[str]) -> int:
-    parser = argparse.ArgumentParser(
-        "bin/test", description=__doc__, formatter_class=argparse.RawDescriptionHelpFormatter
-    )
-    parser.add_argument(
-        "--program", default=f"{TOP}/{built.PROGRAM}", metavar="PROGRAM", help="the desk to try"
-    )
-    parser.add_argument("names", nargs="*", metavar="NAME", help="scripts, or all")
+    parser = usage_of("bin/test", __doc__)
+    parser.takes("--program PROGRAM", "the desk to try", default=f"{TOP}/{built.PROGRAM}")
+    parser.takes("names NAME", "scripts, or all", nargs="*")
     words = parser.parse_args(arguments)
     lanes = [gate.ALONE, *gate.lanes()]
     scripts = {script.split()[0]: script for lane in lanes for script in lane}

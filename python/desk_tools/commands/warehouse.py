@@ -18,6 +18,7 @@ import sys
 from typing import Any
 
 from desk_tools import ending, warehouse
+from desk_tools.arguments import usage_of
 from desk_tools.counting import counted
 from desk_tools.reports import copies
 from desk_tools.setup.limits import Wrong
@@ -27,16 +28,10 @@ NAME = "bin/warehouse"
 
 
 def words_of(arguments: list[str]) -> argparse.Namespace:
-    parser = argparse.ArgumentParser(
-        NAME, description=__doc__, formatter_class=argparse.RawDescriptionHelpFormatter
-    )
-    parser.add_argument(
-        "copy", metavar="COPY.db", help="a backup, or a folder of backups named desk-*.db"
-    )
-    parser.add_argument("folder", metavar="FOLDER", nargs="?", help="a new or empty folder")
-    parser.add_argument(
-        "--plan", action="store_true", help="says what it would write, and writes nothing"
-    )
+    parser = usage_of(NAME, __doc__)
+    parser.takes("copy COPY.db", "a backup, or a folder of backups named desk-*.db")
+    parser.takes("folder FOLDER", "a new or empty folder", nargs="?")
+    parser.flag("--plan", "says what it would write, and writes nothing")
     words = parser.parse_args(arguments)
     if not words.plan and not words.folder:
         parser.error("this takes FOLDER, or --plan")

@@ -24,7 +24,6 @@ and DATA (the folders of the backups and of the database).
 
 from __future__ import annotations
 
-import argparse
 import os
 import smtplib
 import subprocess
@@ -32,6 +31,7 @@ import sys
 from typing import Any
 
 from desk_tools import agencies
+from desk_tools.arguments import usage_of
 from desk_tools.ops import watching
 from desk_tools.ops.ending import run_script
 from desk_tools.ops.places import value_of
@@ -84,11 +84,7 @@ def send_test(settings: str) -> int:
 
 
 def main(words: list[str]) -> int | None:
-    usage = argparse.ArgumentParser(
-        prog="deploy/watch",
-        description=__doc__,
-        formatter_class=argparse.RawDescriptionHelpFormatter,
-    )
+    usage = usage_of("deploy/watch", __doc__)
     step = usage.add_mutually_exclusive_group()
     step.add_argument("--facts", metavar="FILE")
     step.add_argument("--look", metavar="FILE")

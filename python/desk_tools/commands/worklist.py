@@ -23,6 +23,7 @@ import sys
 import zoneinfo
 from typing import Any
 
+from desk_tools.arguments import usage_of
 from desk_tools.days import number_of
 from desk_tools import ending, served_copy
 from desk_tools.counting import counted
@@ -66,49 +67,31 @@ def policy(text: str) -> copies.Policy:
 
 
 def words_of(arguments: list[str]) -> argparse.Namespace:
-    parser = argparse.ArgumentParser(
-        "bin/worklist", description=__doc__, formatter_class=argparse.RawDescriptionHelpFormatter
+    parser = usage_of("bin/worklist", __doc__)
+    parser.takes("copy COPY.db", "a backup, or a folder of backups named desk-*.db")
+    parser.takes("--html FILE", "writes a page, in place of the text")
+    parser.takes("--rider NUMBER", "the case file of this rider alone", type=rider)
+    parser.takes(
+        "--pattern MISSED,PERCENT,DAYS", "whom this no-show policy would have met", type=policy
     )
-    parser.add_argument(
-        "copy", metavar="COPY.db", help="a backup, or a folder of backups named desk-*.db"
-    )
-    parser.add_argument("--html", metavar="FILE", help="writes a page, in place of the text")
-    parser.add_argument(
-        "--rider", metavar="NUMBER", type=rider, help="the case file of this rider alone"
-    )
-    parser.add_argument(
-        "--pattern",
-        metavar="MISSED,PERCENT,DAYS",
-        type=policy,
-        help="whom this no-show policy would have met",
-    )
-    parser.add_argument("--roster", metavar="CSV", help="the agency's roster: names of riders")
-    parser.add_argument(
-        "--agency", metavar="AGENCY.json", help="the agency's name, its zone, names of vehicles"
-    )
-    parser.add_argument(
-        "--tally",
-        metavar="LOG",
+    parser.takes("--roster CSV", "the agency's roster: names of riders")
+    parser.takes("--agency AGENCY.json", "the agency's name, its zone, names of vehicles")
+    parser.takes(
+        "--tally LOG",
+        "the site's logs, packed by gzip or not: what the agency canceled, and no-shows",
         nargs="+",
-        help="the site's logs, packed by gzip or not: what the agency canceled, and no-shows",
     )
-    parser.add_argument(
-        "--corrections", metavar="CSV", help="outcomes that were entered wrongly, by trip"
+    parser.takes("--corrections CSV", "outcomes that were entered wrongly, by trip")
+    parser.takes(
+        "--reminders FOLDER",
+        "the folder of bin/reminders: whom no reminder reached, and who answered",
     )
-    parser.add_argument(
-        "--reminders",
-        metavar="FOLDER",
-        help="the folder of bin/reminders: whom no reminder reached, and who answered",
-    )
-    parser.add_argument(
-        "--program",
-        metavar="FILE",
+    parser.takes(
+        "--program FILE",
+        "the desk's program, which is asked; the installed one where it is not given",
         type=pathlib.Path,
-        help="the desk's program, which is asked; the installed one where it is not given",
     )
-    parser.add_argument(
-        "--today", metavar="DAY", type=day, help="YYYY-MM-DD; today where it is not given"
-    )
+    parser.takes("--today DAY", "YYYY-MM-DD; today where it is not given", type=day)
     return parser.parse_args(arguments)
 
 

@@ -9,6 +9,7 @@ import os
 import secrets
 import time
 from collections.abc import Callable, Iterator
+from pathlib import Path
 from typing import Any
 
 from desk_tools.demo import past, rows, town
@@ -44,8 +45,7 @@ def noon_zone(today: Any) -> str:
 
 
 def write_text(path: str, text: str) -> None:
-    with open(path, "w", encoding="utf-8") as file:
-        file.write(text)
+    Path(path).write_text(text, "utf-8")
 
 
 def write_rows(path: str, lines: list[Any]) -> None:
@@ -90,8 +90,7 @@ def write_denial(
         said = log.stdout[:200] + log.stderr[:200]
         if log.returncode == 0:
             os.makedirs(room, exist_ok=True)
-            with open(f"{room}/refusal.log", "wb") as output:
-                output.write(log.stdout)
+            Path(f"{room}/refusal.log").write_bytes(log.stdout)
             judged = ran(
                 program,
                 "audit",

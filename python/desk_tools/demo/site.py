@@ -12,6 +12,7 @@ import subprocess
 import sys
 import threading
 import time
+from pathlib import Path
 from typing import Any
 
 from desk_tools.demo import building, proxy
@@ -43,8 +44,7 @@ def derive(top: str, folder: str, is_unproved: bool) -> None:
     if ran.returncode:
         raise Trouble(f"the agency's files were not taken: {ran.stderr.strip().splitlines()[0]}")
     public = f"{folder}/{SITE}/agency.json"
-    with open(public, encoding="utf-8") as file:
-        served = json.load(file)
+    served = json.loads(Path(public).read_text("utf-8"))
     if is_unproved and served.get("unproved") is not True:
         building.write_text(
             public, json.dumps({**served, "unproved": True}, ensure_ascii=False) + "\n"
@@ -208,8 +208,7 @@ def nginx_path() -> str | None:
 
 def headers_of(top: str) -> dict[str, str]:
     """The headers that the site gives with each reply, without those that TLS or nginx's variables have a part in."""
-    with open(f"{top}/deploy/desk.nginx", encoding="utf-8") as file:
-        found = HEADER.findall(file.read())
+    found = HEADER.findall(Path(f"{top}/deploy/desk.nginx").read_text("utf-8"))
     return {
         name: quoted or plain
         for name, quoted, plain in found

@@ -259,27 +259,12 @@ def rider_of(number: int, name: str) -> Rider:
     )
 
 
-SPANISH_NAMES = {
-    "Alvarez",
-    "Campos",
-    "Castillo",
-    "Chavez",
-    "Cruz",
-    "Diaz",
-    "Flores",
-    "Gomez",
-    "Lopez",
-    "Moreno",
-    "Ortiz",
-    "Perez",
-    "Ramos",
-    "Reyes",
-    "Rojas",
-    "Ruiz",
-    "Torres",
-    "Vega",
-    "Zamora",
-}
+SPANISH_NAMES = set(
+    """
+    Alvarez Campos Castillo Chavez Cruz Diaz Flores Gomez Lopez Moreno Ortiz Perez Ramos Reyes Rojas
+    Ruiz Torres Vega Zamora
+    """.split()
+)
 
 
 def riders() -> list[Rider]:

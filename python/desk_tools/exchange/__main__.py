@@ -21,7 +21,7 @@ from pathlib import Path
 from typing import Any
 
 from desk_tools import ending
-from desk_tools.arguments import day_of
+from desk_tools.arguments import day_of, usage_of
 from desk_tools.asking import Desk, NotAnswered, Refused, key_in
 from desk_tools.counting import counted
 from desk_tools.exchange import reading
@@ -35,11 +35,7 @@ SECONDS_STILL = 2.0
 
 def words_of(arguments: list[str]) -> argparse.Namespace:
     """The command's words."""
-    parser = argparse.ArgumentParser(
-        "bin/trip-exchange",
-        description=__doc__,
-        formatter_class=argparse.RawDescriptionHelpFormatter,
-    )
+    parser = usage_of("bin/trip-exchange", __doc__)
     add = parser.add_argument
     add("folder", metavar="FOLDER", type=Path, help="the site's folder, as bin/site-files makes it")
     add("--key", type=Path, required=True, metavar="FILE", help="the file with a dispatcher's key")

@@ -8,7 +8,6 @@ once in five seconds at most, whoever asks here.
 
 from __future__ import annotations
 
-import argparse
 import http.client
 import http.server
 import json
@@ -21,6 +20,7 @@ from dataclasses import dataclass, field
 from pathlib import Path
 
 from desk_tools import agencies, ending
+from desk_tools.arguments import usage_of
 from desk_tools.health.access_log import Follower
 from desk_tools.health.figures import Figures, text_of
 
@@ -137,14 +137,12 @@ def handler_for(desks: Desks) -> type[http.server.BaseHTTPRequestHandler]:
 
 def main(arguments: list[str]) -> int:
     """Serves until it is ended."""
-    words = argparse.ArgumentParser(
-        "deploy/health", description=__doc__, formatter_class=argparse.RawDescriptionHelpFormatter
-    )
-    words.add_argument("--port", type=int, default=PORT)
-    words.add_argument("--desk", type=int, default=DESKS_PORT, help="where the watch saw none yet")
-    words.add_argument("--log", type=Path, default=Path("/var/log/nginx/access.log"))
-    words.add_argument("--seen", type=Path, default=Path("/run/desk-watch.json"))
-    words.add_argument("--program", default="/usr/bin/desk")
+    words = usage_of("deploy/health", __doc__)
+    words.takes("--port", type=int, default=PORT)
+    words.takes("--desk", "where the watch saw none yet", type=int, default=DESKS_PORT)
+    words.takes("--log", type=Path, default=Path("/var/log/nginx/access.log"))
+    words.takes("--seen", type=Path, default=Path("/run/desk-watch.json"))
+    words.takes("--program", default="/usr/bin/desk")
     told = words.parse_args(arguments)
     desks = Desks(Figures(Follower(told.log), told.seen), told.program, told.desk)
     try:

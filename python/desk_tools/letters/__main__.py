@@ -13,6 +13,7 @@ import sys
 from pathlib import Path
 
 from desk_tools import ending
+from desk_tools.arguments import usage_of
 from desk_tools.letters import asking, forms
 from desk_tools.letters.forms import NoForm
 from desk_tools.setup import whole_file
@@ -23,20 +24,18 @@ LARGEST = 200_000
 
 def words_of(arguments: list[str]) -> argparse.Namespace:
     """The command's words."""
-    parser = argparse.ArgumentParser(
-        "bin/letters", description=__doc__, formatter_class=argparse.RawDescriptionHelpFormatter
-    )
-    parser.add_argument("form", choices=FORMS, help="the form of the letter")
-    parser.add_argument("output", type=Path, metavar="FILE", help="the file to write")
-    parser.add_argument("--text", type=Path, metavar="FILE", help="a letter that a page saved")
-    parser.add_argument("--language", choices=forms.LANGUAGES, help="the roster's, or English")
-    parser.add_argument("--url", help="the desk's address, such as http://127.0.0.1:8437")
-    parser.add_argument("--key", type=Path, metavar="FILE", help="a clerk's or examiner's key")
-    parser.add_argument("--rider", type=int, metavar="NUMBER", help="whose letter it is")
-    parser.add_argument("--entry", type=int, metavar="NUMBER", help="which letter, by its entry")
-    parser.add_argument("--agency", type=Path, metavar="FILE", help="agency.json, for letters read")
-    parser.add_argument("--roster", type=Path, metavar="FILE", help="the roster, for names")
-    parser.add_argument("--addresses", type=Path, metavar="FILE", help="the addresses, for homes")
+    parser = usage_of("bin/letters", __doc__)
+    parser.takes("form", "the form of the letter", choices=FORMS)
+    parser.takes("output FILE", "the file to write", type=Path)
+    parser.takes("--text FILE", "a letter that a page saved", type=Path)
+    parser.takes("--language", "the roster's, or English", choices=forms.LANGUAGES)
+    parser.takes("--url", "the desk's address, such as http://127.0.0.1:8437")
+    parser.takes("--key FILE", "a clerk's or examiner's key", type=Path)
+    parser.takes("--rider NUMBER", "whose letter it is", type=int)
+    parser.takes("--entry NUMBER", "which letter, by its entry", type=int)
+    parser.takes("--agency FILE", "agency.json, for letters read", type=Path)
+    parser.takes("--roster FILE", "the roster, for names", type=Path)
+    parser.takes("--addresses FILE", "the addresses, for homes", type=Path)
     words = parser.parse_args(arguments)
     of_desk = [words.url, words.key, words.rider, words.agency]
     if words.text is None and None in of_desk:

@@ -137,8 +137,7 @@ class Machine:
     def read(self, name: str) -> dict[str, Any]:
         """A JSON object of the copy; an empty one where it is not there."""
         try:
-            with open(f"{self.folder}/{name}", encoding="utf-8") as file:
-                found = json.load(file)
+            found = json.loads(Path(f"{self.folder}/{name}").read_text("utf-8"))
             return found if isinstance(found, dict) else {}
         except FileNotFoundError:
             return {}
@@ -160,8 +159,7 @@ class Machine:
                 os.makedirs(
                     folder, mode=0o700 if "/desk" in folder and "systemd" not in folder else 0o755
                 )
-            with open(f"{self.folder}/{name}", "rb") as file:
-                text = file.read()
+            text = Path(f"{self.folder}/{name}").read_bytes()
             mode = os.stat(f"{self.folder}/{name}").st_mode & 0o777
             with open(
                 os.open(f"{path}.new", os.O_WRONLY | os.O_CREAT | os.O_TRUNC, mode), "wb"

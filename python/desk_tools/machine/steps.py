@@ -7,6 +7,7 @@ import re
 import shutil
 import subprocess
 import sys
+from pathlib import Path
 from typing import Any
 
 from desk_tools import agencies
@@ -48,8 +49,7 @@ def make_file(changes: Changes) -> Any:
         # (what begins with a dot is a key that a killed setup did not finish)
         if name.startswith("."):
             continue
-        with open(f"{KEYS}/{name}", encoding="ascii") as file:
-            found.append((name, file.read().strip()))
+        found.append((name, Path(f"{KEYS}/{name}").read_text("ascii").strip()))
     return found
 
 
@@ -62,8 +62,7 @@ def make_agency(changes: Changes, told: Settings) -> None:
     agency = {}
     if os.path.exists(AGENCY):
         try:
-            with open(AGENCY, encoding="utf-8") as file:
-                agency = json.load(file)
+            agency = json.loads(Path(AGENCY).read_text("utf-8"))
             changed = {**agency, **told}
         except (OSError, ValueError, TypeError):
             raise Failure(f"{AGENCY} is no JSON object: mend it or move it away") from None
@@ -85,8 +84,7 @@ def make_site_files() -> Any:
     ran = subprocess.run([*words, SERVED], capture_output=True, text=True, check=False)
     if not os.path.exists(f"{SERVED}/agency.json") or ran.returncode > 1:
         raise Failure(f"the site's files were not made: {ran.stderr.strip()}")
-    with open(f"{SERVED}/agency.json", encoding="utf-8") as file:
-        away.put(json.load(file), SERVED)
+    away.put(json.loads(Path(f"{SERVED}/agency.json").read_text("utf-8")), SERVED)
     print(ran.stderr, end="", file=sys.stderr)
 
 
@@ -95,8 +93,7 @@ def make_away_of_others() -> None:
     for agency in agencies.of_machine(agencies.SETTINGS):
         path = f"{agency.site}/agency.json"
         if agency.name != MAIN.name and os.path.exists(path):
-            with open(path, encoding="utf-8") as file:
-                away.put(json.load(file), agency.site)
+            away.put(json.loads(Path(path).read_text("utf-8")), agency.site)
 
 
 def put_back_site_files() -> None:
@@ -196,8 +193,7 @@ def make_site(changes: Changes, settings: Settings, lines: list[str]) -> None:
     else:
         changes.write(SITE, text)
     settings["site"] = by_hand.digest_of(text)
-    with open(NGINX, encoding="utf-8") as file:
-        whole = file.read()
+    whole = Path(NGINX).read_text("utf-8")
     found = re.search(r"worker_connections (\d+);", whole)
     if found and int(found[1]) < CONNECTIONS:
         changes.write(NGINX, whole.replace(found[0], f"worker_connections {CONNECTIONS};"))
@@ -207,8 +203,7 @@ def make_site(changes: Changes, settings: Settings, lines: list[str]) -> None:
 
 def site_text() -> str:
     """The site of each agency of this machine, on the usual port."""
-    with open(f"{TOP}/deploy/desk.nginx", encoding="utf-8") as file:
-        text = file.read()
+    text = Path(f"{TOP}/deploy/desk.nginx").read_text("utf-8")
     try:
         return sites.of_agencies(text, agencies.SETTINGS)
     except sites.Wrong as wrong:
@@ -244,16 +239,14 @@ def is_by_hand(path: str, digest: str | None) -> bool:
     """Whether the file is there and is not the one that an earlier setup wrote."""
     if not os.path.exists(path):
         return False
-    with open(path, encoding="utf-8", errors="replace") as file:
-        return by_hand.digest_of(file.read()) != digest
+    return by_hand.digest_of(Path(path).read_text("utf-8", errors="replace")) != digest
 
 
 def make_conf(changes: Changes, settings: Settings) -> None:
     """NAME, PORT and ZONE of the desk. What a person wrote beside them stays, and PORT too."""
     text = ""
     if os.path.exists(MAIN.conf):
-        with open(MAIN.conf, encoding="utf-8") as file:
-            text = file.read()
+        text = Path(MAIN.conf).read_text("utf-8")
     changed = confs.with_value(text, "NAME", settings["name"])
     changed = confs.with_value(changed, "PORT", confs.value_in(text, "PORT") or agencies.PORT)
     changed = confs.with_value(changed, "ZONE", rule_of(settings["zone"]))
@@ -289,8 +282,7 @@ def make_watch(changes: Changes, settings: Settings) -> Any:
     """What the watch looks at and whom it tells. A file that is there stays, but for another answer to who is told."""
     text = f"SITE=127.0.0.1:{settings['port']}\n"
     if os.path.exists(WATCH):
-        with open(WATCH, encoding="utf-8") as file:
-            text = file.read()
+        text = Path(WATCH).read_text("utf-8")
         # (an earlier version made it for everybody to read)
         os.chmod(WATCH, 0o600)
         if settings["alarm"] == before().get("alarm", NO_ALARM):

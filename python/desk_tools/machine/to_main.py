@@ -8,7 +8,6 @@ does the reverse, before an earlier package is installed again.
 
 from __future__ import annotations
 
-import argparse
 import json
 import os
 import pwd
@@ -18,6 +17,7 @@ import sys
 from pathlib import Path
 
 from desk_tools import agencies
+from desk_tools.arguments import usage_of
 from desk_tools.machine import by_hand, confs, earlier, turns
 from desk_tools.machine.changes import run
 from desk_tools.machine.settings import Failure, before, rule_of
@@ -309,12 +309,8 @@ def make(is_back: bool = False) -> bool:
 
 def main(words: list[str]) -> int:
     """Does it by hand, and starts what ran."""
-    usage = argparse.ArgumentParser(
-        prog="to-main",
-        description=__doc__,
-        formatter_class=argparse.RawDescriptionHelpFormatter,
-    )
-    usage.add_argument("--back", action="store_true", help="the reverse")
+    usage = usage_of("to-main", __doc__)
+    usage.flag("--back", "the reverse")
     given = usage.parse_args(words)
     if os.geteuid() != 0:
         print("to-main: only root renames a desk", file=sys.stderr)

@@ -136,16 +136,11 @@ class Backup:
     def name_it(self) -> None:
         give_name(self.part, self.copy)
 
-    STEPS = (
-        "take_folder",
-        "check_there_is_room",
-        "copy_files",
-        "check_bytes",
-        "count_rows",
-        "make_one_file",
-        "check_rows",
-        "ask_desk",
-        "name_it",
+    STEPS = tuple(
+        """
+        take_folder check_there_is_room copy_files check_bytes count_rows make_one_file check_rows
+        ask_desk name_it
+        """.split()
     )
 
     # How it ends.

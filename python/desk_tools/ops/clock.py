@@ -9,6 +9,7 @@ import json
 import math
 import os
 import time
+from pathlib import Path
 from typing import Any, TYPE_CHECKING
 
 from desk_tools import law
@@ -55,8 +56,7 @@ def path_of(desk: Desk) -> str:
 def last_run(desk: Desk) -> Run | None:
     """What was noted last, or None where nothing was, or nothing that can be read."""
     try:
-        with open(path_of(desk), encoding="utf-8") as file:
-            return Run(**json.load(file))
+        return Run(**json.loads(Path(path_of(desk)).read_text("utf-8")))
     except (OSError, ValueError, TypeError):
         return None
 
@@ -65,8 +65,7 @@ def put(desk: Desk, run: Run) -> None:
     """Notes it, whole or not at all. A disk that is full keeps no desk from its start."""
     path = path_of(desk)
     with contextlib.suppress(OSError):
-        with open(f"{path}.new", "w", encoding="utf-8") as file:
-            json.dump(dataclasses.asdict(run), file)
+        Path(f"{path}.new").write_text(json.dumps(dataclasses.asdict(run)), "utf-8")
         owner = os.stat(desk.folder)
         if os.geteuid() == 0:
             os.chown(f"{path}.new", owner.st_uid, owner.st_gid)

@@ -12,6 +12,7 @@ import os
 import sys
 import time
 from collections.abc import Callable
+from pathlib import Path
 from typing import Any, TYPE_CHECKING
 
 from . import standby
@@ -251,8 +252,7 @@ class Opening:
         """From the mark on the first machine is told so, whenever it asks. An old file of this machine never serves."""
         self.mark_opened(False)
         with contextlib.suppress(FileNotFoundError):
-            with open(self.desk.fence, encoding="utf-8") as file:
-                self.fence_before = file.read()
+            self.fence_before = Path(self.desk.fence).read_text("utf-8")
             os.remove(self.desk.fence)
         self.copy = os.path.basename(copy)
         return Restore(
@@ -274,8 +274,7 @@ class Opening:
             "placed": is_placed,
             "copy": self.copy,
         }
-        with open(f"{path}.new", "w", encoding="utf-8") as file:
-            json.dump(said, file)
+        Path(f"{path}.new").write_text(json.dumps(said), "utf-8")
         # (the user who takes the copies reads it)
         os.chmod(f"{path}.new", 0o644)
         synced(f"{path}.new")
@@ -299,8 +298,7 @@ class Opening:
             with contextlib.suppress(FileNotFoundError):
                 os.remove(f"{self.folder}/{standby.OPENED}")
         if self.fence_before is not None:
-            with open(self.desk.fence, "w", encoding="utf-8") as file:
-                file.write(self.fence_before)
+            Path(self.desk.fence).write_text(self.fence_before, "utf-8")
         if not self.is_fenced_by_us:
             return "this machine does not serve, and nothing was done to the first machine" + (
                 ", which is off, as was said" if self.first_is_off else ""

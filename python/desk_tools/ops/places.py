@@ -6,6 +6,7 @@ import json
 import os
 import re
 import subprocess
+from pathlib import Path
 from typing import Any
 
 from desk_tools import agencies
@@ -112,8 +113,7 @@ class Desk:
 def value_of(path: str, name: str, default: str | None = None) -> Any:
     """The value of NAME=VALUE in a file of settings. One that is there and cannot be read is no empty one."""
     try:
-        with open(path, encoding="utf-8") as file:
-            found = re.findall(rf"(?m)^{name}=(.*)$", file.read())
+        found = re.findall(rf"(?m)^{name}=(.*)$", Path(path).read_text("utf-8"))
     except FileNotFoundError:
         return default
     return found[-1].strip() if found else default
@@ -122,8 +122,7 @@ def value_of(path: str, name: str, default: str | None = None) -> Any:
 def nightly_in(path: str) -> list[str]:
     """What desk-setup was told runs each night: the backup, where nobody says."""
     try:
-        with open(path, encoding="utf-8") as file:
-            said = json.load(file)["nightly"]
+        said = json.loads(Path(path).read_text("utf-8"))["nightly"]
     except (OSError, ValueError, KeyError, TypeError):
         return ["backup"]
     return [

@@ -17,6 +17,7 @@ import shlex
 import subprocess
 import time
 from collections.abc import Iterator
+from pathlib import Path
 from typing import Any, TYPE_CHECKING
 
 from desk_tools import agencies
@@ -202,8 +203,7 @@ def fence(desk: Desk, why: str) -> None:
 
 
 def write_fence(desk: Desk, text: str) -> None:
-    with open(f"{desk.fence}.new", "w", encoding="utf-8") as file:
-        file.write(text)
+    Path(f"{desk.fence}.new").write_text(text, "utf-8")
     os.chmod(f"{desk.fence}.new", 0o644)
     os.rename(f"{desk.fence}.new", desk.fence)
     synced(os.path.dirname(desk.fence))
@@ -291,8 +291,7 @@ def state(folder: str) -> str:
 def is_opened(folder: str) -> bool:
     """Whether the folder has the mark of an opening. Once this machine is fenced itself, that opening is over."""
     try:
-        with open(f"{folder}/{OPENED}", encoding="utf-8") as file:
-            text = file.read()
+        text = Path(f"{folder}/{OPENED}").read_text("utf-8")
     except FileNotFoundError:
         return False
     except OSError:
@@ -306,8 +305,7 @@ def is_opened(folder: str) -> bool:
 def opened_copy(folder: str) -> str:
     """The name of the copy that the second machine has opened."""
     try:
-        with open(f"{folder}/{OPENED}", encoding="utf-8") as file:
-            name = str(json.load(file).get("copy") or "")
+        name = str(json.loads(Path(f"{folder}/{OPENED}").read_text("utf-8")).get("copy") or "")
     except (OSError, ValueError, AttributeError):
         name = ""
     if not name or name not in copies_in([name]):

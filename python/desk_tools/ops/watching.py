@@ -14,6 +14,7 @@ import time
 import urllib.error
 import urllib.request
 from collections.abc import Iterator
+from pathlib import Path
 from typing import Any
 
 from desk_tools import agencies, alarms
@@ -22,28 +23,13 @@ from .ending import Failure
 from .fences import is_compared
 from .places import Desk, value_of
 
-SHOWN = (
-    "LoadState",
-    "ActiveState",
-    "Result",
-    "NRestarts",
-    "ExecMainExitTimestamp",
-    "ExecMainStatus",
-)
+SHOWN = tuple("LoadState ActiveState Result NRestarts ExecMainExitTimestamp ExecMainStatus".split())
 # The facts of a look, by their names.
-NEEDED_FACTS = {
-    "moment",
-    "uptime",
-    "units",
-    "backups",
-    "sizes",
-    "copies",
-    "ports",
-    "sites",
-    "interrupted",
-    "standby",
-    "elsewhere",
-}
+NEEDED_FACTS = set(
+    """
+    moment uptime units backups sizes copies ports sites interrupted standby elsewhere
+    """.split()
+)
 MINUTE, HOUR, DAY = 60, 3_600, 86_400
 MOST_RESTARTS, LONGEST_STEP = 3, 15 * MINUTE
 CERTIFICATE_DAYS, BACKUP_AGE, STANDBY_AGE = 21, 25 * HOUR, 20 * MINUTE
@@ -436,8 +422,7 @@ def restart(units: list[str], settings: str) -> None:
 def facts_in(path: str) -> dict[str, Any]:
     """The facts of a file that `watch --facts` wrote. Raises Failure for any other file."""
     try:
-        with open(path, encoding="utf-8") as file:
-            found = json.load(file)
+        found = json.loads(Path(path).read_text("utf-8"))
     except (ValueError, RecursionError):
         found = None
     if not isinstance(found, dict) or not NEEDED_FACTS <= found.keys():
@@ -447,8 +432,7 @@ def facts_in(path: str) -> dict[str, Any]:
 
 def state_in(path: str) -> Any:
     try:
-        with open(path, encoding="utf-8") as file:
-            return json.load(file)
+        return json.loads(Path(path).read_text("utf-8"))
     except (OSError, ValueError):
         return {}
 

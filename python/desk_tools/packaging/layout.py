@@ -16,17 +16,7 @@ from desk_tools.build import sources
 from desk_tools.packaging import completion, licences, manual, receipt
 
 # What of bin/ only the sources have a use for.
-OF_SOURCES = {
-    "apt-repository",
-    "check",
-    "desk",
-    "gate",
-    "look.program",
-    "meter",
-    "package",
-    "rehearsal",
-    "test",
-}
+OF_SOURCES = set("apt-repository check desk gate look.program meter package rehearsal test".split())
 # And what of the Python package: beside those commands, what builds the program and the package, and what tries machines.
 PYTHON_OF_SOURCES = {"booted", "build", "packaging", *(f"commands/{it}.py" for it in OF_SOURCES)}
 # Documents lie beside each other in the package.
@@ -97,8 +87,7 @@ class Layout:
 
     def copy(self, source: str, name: str, mode: int = 0o644) -> None:
         """A file of the tree, in which the tools have the names that the package gives them."""
-        with open(f"{self.top}/{source}", "rb") as file:
-            content = file.read()
+        content = pathlib.Path(f"{self.top}/{source}").read_bytes()
         if b"\0" not in content and source.startswith(OF_TOOLS):
             content = with_tools(content.decode(), commands_of(self.top)).encode()
         self.write(name, content, mode)
@@ -106,21 +95,18 @@ class Layout:
     def document(self, source: str, name: str) -> None:
         """A document, in which others and the tools have the names that they have in the package."""
         self.copy(source, name)
-        with open(f"{self.root}/{name}", encoding="utf-8") as file:
-            text = file.read()
+        text = pathlib.Path(f"{self.root}/{name}").read_text("utf-8")
         self.write(name, as_packed(text, commands_of(self.top)))
 
     def write(self, name: str, content: str | bytes, mode: int = 0o644) -> None:
         content = content.encode() if isinstance(content, str) else content
-        with open(self.path(name), "wb") as file:
-            file.write(content)
+        pathlib.Path(self.path(name)).write_bytes(content)
         os.chmod(f"{self.root}/{name}", mode)
 
     def copy_unit(self, source: str, name: str) -> None:
         """A unit of systemd, which names where the documents are: those of the package."""
         self.copy(source, name)
-        with open(f"{self.root}/{name}", encoding="utf-8") as file:
-            text = file.read()
+        text = pathlib.Path(f"{self.root}/{name}").read_text("utf-8")
         said = "Documentation=file:///usr/share/doc/desk/RUNNING.md\n"
         self.write(name, re.sub(r"(?m)^Description=.*\n", lambda it: it[0] + said, text, count=1))
 
@@ -221,10 +207,14 @@ def put_manuals(layout: Layout, version: str, day: str, helps: Helps) -> None:
     for (name, section), (text, inner) in helps.items():
         page = manual.of_help(name, section, text, inner, day, version, also)
         layout.pack(f"usr/share/man/man{section}/{name}.{section}", page)
-    with open(f"{layout.top}/docs/FORMATS.md", encoding="utf-8") as file:
-        page = manual.of_markdown(
-            "desk-formats", 5, "what the desk reads and writes", file.read(), day, version
-        )
+    page = manual.of_markdown(
+        "desk-formats",
+        5,
+        "what the desk reads and writes",
+        pathlib.Path(f"{layout.top}/docs/FORMATS.md").read_text("utf-8"),
+        day,
+        version,
+    )
     layout.pack("usr/share/man/man5/desk-formats.5", page)
 
 
@@ -266,5 +256,4 @@ def put_control(layout: Layout, version: str, is_proved: bool) -> None:
 
 
 def md5_of(path: str) -> str:
-    with open(path, "rb") as file:
-        return hashlib.md5(file.read()).hexdigest()
+    return hashlib.md5(pathlib.Path(path).read_bytes()).hexdigest()

@@ -23,7 +23,7 @@ from pathlib import Path
 from types import FrameType
 
 from desk_tools import ending
-from desk_tools.arguments import day_of
+from desk_tools.arguments import day_of, usage_of
 from desk_tools.asking import Desk, NotAnswered, Refused, key_in
 from desk_tools.reminders import reading, riders, settings
 from desk_tools.reminders.kept import (
@@ -68,9 +68,7 @@ class Terminated(KeyboardInterrupt):
 
 def words_of(arguments: list[str]) -> argparse.Namespace:
     """The command's words."""
-    parser = argparse.ArgumentParser(
-        "bin/reminders", description=__doc__, formatter_class=argparse.RawDescriptionHelpFormatter
-    )
+    parser = usage_of("bin/reminders", __doc__)
     add = parser.add_argument
     add("--settings", type=Path, metavar="FILE", help="reminders.json: commands and texts")
     add("--agency", type=Path, metavar="AGENCY.json", help="the agency's name, zone and places")

@@ -18,19 +18,11 @@ if TYPE_CHECKING:
     from desk_tools.reports.months import Period
     from desk_tools.setup.tally_log import Log
 
-DAYS = [
-    "day",
-    "vehicle_days",
-    "vehicle_days_with_odometer",
-    "vehicle_miles",
-    "vehicle_hours",
-    "vehicle_days_with_revenue_miles",
-    "vehicle_revenue_miles",
-    "deadhead_miles",
-    "vehicle_days_with_revenue_hours",
-    "vehicle_revenue_hours",
-    "deadhead_hours",
-]
+DAYS = """
+    day vehicle_days vehicle_days_with_odometer vehicle_miles vehicle_hours
+    vehicle_days_with_revenue_miles vehicle_revenue_miles deadhead_miles
+    vehicle_days_with_revenue_hours vehicle_revenue_hours deadhead_hours
+""".split()
 UNREPORTED = ["day", "vehicle", "what nobody reported"]
 FILES = {"MR-20": "mr-20.csv", "RR-20": "rr-20.csv", "S-10": "s-10.csv"}
 

@@ -461,8 +461,7 @@ LISTS = ("places", "routes", "vehicles")
 def read(path: str | pathlib.Path) -> Read:
     """What the file holds. It ends with a sentence where the file is no JSON object at all."""
     try:
-        with open(path, "rb") as file:
-            return of_bytes(file.read(), path)
+        return of_bytes(pathlib.Path(path).read_bytes(), path)
     except OSError as error:
         raise Wrong(f"{path} can't be read: {error.strerror}") from None
 

@@ -12,6 +12,7 @@ import json
 import math
 import os
 import statistics
+from pathlib import Path
 from typing import Any
 
 from desk_tools.setup.limits import GREATEST_COORDINATE, Wrong
@@ -127,8 +128,7 @@ def kept_plane(folder: str) -> Plane | None:
     if not os.path.exists(path):
         return None
     try:
-        with open(path, encoding="utf-8") as file:
-            kept = json.load(file)
+        kept = json.loads(Path(path).read_text("utf-8"))
         return Plane(float(kept["latitude"]), float(kept["longitude"]))
     except (ValueError, KeyError, TypeError):
         raise Wrong(f"{path} is no plane: it has to have a latitude and a longitude") from None
@@ -141,8 +141,7 @@ def keep_plane(folder: str, plane: Plane, error: float) -> None:
         "longitude": plane.longitude,
         "greatest_error": round(error, 7),
     }
-    with open(f"{folder}/plane.json", "w", encoding="utf-8") as file:
-        file.write(json.dumps(kept, indent=1) + "\n")
+    Path(f"{folder}/plane.json").write_text(json.dumps(kept, indent=1) + "\n", "utf-8")
 
 
 # Lines and distances on the plane. What is said of a distance is exact: the coordinates are whole numbers.

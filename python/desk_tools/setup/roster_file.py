@@ -17,19 +17,7 @@ from typing import Any, NamedTuple
 from desk_tools.setup.limits import HIGHEST_NUMBER, Wrong
 from desk_tools.town import cells, sheets
 
-COLUMNS = (
-    "rider",
-    "name",
-    "telephone",
-    "language",
-    "home",
-    "usual",
-    "aid",
-    "note",
-    "attendant",
-    "reminder",
-    "mail",
-)
+COLUMNS = tuple("rider name telephone language home usual aid note attendant reminder mail".split())
 NEEDED, LISTED = ("rider", "name"), {"home", "usual"}
 DRIVERS_COLUMNS = ("rider", "name", "note")
 

@@ -16,41 +16,21 @@ from typing import Any
 from desk_tools.setup import agency_file, roster_file, whole_file
 from desk_tools.setup.limits import Wrong
 
-PUBLIC = (
-    "name",
-    "brand",
-    "telephone",
-    "address",
-    "zone",
-    "first_weekday",
-    "place_word",
-    "clock",
-    "languages",
-    "wait_minutes",
-    "lead",
-    "idle_minutes",
-    "lock_minutes",
-    "board_minutes",
-    "board_names",
-    "manifest_telephone",
-    "appeal",
-    "closed",
-    "unproved",
+PUBLIC = tuple(
+    """
+    name brand telephone address zone first_weekday place_word clock languages wait_minutes lead
+    idle_minutes lock_minutes board_minutes board_names manifest_telephone appeal closed unproved
+    """.split()
 )
 # What is assumed to be true where it is not there: here a no is said.
 ASSUMED = ("board_names",)
 # Whoever serves the files is in the folder's group; nobody else reads them.
 FILE_MODE, FOLDER_MODE = 0o640, 0o2750
-FIXED = (
-    "agency.json",
-    "places.json",
-    "addresses.json",
-    "staff/addresses.json",
-    "staff/places.json",
-    "staff/roster.csv",
-    "staff/duty.json",
-    "drivers/places.json",
-    "drivers/roster.csv",
+FIXED = tuple(
+    """
+    agency.json places.json addresses.json staff/addresses.json staff/places.json staff/roster.csv
+    staff/duty.json drivers/places.json drivers/roster.csv
+    """.split()
 )
 OWN_NAMES = ("places.json", "name.json", "addresses.json")
 OWN = re.compile(r"own/[1-9][0-9]*/(?:places|name|addresses)\.json")

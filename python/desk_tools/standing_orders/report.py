@@ -13,20 +13,10 @@ from desk_tools.standing_orders.night import BOOKED, OFFERED, REFUSED, THERE
 if TYPE_CHECKING:
     from desk_tools.standing_orders.night import Outcome
 
-HEADER = (
-    "day",
-    "order",
-    "rider",
-    "wish",
-    "from",
-    "to",
-    "result",
-    "rule",
-    "reason",
-    "trip",
-    "vehicle",
-    "window_from",
-    "window_to",
+HEADER = tuple(
+    """
+    day order rider wish from to result rule reason trip vehicle window_from window_to
+    """.split()
 )
 
 

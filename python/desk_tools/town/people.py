@@ -35,16 +35,10 @@ from desk_tools.town.joining import NoPlace
 from desk_tools.town.sheets import Row, Sheet
 
 COLUMNS = {
-    "number": (
-        "rider",
-        "id",
-        "rider_id",
-        "rider_number",
-        "rider_no",
-        "id_number",
-        "client",
-        "client_id",
-        "client_number",
+    "number": tuple(
+        """
+        rider id rider_id rider_number rider_no id_number client client_id client_number
+        """.split()
     ),
     "name": ("rider_name", "full_name", "client_name"),
     "telephone": ("phone", "telephone_number", "phone_number", "tel"),
@@ -58,14 +52,11 @@ COLUMNS = {
     "kind": ("type",),
     "attendant": ("pca", "personal_care_attendant"),
     "wheelchair": ("wc", "wheelchair_user", "uses_wheelchair"),
-    "until": (
-        "certified_until",
-        "certified_through",
-        "certification_expires",
-        "cert_expires",
-        "expires",
-        "expiration",
-        "expiration_date",
+    "until": tuple(
+        """
+        certified_until certified_through certification_expires cert_expires expires expiration
+        expiration_date
+        """.split()
     ),
     "conditions": ("condition",),
     "usual": ("usual_places",),

@@ -17,7 +17,7 @@ import sys
 from pathlib import Path
 
 from desk_tools import ending
-from desk_tools.arguments import day_of
+from desk_tools.arguments import day_of, usage_of
 from desk_tools.setup import whole_file
 from desk_tools.why import checking
 from desk_tools.why.checking import NoAudit, NotRight, Question
@@ -34,27 +34,17 @@ STYLE = "body{font:12pt/1.5 sans-serif;max-width:46rem;margin:2rem auto;padding:
 
 def words_of(arguments: list[str]) -> argparse.Namespace:
     """The command's words."""
-    parser = argparse.ArgumentParser(
-        "bin/why", description=__doc__, formatter_class=argparse.RawDescriptionHelpFormatter
-    )
-    parser.add_argument("log", metavar="LOG", help="the file with the log, or - for standard input")
-    parser.add_argument("--language", choices=LANGUAGES, default="en", help="en or es")
-    parser.add_argument(
-        "--html", metavar="FILE", type=Path, help="writes a page in place of the text"
-    )
-    parser.add_argument(
-        "--copy", metavar="COPY.db", type=Path, help="the copy that the log is about"
-    )
-    parser.add_argument(
-        "--day", metavar="DAY", type=day_of, help="the day of the trip, with --copy"
-    )
-    parser.add_argument("--agency", metavar="AGENCY.json", type=Path, help="names of the vans")
+    parser = usage_of("bin/why", __doc__)
+    parser.takes("log LOG", "the file with the log, or - for standard input")
+    parser.takes("--language", "en or es", choices=LANGUAGES, default="en")
+    parser.takes("--html FILE", "writes a page in place of the text", type=Path)
+    parser.takes("--copy COPY.db", "the copy that the log is about", type=Path)
+    parser.takes("--day DAY", "the day of the trip, with --copy", type=day_of)
+    parser.takes("--agency AGENCY.json", "names of the vans", type=Path)
     parser.add_argument(
         "--question", nargs=len(QUESTION), metavar=QUESTION, help="what was asked, for `desk audit`"
     )
-    parser.add_argument(
-        "--desk", metavar="PROGRAM", help="the desk that checks the log, else the installed one"
-    )
+    parser.takes("--desk PROGRAM", "the desk that checks the log, else the installed one")
     words = parser.parse_args(arguments)
     if words.question:
         try:

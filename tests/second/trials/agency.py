@@ -145,37 +145,21 @@ RIDERS = {
     **dict.fromkeys([7, 8, 9], "visitor"),
 }
 WITH_ATTENDANT, IN_WHEELCHAIR = [2, 4, 9], [3, 4, 8]
+
+
+def times_of(rows: str) -> list[tuple[int, int, int]]:
+    """Driving times, each as from, to and minutes."""
+    return [
+        (int(start), int(goal), int(took)) for start, goal, took in map(str.split, rows.split(","))
+    ]
+
+
+# Between the depot, which is place 1, and the places 2, 3 and 4.
+TIMES = times_of("1 2 20, 1 3 40, 2 1 20, 2 3 30, 2 4 10, 3 1 40, 3 2 30, 3 4 25, 4 2 10, 4 3 25")
 # Driving times from a day on, as days from the first day of the trial; later there is no way back from place 4 to place 2.
 TABLES = {
-    -50: [
-        (1, 2, 20),
-        (1, 3, 40),
-        (2, 1, 20),
-        (2, 3, 30),
-        (2, 4, 10),
-        (3, 1, 40),
-        (3, 2, 30),
-        (3, 4, 25),
-        (4, 2, 10),
-        (4, 3, 25),
-        (6, 1, 50),
-        (1, 6, 50),
-        (6, 3, 15),
-        (3, 6, 15),
-        (5, 2, 1),
-        (2, 5, 1),
-        (4, 4, 7),
-    ],
-    5: [
-        (1, 2, 12),
-        (2, 3, 12),
-        (3, 4, 12),
-        (4, 6, 12),
-        (6, 1, 12),
-        (2, 1, 35),
-        (3, 2, 35),
-        (6, 4, 3),
-    ],
+    -50: TIMES + times_of("6 1 50, 1 6 50, 6 3 15, 3 6 15, 5 2 1, 2 5 1, 4 4 7"),
+    5: times_of("1 2 12, 2 3 12, 3 4 12, 4 6 12, 6 1 12, 2 1 35, 3 2 35, 6 4 3"),
 }
 CSV_HEADER = "from,to,minutes"
 

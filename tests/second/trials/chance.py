@@ -191,16 +191,7 @@ def due_entries(file: list[Entry]) -> list[str]:
         return ["grant", "grant", "refuse", "complete"]
     if case_files.pending(file) is not None:
         return ["heard", "appeal-granted", "appeal-denied", "overturn"]
-    return [
-        "complete",
-        "complete",
-        "complete",
-        "complete",
-        "appeal",
-        "notice",
-        "notice-heard",
-        "suspend",
-    ]
+    return "complete complete complete complete appeal notice notice-heard suspend".split()
 
 
 ENTERING = {

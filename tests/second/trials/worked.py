@@ -4,7 +4,7 @@ from __future__ import annotations
 
 from typing import Any
 
-from second.trials.agency import ADMIN, CLERK, DISPATCHER, EXAMINER, Body, csv_of
+from second.trials.agency import ADMIN, CLERK, DISPATCHER, EXAMINER, TIMES, Body, csv_of
 from second.trials.calls import TRAVEL, Call
 from second.trials.chance import in_one_line
 
@@ -16,21 +16,7 @@ DONE, BOOKED, OVER, UNKNOWN, FULL = (
     '{"denied":"desk.unknown"}',
     '{"denied":"desk.full"}',
 )
-# Minutes between the depot, which is place 1, and the places 2, 3 and 4.
-TIMES = csv_of(
-    [
-        (1, 2, 20),
-        (1, 3, 40),
-        (2, 1, 20),
-        (2, 3, 30),
-        (2, 4, 10),
-        (3, 1, 40),
-        (3, 2, 30),
-        (3, 4, 25),
-        (4, 2, 10),
-        (4, 3, 25),
-    ]
-)
+TABLE = csv_of(TIMES)
 POLICY = {
     "base": 175,
     "transfer": 50,
@@ -167,7 +153,7 @@ def set_up(listed: Listed) -> None:
     for rider in (7, 9):
         listed.post(FIRST, 480, f"/riders/{rider}/entries", EXAMINER, GRANT, '{"entered":1}')
     listed.post(FIRST, 480, "/vehicles", DISPATCHER, van(FIRST, 480))
-    listed.table(FIRST, FIRST, TIMES)
+    listed.table(FIRST, FIRST, TABLE)
 
 
 def worked_day() -> Listed:
@@ -194,8 +180,8 @@ def worked_day() -> Listed:
     manifest(TOMORROW, ONE_RIDE)
     listed.post(*today, "/vehicles", DISPATCHER, van(TOMORROW, 480), BOOKED)
     listed.post(*today, "/vehicles", DISPATCHER, van(IN_TWO_DAYS, 100))
-    listed.table(TODAY, TOMORROW, TIMES, "desk.booked")
-    listed.table(TODAY, IN_TWO_DAYS, TIMES)
+    listed.table(TODAY, TOMORROW, TABLE, "desk.booked")
+    listed.table(TODAY, IN_TWO_DAYS, TABLE)
     book(today, 9, wish(TOMORROW, 595, 4), confirmed(2, 535, 550))
     manifest(TOMORROW, SHARED_RIDE)
     cancel(today, 2, DONE)
