@@ -1,4 +1,5 @@
 mod EndLemmas
+mod MomentLemmas
 mod PortLemmas
 mod ServingLemmas
 mod TurnLemmas

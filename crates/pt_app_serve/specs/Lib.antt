@@ -1,3 +1,4 @@
+pub mod Closing
 pub mod Connection
 pub mod Port
 pub mod Serving

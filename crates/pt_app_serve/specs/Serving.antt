@@ -5,6 +5,7 @@ use Rattle.std.specs.List.{count_by}
 use Rattle.pt_base_values.specs.declared.fault.Cause.TheVariants as cause
 use Rattle.pt_base_values.specs.Fault.{fault}
 use Rattle.pt_base_values.specs.declared.fault.Fault.{Fault}
+use Rattle.pt_base_values.specs.Day.{IsOutside}
 use Rattle.pt_base_values.specs.Moment.{Moment}
 use Rattle.pt_base_clock.specs.LocalTime.{IsLocalTime, IsZoneRule}
 use Rattle.pt_desk_store.specs.Store.{Store}
@@ -30,6 +31,17 @@ progress_of store replied ending = record { desk = desk_of store; replied = repl
 -- clocks of the zone show this moment at an instant that a clock showed
 abbrev pub IsMomentAt : (ℤ → Type 0) → List ℕ → Moment → Type 0
 IsMomentAt Shows zone now = (instant : ℤ) × Shows instant × IsLocalTime zone instant (pos now.0) now.1
+
+-- clocks of the zone show a day outside 2000 to 2099 at this instant
+abbrev pub IsOutOfRange : List ℕ → ℤ → Type 0
+IsOutOfRange zone instant = (day : ℤ) × (minute : ℕ) × IsLocalTime zone instant day minute × IsOutside day
+
+-- Why a clock gives no moment: the zone's text is no rule, or the clock could not be read, or it showed an instant whose
+-- day is out of range.
+abbrev pub LacksMoment : Type 0 → (ℤ → Type 0) → List ℕ → Fault → Type 0
+LacksMoment Unread Shows zone error =
+    (error ≡ fault cause.NoSuchZone) ⊎ ((error ≡ fault cause.DateOutOfRange)
+    × (Unread ⊎ ((instant : ℤ) × Shows instant × IsOutOfRange zone instant)))
 
 -- the reply is the desk's to the front of the bytes that a client sends; if these are unknown, it is to some message
 abbrev pub AnswersSent : Option (List ℕ) → Moment → Desk → Desk → Response → Type 0

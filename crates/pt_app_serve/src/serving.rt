@@ -1,5 +1,5 @@
-ghost use Rattle.std.specs.Prelude.{◌≡◌, ◌<◌, ◌≤◌, ◌↔◌, ◌++◌, ℕ, ℤ, List, [], ◌∷◌, Option, Err, ⊤};
-ghost use Rattle.std.specs.Prelude.{IfErr, IfOk, IfSome, OnErr, OnOk, length};
+ghost use Rattle.std.specs.Prelude.{◌≡◌, ◌⊎◌, ◌<◌, ◌≤◌, ◌↔◌, ◌++◌, ℕ, ℤ, List, [], ◌∷◌, Option, Err, ⊤};
+ghost use Rattle.std.specs.Prelude.{IfErr, IfOk, IfSome, MatchOption, OnErr, OnOk, length};
 ghost use Rattle.pt_base_values.specs.declared.fault.Cause.TheVariants as cause;
 ghost use Rattle.pt_base_values.specs.Fault.{fault};
 ghost use Rattle.pt_base_clock.specs.LocalTime.{IsZoneRule};
@@ -7,7 +7,7 @@ ghost use Rattle.pt_desk_store.specs.Store.{Store};
 ghost use Rattle.pt_http_exchange.specs.Answering.{GoesOn};
 ghost use Rattle.pt_http_request.specs.Targets.{desk_routes};
 ghost use Rattle.pt_app_serve.specs.Connection.{IsComing};
-ghost use Rattle.pt_app_serve.specs.Serving.{EndsConnection, EndsServing, IsMomentAt};
+ghost use Rattle.pt_app_serve.specs.Serving.{EndsConnection, EndsServing, IsMomentAt, LacksMoment};
 ghost use Rattle.pt_app_serve.specs.Serving.{ServesATurn, ServesInTurn, Turn};
 ghost use Rattle.pt_app_serve.specs.Serving.{failures_in, progress_of};
 
@@ -25,7 +25,7 @@ use std::time::Clock;
 
 /// Why a clock that cannot be read gives no moment: the zone's text, or else the clock.
 fn unread(zone: &str) -> Fault
-    ensures ends { EndsServing result }
+    ensures ends { (result ≡ fault cause.NoSuchZone) ⊎ (result ≡ fault cause.DateOutOfRange) }
     ensures zone { (result ≡ fault cause.NoSuchZone) ↔ ¬ (IsZoneRule zone.now) }
 {
     match moment_of(zone, None) {
@@ -36,19 +36,24 @@ fn unread(zone: &str) -> Fault
 
 /// What tells the time.
 ///
-/// Only a call of `now` gives `shows`. Code that is proved over every clock cannot make it up.
+/// Only a call of `now` gives `shows` and `unread`. Code that is proved over every clock cannot make them up.
 pub trait TellsTime {
     /// The clock showed this instant.
     ghost shows: { ℤ → Type 0 };
 
+    /// The clock could not be read.
+    ghost unread: { Type 0 };
+
     /// The instant that the clock shows. There is none where it cannot be read.
     fn now(&self) -> Option<Timestamp>
-        ensures shown { IfSome result (λ instant. shows instant.nanosecond) };
+        ensures shown { MatchOption result unread (λ instant. shows instant.nanosecond) };
 }
 
 /// The kit states nothing of what a clock reads.
 impl<C: Clock> TellsTime for C {
     ghost shows = { λ _. ⊤ };
+
+    ghost unread = { ⊤ };
 
     fn now(&self) -> Option<Timestamp> {
         Timestamp::now(self).ok()
@@ -56,11 +61,11 @@ impl<C: Clock> TellsTime for C {
 }
 
 /// The day and the minute that clocks of a zone show now. The error is fault 3, a zone that is no POSIX rule, or fault
-/// 2, a clock that shows no day of 2000 to 2099.
+/// 2, a clock that cannot be read or shows no day of 2000 to 2099.
 pub fn moment_at<T: TellsTime>(clock: &T, zone: &str) -> Result<Moment, Fault>
     ensures moment { IfOk result (IsMomentAt T.shows zone.now) }
     ensures zone { (result ≡ Err (fault cause.NoSuchZone)) ↔ ¬ (IsZoneRule zone.now) }
-    ensures fault { IfErr result EndsServing }
+    ensures fault { IfErr result (LacksMoment T.unread T.shows zone.now) }
 {
     match clock.now() {
         Some(instant) => now_in(zone, instant),
