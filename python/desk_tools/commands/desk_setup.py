@@ -18,12 +18,8 @@ import shutil
 import sys
 from typing import Any
 
-<<<<<<< HEAD
 from desk_tools import agencies, ending
-=======
-from desk_tools import ending
 from desk_tools.arguments import usage_of
->>>>>>> house
 from desk_tools.machine import settings as told
 from desk_tools.machine import (
     acme,
