@@ -1,19 +1,16 @@
 //! The program `desk`: its words, standard input and standard output.
 #![tactic(auto)]
 
-use crate::database::{ask_file, migrate_file, serve_file};
 use pt_app_command_line::matches_in;
 pub use pt_app_command_line::{Line, line};
-use pt_app_commands::{Ending, ending_of_refusal, ending_of_task, exit_status, rehearse_with_key};
-use pt_app_files::init;
+use pt_app_commands::{Ending, ending_of_refusal, ending_of_task, exit_status};
+use pt_app_files::do_words;
 pub use pt_app_serve::serve_one;
 use pt_base_values::{Cause, Fault};
 use sqlite_std_file::Unknown;
 use std::io::ErrorKind;
 use std::process::ExitCode;
 use std::{env, io};
-
-mod database;
 
 /// The words of the program's command line, its own name first.
 ///
@@ -39,64 +36,10 @@ fn refuse(rt: &HostRuntime, words: &[String]) -> Ending {
     }
 }
 
-/// Does the task.
-fn do_asked(rt: &HostRuntime, asked: &Line<'_>) -> Result<Ending, Fault> {
-    match asked {
-        Line::Rehearse { key } => {
-            rehearse_with_key(rt.alloc(), key.as_bytes(), rt.stdin(), &mut rt.stdout())?;
-            Ok(Ending::Done)
-        }
-        Line::Init { file, key } => {
-            init(rt, Unknown, file, key)?;
-            Ok(Ending::Done)
-        }
-        Line::Migrate { file } => migrate_file(rt, file),
-        Line::Serve {
-            file,
-            zone,
-            port,
-            count,
-        } => serve_file(rt, file, zone, *port, *count),
-        Line::Travel {
-            file,
-            zone,
-            key,
-            ..
-        }
-        | Line::Manifest {
-            file,
-            zone,
-            key,
-            ..
-        }
-        | Line::Trips {
-            file,
-            zone,
-            key,
-            ..
-        }
-        | Line::Explain {
-            file,
-            zone,
-            key,
-            ..
-        }
-        | Line::Audit {
-            file,
-            zone,
-            key,
-            ..
-        } => match asked.task() {
-            Some(task) => ask_file(rt, file, zone, key, &task),
-            None => unreachable!(),
-        },
-    }
-}
-
 /// Does the task that the words name.
 fn do_line(rt: &HostRuntime, words: &[String]) -> Ending {
-    match line(rt.alloc(), words) {
-        Ok(asked) => ending_of_task(do_asked(rt, &asked)),
+    match do_words(rt, Unknown, words) {
+        Ok(done) => ending_of_task(done),
         Err(fault) if fault.code == Cause::WrongWords.code() => refuse(rt, words),
         Err(fault) => Ending::Failed(fault),
     }

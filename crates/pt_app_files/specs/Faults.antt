@@ -20,11 +20,16 @@ pub record IsFaultOfMaking (kind : ErrorKind) (error : Fault) : Type 0 where
   pub memory : kind ≡ OutOfMemory → error ≡ fault cause.Memory
   pub other : kind ≢ AlreadyExists → kind ≢ OutOfMemory → error ≡ fault cause.StoreFailed
 
+-- why a file that must exist cannot be read: memory is refused, or else it is not there
+pub record IsFaultOfReading (kind : ErrorKind) (error : Fault) : Type 0 where
+  pub memory : kind ≡ OutOfMemory → error ≡ fault cause.Memory
+  pub other : kind ≢ OutOfMemory → error ≡ fault cause.NoSuchFile
+
 -- why a database cannot be opened: memory is refused, or else the store fails
 pub record IsFaultOfConnecting (why : Error) (error : Fault) : Type 0 where
   pub memory : why ≡ SqliteFailure code.OutOfMemory → error ≡ fault cause.Memory
   pub other : why ≢ SqliteFailure code.OutOfMemory → error ≡ fault cause.StoreFailed
 
--- the fault for a database that is not made a desk's
+-- the fault for a database that is refused
 abbrev pub told_as : OpenFault → Fault
 told_as refused = record { code = refused.code; row = refused.table }

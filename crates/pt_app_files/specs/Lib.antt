@@ -1,2 +1,9 @@
+pub mod Ask
+pub mod Clock
+pub mod Commands
+pub mod Desk
 pub mod Faults
 pub mod Init
+pub mod Known
+pub mod Migrate
+pub mod Serve

@@ -1,4 +1,4 @@
-ghost use Rattle.std.specs.Prelude.{ℕ, List, Result, IfOk, ⊤};
+ghost use Rattle.std.specs.Prelude.{ℕ, List, Result, Ok, Err, IfErr, IfOk, ⊤};
 ghost use Rattle.std.specs.declared.io.Error.{Error as IoError};
 ghost use Rattle.sqlite.specs.Files.{file_state};
 ghost use Rattle.sqlite.specs.Start.{FindsIn};
@@ -11,16 +11,22 @@ use sqlite_std_file::{FileFrom, Start};
 use sqlite_store::FileStore;
 use std::{fs, io};
 
-/// What makes files and opens the databases in them.
+/// What makes, finds and reads files, and opens the databases in them.
 ///
-/// Only a call gives `makes`, `connects` or `leaves`. Code that is proved over every type cannot make them up, so a
-/// clause that names them says which calls were made, of which file, in which order.
+/// Only a call gives `makes`, `finds`, `reads`, `connects` or `leaves`. Code that is proved over every type cannot make
+/// them up, so a clause that names them says which calls were made, of which file, in which order.
 pub trait DeskFiles {
     /// A connection to the database in a file.
     type Connected;
 
     /// A call of `make` of this file, with this result, leads from one state to the next.
     ghost makes: { Self → List ℕ → Result (Unit {0}) IoError → Self → Type 0 };
+
+    /// A call of `find` of this file, with this result, leads from one state to the next.
+    ghost finds: { Self → List ℕ → Result (Unit {0}) IoError → Self → Type 0 };
+
+    /// A call of `read` of this file, with these bytes or this error, leads from one state to the next.
+    ghost reads: { Self → List ℕ → Result (List ℕ) IoError → Self → Type 0 };
 
     /// A call of `connect` to this file, with this result, leads from one state to the next.
     ghost connects: { Self → List ℕ → Result Self.Connected StoreError → Self → Type 0 };
@@ -31,6 +37,15 @@ pub trait DeskFiles {
     /// Makes an empty file, which must not exist.
     fn make(&mut self, file: &str) -> io::Result<()>
         ensures { makes self.old file.now result self.new };
+
+    /// Opens a file, which must exist, and closes it.
+    fn find(&mut self, file: &str) -> io::Result<()>
+        ensures { finds self.old file.now result self.new };
+
+    /// The bytes of a file, which must exist.
+    fn read(&mut self, file: &str) -> io::Result<Vec<u8>>
+        ensures bytes { IfOk result (λ bytes. reads self.old file.now (Ok bytes.items) self.new) }
+        ensures error { IfErr result (λ error. reads self.old file.now (Err error) self.new) };
 
     /// Opens the database in a file.
     fn connect(&mut self, file: &str) -> Result<Self::Connected, Error>
@@ -64,6 +79,10 @@ impl<B: Start> DeskFiles for HostFiles<'_, B> {
 
     ghost makes = { λ _ _ _ _. ⊤ };
 
+    ghost finds = { λ _ _ _ _. ⊤ };
+
+    ghost reads = { λ _ _ _ _. ⊤ };
+
     ghost connects = { λ _ _ result _. IfOk result (λ conn. HasCleanDisk (file_state conn)
         → FindsIn (image_at B.Start) (file_state conn)) };
 
@@ -74,6 +93,17 @@ impl<B: Start> DeskFiles for HostFiles<'_, B> {
             Ok(_) => Ok(()),
             Err(error) => Err(error),
         }
+    }
+
+    fn find(&mut self, file: &str) -> io::Result<()> {
+        match fs::open(self.rt, file) {
+            Ok(_) => Ok(()),
+            Err(error) => Err(error),
+        }
+    }
+
+    fn read(&mut self, file: &str) -> io::Result<Vec<u8>> {
+        fs::read(self.rt, file)
     }
 
     fn connect(&mut self, file: &str) -> Result<Connection<FileStore<FileFrom<B>>>, Error> {

@@ -1,47 +1,12 @@
 //! Makes the database of a new desk in a file.
-ghost use Rattle.std.specs.Prelude.{◌≡◌};
-ghost use Rattle.std.specs.IoError.{error_kind};
-ghost use Rattle.pt_app_files.specs.Faults.{IsFaultOfConnecting, IsFaultOfMaking, told_as};
 ghost use Rattle.pt_app_files.specs.Init.{Inits, MakesAndLeaves, MakesIn};
 
-use crate::files::{DeskFiles, HostFiles};
-use pt_base_values::{Cause, Fault};
-use pt_tables::{OpenFault, create};
-use sqlite::{Alter, Connection, Error, ErrorCode};
-use sqlite_std_file::Start;
+use crate::faults::{fault_of_connecting, fault_of_making, fault_of_refusal};
+use crate::files::DeskFiles;
+use pt_base_values::Fault;
+use pt_tables::create;
+use sqlite::{Alter, Connection};
 use std::alloc::Global;
-use std::io::{self, ErrorKind};
-
-/// The fault for a database that is not made a desk's.
-fn fault_of_refusal(refused: OpenFault) -> Fault
-    ensures { result ≡ told_as refused }
-{
-    Fault {
-        code: refused.code,
-        row: u32::from(refused.table),
-    }
-}
-
-/// The fault if the store cannot open a file.
-fn fault_of_connecting(error: &Error) -> Fault
-    ensures { IsFaultOfConnecting error.now result }
-{
-    match error {
-        Error::SqliteFailure(ErrorCode::OutOfMemory) => Fault::of(Cause::Memory),
-        _ => Fault::of(Cause::StoreFailed),
-    }
-}
-
-/// The fault if a file cannot be made.
-fn fault_of_making(error: &io::Error) -> Fault
-    ensures { IsFaultOfMaking (error_kind error.now) result }
-{
-    match error.kind() {
-        ErrorKind::AlreadyExists => Fault::of(Cause::FileExists),
-        ErrorKind::OutOfMemory => Fault::of(Cause::Memory),
-        _ => Fault::of(Cause::StoreFailed),
-    }
-}
 
 /// Makes the database of a connection that of a new desk, whose only caller is the admin with this key, and leaves it.
 fn make_desk<S: Alter + Drop, F: DeskFiles<Connected = Connection<S>>>(
@@ -92,10 +57,4 @@ pub fn init_file<S: Alter + Drop, F: DeskFiles<Connected = Connection<S>>>(
         Ok(()) => make_desk_in(alloc, files, file, key),
         Err(error) => Err(fault_of_making(&error)),
     }
-}
-
-/// The same with the machine's own files. `start` stands for the bytes of the file.
-pub fn init<B: Start>(rt: &HostRuntime, start: B, file: &str, key: &str) -> Result<(), Fault> {
-    let mut files = HostFiles::new(rt, start);
-    init_file(rt.alloc(), &mut files, file, key)
 }
