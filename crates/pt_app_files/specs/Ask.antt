@@ -56,12 +56,13 @@ AsksAt {F} g reads finds connects leaves file key now asked out_old out_new resu
     (EndsBy out_old out_new result) mid new)
 
 -- The clock is read first. If it gives no moment in the zone, no file is touched.
-abbrev pub AsksFile : {F S : Type 0} → Ghosts S → (ℤ → Type 0) → (F → List ℕ → Result (List ℕ) IoError → F → Type 0)
+abbrev pub AsksFile : {F S : Type 0} → Ghosts S → Type 0 → (ℤ → Type 0)
+    → (F → List ℕ → Result (List ℕ) IoError → F → Type 0)
     → (F → List ℕ → Result (Unit {0}) IoError → F → Type 0) → (F → List ℕ → Result (Held S) StoreError → F → Type 0)
     → (F → Held S → F → Type 0) → List ℕ → List ℕ → List ℕ → Task
     → Option (List ℕ) → Option (List ℕ) → Result Ending Fault → F → F
     → Type 0
-AsksFile g Shows reads finds connects leaves file zone key asked out_old out_new result old new =
-    AtMoment Shows zone
+AsksFile g Unread Shows reads finds connects leaves file zone key asked out_old out_new result old new =
+    AtMoment Unread Shows zone
     (λ now. AsksAt g reads finds connects leaves file key now asked out_old out_new result)
     (EndsBy out_old out_new result) old new

@@ -63,7 +63,7 @@ pub record Obeys (Rehearses : List ℕ → Type 0) (Inits : List ℕ → List �
 
 -- The same with what a trait's calls do: of a clock, of files, of the connections of a port, and of ports. `given` is the
 -- input. What a command does not use is as it was.
-abbrev pub ObeysWith : {F S A P : Type 0} → Ghosts S → (ℤ → Type 0)
+abbrev pub ObeysWith : {F S A P : Type 0} → Ghosts S → Type 0 → (ℤ → Type 0)
     → (F → List ℕ → Result (Unit {0}) IoError → F → Type 0) → (F → List ℕ → Result (Unit {0}) IoError → F → Type 0)
     → (F → List ℕ → Result (List ℕ) IoError → F → Type 0) → (F → List ℕ → Result (Held S) StoreError → F → Type 0)
     → (F → Held S → F → Type 0) → (Option (List ℕ) → ℤ → Type 0) → (Option (List ℕ) → Type 0)
@@ -71,18 +71,18 @@ abbrev pub ObeysWith : {F S A P : Type 0} → Ghosts S → (ℤ → Type 0)
     → (P → ℕ → ℕ → Result A Fault → P → Type 0) → Option (List ℕ) → Option (List ℕ) → Option (List ℕ) → F → F → P → P
     → Result Ending Fault → Line
     → Type 0
-ObeysWith g Shows makes finds reads connects leaves Seen Fails comes replied ending opens given out_old out_new
+ObeysWith g Unread Shows makes finds reads connects leaves Seen Fails comes replied ending opens given out_old out_new
     old new ports_old ports_new result asked =
     Obeys
     (λ key. EndsDone (RehearsesWith key given out_old out_new) result × (new ≡ old) × (ports_new ≡ ports_old))
     (λ file key. EndsDone (λ made. Inits g makes connects leaves file key made old new) result
     × (out_new ≡ out_old) × (ports_new ≡ ports_old))
     (λ file. MigratesFile g finds connects leaves file out_old out_new result old new × (ports_new ≡ ports_old))
-    (λ file zone number connections. ServesFile g Shows finds connects leaves file zone
+    (λ file zone number connections. ServesFile g Unread Shows finds connects leaves file zone
     (ServesOn (store_of g) Seen Fails comes replied ending opens zone number connections result ports_old ports_new)
     ports_old ports_new result old new × (out_new ≡ out_old))
-    (λ file zone key task. AsksFile g Shows reads finds connects leaves file zone key task out_old out_new result old new
-    × (ports_new ≡ ports_old))
+    (λ file zone key task. AsksFile g Unread Shows reads finds connects leaves file zone key task out_old out_new result
+    old new × (ports_new ≡ ports_old))
     asked
 
 -- Words are read as a line, and this is done for it. Words that name no line, or a lack of memory, end it so, and nothing

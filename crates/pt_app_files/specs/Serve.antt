@@ -69,11 +69,12 @@ abbrev pub EndsUnopened : {P : Type 0} → P → P → Result Ending Fault → F
 EndsUnopened old new result error = (result ≡ Err error) × (new ≡ old)
 
 -- The clock is read first. Then the desk in a file, which must exist, serves. The first call that fails ends it.
-abbrev pub ServesFile : {F S P : Type 0} → Ghosts S → (ℤ → Type 0) → (F → List ℕ → Result (Unit {0}) IoError → F → Type 0)
+abbrev pub ServesFile : {F S P : Type 0} → Ghosts S → Type 0 → (ℤ → Type 0)
+    → (F → List ℕ → Result (Unit {0}) IoError → F → Type 0)
     → (F → List ℕ → Result (Held S) StoreError → F → Type 0) → (F → Held S → F → Type 0) → List ℕ → List ℕ
     → (KeptTables S → KeptTables S → Type 0) → P → P → Result Ending Fault → F → F
     → Type 0
-ServesFile g Shows finds connects leaves file zone Serves ports_old ports_new result old new =
-    AtMoment Shows zone
+ServesFile g Unread Shows finds connects leaves file zone Serves ports_old ports_new result old new =
+    AtMoment Unread Shows zone
     (λ _. OverDesk g finds connects leaves file Serves (EndsUnopened ports_old ports_new result))
     (EndsUnopened ports_old ports_new result) old new

@@ -143,7 +143,7 @@ pub fn ask_file<T: TellsTime, S: Alter + Drop, F: DeskFiles<Connected = Connecti
     task: &Task<'_>,
     out: &mut W,
 ) -> Result<Ending, Fault>
-    ensures { AsksFile S.Store T.shows F.reads F.finds F.connects F.leaves file.now zone.now key.now task.now
+    ensures { AsksFile S.Store T.unread T.shows F.reads F.finds F.connects F.leaves file.now zone.now key.now task.now
         (W.contents out.old) (W.contents out.new) result files.old files.new }
 {
     match moment_at(clock, zone) {

@@ -65,7 +65,7 @@ fn ask<T: TellsTime, S: Alter + Drop, F: DeskFiles<Connected = Connection<S>>, W
     out: &mut W,
 ) -> Result<Ending, Fault>
     requires { IsSome (task_of asked.now) }
-    ensures { AsksIts (λ file zone key task. AsksFile S.Store T.shows F.reads F.finds F.connects F.leaves file zone
+    ensures { AsksIts (λ file zone key task. AsksFile S.Store T.unread T.shows F.reads F.finds F.connects F.leaves file zone
         key task (W.contents out.old) (W.contents out.new) result files.old files.new)
         file.now zone.now key.now asked.now }
 {
@@ -95,7 +95,7 @@ fn do_asked_by<
     out: &mut W,
     asked: &Line<'_>,
 ) -> Result<Ending, Fault>
-    ensures { ObeysWith S.Store T.shows F.makes F.finds F.reads F.connects F.leaves A.Stream.shows A.Stream.fails
+    ensures { ObeysWith S.Store T.unread T.shows F.makes F.finds F.reads F.connects F.leaves A.Stream.shows A.Stream.fails
         A.comes A.replied A.ending P.opens (I.remaining input) (W.contents out.old) (W.contents out.new)
         files.old files.new ports.old ports.new result asked.now }
 {
@@ -163,7 +163,7 @@ pub fn do_words_by<
     words: &[String],
 ) -> Result<Result<Ending, Fault>, Fault>
     ensures { DoesWords (map string_bytes words.now)
-        (ObeysWith S.Store T.shows F.makes F.finds F.reads F.connects F.leaves A.Stream.shows A.Stream.fails
+        (ObeysWith S.Store T.unread T.shows F.makes F.finds F.reads F.connects F.leaves A.Stream.shows A.Stream.fails
         A.comes A.replied A.ending P.opens (I.remaining input) (W.contents out.old) (W.contents out.new)
         files.old files.new ports.old ports.new)
         ((files.new ≡ files.old) × (ports.new ≡ ports.old) × (W.contents out.new ≡ W.contents out.old)) result }

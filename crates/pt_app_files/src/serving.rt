@@ -171,7 +171,7 @@ pub fn serve_file<
     number: u16,
     connections: u32,
 ) -> Result<Ending, Fault>
-    ensures { ServesFile S.Store T.shows F.finds F.connects F.leaves file.now zone.now
+    ensures { ServesFile S.Store T.unread T.shows F.finds F.connects F.leaves file.now zone.now
         (ServesOn (store_of S.Store) A.Stream.shows A.Stream.fails A.comes A.replied A.ending P.opens zone.now
         number connections result ports.old ports.new) ports.old ports.new result files.old files.new }
 {
