@@ -4,7 +4,7 @@
 use pt_app_command_line::matches_in;
 pub use pt_app_command_line::{Line, line};
 use pt_app_commands::{Ending, ending_of_refusal, ending_of_task, exit_status};
-use pt_app_files::do_asked;
+use pt_app_files::do_words;
 pub use pt_app_serve::serve_one;
 use pt_base_values::{Cause, Fault};
 use sqlite_std_file::Unknown;
@@ -38,8 +38,8 @@ fn refuse(rt: &HostRuntime, words: &[String]) -> Ending {
 
 /// Does the task that the words name.
 fn do_line(rt: &HostRuntime, words: &[String]) -> Ending {
-    match line(rt.alloc(), words) {
-        Ok(asked) => ending_of_task(do_asked(rt, Unknown, &asked)),
+    match do_words(rt, Unknown, words) {
+        Ok(done) => ending_of_task(done),
         Err(fault) if fault.code == Cause::WrongWords.code() => refuse(rt, words),
         Err(fault) => Ending::Failed(fault),
     }

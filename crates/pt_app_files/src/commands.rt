@@ -1,13 +1,10 @@
 //! Does what a command asks.
-ghost use Rattle.std.specs.Prelude.{◌≡◌, IsSome};
+ghost use Rattle.std.specs.Prelude.{◌≡◌, IsSome, map, string_bytes};
 ghost use Rattle.pt_app_command_line.specs.Line.{task_of};
 ghost use Rattle.pt_app_commands.specs.Rehearsal.{RehearsesWith};
-ghost use Rattle.pt_tables_keeper.specs.Keeper.{store_of};
 ghost use Rattle.pt_app_files.specs.Ask.{AsksFile};
-ghost use Rattle.pt_app_files.specs.Commands.{AsksIts, EndsDone, Obeys};
+ghost use Rattle.pt_app_files.specs.Commands.{AsksIts, DoesWords, EndsDone, ObeysWith};
 ghost use Rattle.pt_app_files.specs.Init.{Inits};
-ghost use Rattle.pt_app_files.specs.Migrate.{MigratesFile};
-ghost use Rattle.pt_app_files.specs.Serve.{ServesFile, ServesOn};
 
 use crate::asking::ask_file;
 use crate::files::{DeskFiles, HostFiles};
@@ -15,7 +12,7 @@ use crate::making::init_file;
 use crate::migrating::migrate_file;
 use crate::ports::{DeskPorts, OwnPorts};
 use crate::serving::serve_file;
-use pt_app_command_line::Line;
+use pt_app_command_line::{Line, line};
 use pt_app_commands::{Ending, rehearse_with_key};
 use pt_app_serve::{Accepts, TellsTime};
 use pt_base_values::Fault;
@@ -79,7 +76,7 @@ fn ask<T: TellsTime, S: Alter + Drop, F: DeskFiles<Connected = Connection<S>>, W
 }
 
 /// Does what a command asks. Only it decides which files, which port, which input and which output it takes.
-pub fn do_asked_by<
+fn do_asked_by<
     T: TellsTime,
     R: Clock + Eprint,
     S: Alter + Drop,
@@ -98,20 +95,9 @@ pub fn do_asked_by<
     out: &mut W,
     asked: &Line<'_>,
 ) -> Result<Ending, Fault>
-    ensures { Obeys
-        (λ key. EndsDone (RehearsesWith key (I.remaining input) (W.contents out.old) (W.contents out.new)) result
-        × (files.new ≡ files.old) × (ports.new ≡ ports.old))
-        (λ file key. EndsDone (λ made. Inits S.Store F.makes F.connects F.leaves file key made files.old files.new)
-        result × (W.contents out.new ≡ W.contents out.old) × (ports.new ≡ ports.old))
-        (λ file. MigratesFile S.Store F.finds F.connects F.leaves file (W.contents out.old) (W.contents out.new)
-        result files.old files.new × (ports.new ≡ ports.old))
-        (λ file zone number connections. ServesFile S.Store T.shows F.finds F.connects F.leaves file zone
-        (ServesOn (store_of S.Store) A.Stream.shows A.Stream.fails A.comes A.replied A.ending P.opens zone
-        number connections result ports.old ports.new) ports.old ports.new result files.old files.new
-        × (W.contents out.new ≡ W.contents out.old))
-        (λ file zone key task. AsksFile S.Store T.shows F.reads F.finds F.connects F.leaves file zone key task
-        (W.contents out.old) (W.contents out.new) result files.old files.new × (ports.new ≡ ports.old))
-        asked.now }
+    ensures { ObeysWith S.Store T.shows F.makes F.finds F.reads F.connects F.leaves A.Stream.shows A.Stream.fails
+        A.comes A.replied A.ending P.opens (I.remaining input) (W.contents out.old) (W.contents out.new)
+        files.old files.new ports.old ports.new result asked.now }
 {
     match asked {
         Line::Rehearse { key } => rehearse(alloc, key, input, out),
@@ -156,13 +142,49 @@ pub fn do_asked_by<
     }
 }
 
-/// Does what a command asks with the machine's own clock, files, ports, input and output. `start` stands for the bytes
-/// of the desk's file.
-pub fn do_asked<B: Start>(rt: &HostRuntime, start: B, asked: &Line<'_>) -> Result<Ending, Fault> {
+/// Does what words ask. The error is out of memory, or words that name nothing, and then nothing is done.
+pub fn do_words_by<
+    T: TellsTime,
+    R: Clock + Eprint,
+    S: Alter + Drop,
+    F: DeskFiles<Connected = Connection<S>>,
+    A: Accepts + Drop,
+    P: DeskPorts<Opened = A>,
+    I: Read + Drop,
+    W: Write,
+>(
+    clock: &T,
+    rt: &R,
+    alloc: Global,
+    files: &mut F,
+    ports: &mut P,
+    input: I,
+    out: &mut W,
+    words: &[String],
+) -> Result<Result<Ending, Fault>, Fault>
+    ensures { DoesWords (map string_bytes words.now)
+        (ObeysWith S.Store T.shows F.makes F.finds F.reads F.connects F.leaves A.Stream.shows A.Stream.fails
+        A.comes A.replied A.ending P.opens (I.remaining input) (W.contents out.old) (W.contents out.new)
+        files.old files.new ports.old ports.new)
+        ((files.new ≡ files.old) × (ports.new ≡ ports.old) × (W.contents out.new ≡ W.contents out.old)) result }
+{
+    match line(alloc, words) {
+        Ok(asked) => Ok(do_asked_by(clock, rt, alloc, files, ports, input, out, &asked)),
+        Err(fault) => Err(fault),
+    }
+}
+
+/// Does what words ask with the machine's own clock, files, ports, input and output. `start` stands for the bytes of the
+/// desk's file.
+pub fn do_words<B: Start>(
+    rt: &HostRuntime,
+    start: B,
+    words: &[String],
+) -> Result<Result<Ending, Fault>, Fault> {
     let mut files = HostFiles::new(rt, start);
     let mut ports = OwnPorts::new(rt);
     let (input, mut out) = (rt.stdin(), rt.stdout());
-    do_asked_by(
+    do_words_by(
         rt,
         rt,
         rt.alloc(),
@@ -170,6 +192,6 @@ pub fn do_asked<B: Start>(rt: &HostRuntime, start: B, asked: &Line<'_>) -> Resul
         &mut ports,
         input,
         &mut out,
-        asked,
+        words,
     )
 }

@@ -13,8 +13,8 @@ use std::{fs, io};
 
 /// What makes, finds and reads files, and opens the databases in them.
 ///
-/// Only a call gives `makes`, `finds`, `reads`, `connects` or `leaves`. Code that is proved over every type cannot make them up, so a
-/// clause that names them says which calls were made, of which file, in which order.
+/// Only a call gives `makes`, `finds`, `reads`, `connects` or `leaves`. Code that is proved over every type cannot make
+/// them up, so a clause that names them says which calls were made, of which file, in which order.
 pub trait DeskFiles {
     /// A connection to the database in a file.
     type Connected;

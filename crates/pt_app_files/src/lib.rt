@@ -2,7 +2,7 @@
 #![tactic(auto)]
 
 pub use asking::ask_file;
-pub use commands::{do_asked, do_asked_by};
+pub use commands::{do_words, do_words_by};
 pub use files::{DeskFiles, HostFiles};
 pub use making::init_file;
 pub use migrating::migrate_file;
