@@ -6,7 +6,7 @@ page's folder, from crates/ or from a crate. Each `pt_` name is a crate of crate
 `standing` in `pt_rights_files/src/case_file.rt`, is there. Each line of the index of docs/RULES.md names a definition and a
 function, which their files declare, and a conversation. The twenty questions of tests/README.md are answered where they
 say. A page has at most 18 words a sentence on average, and no sentence of more than 40, in its tables neither. It has
-none of the words of UNWANTED. A page of more than twice its MOST_BYTES is named.
+none of the words of UNWANTED, and its text ends at WIDEST columns. A page of more than twice its MOST_BYTES is named.
 Each name in a line of crates.txt is used by its crate. The faults of docs/FORMATS.md and of the program's help have the
 words of `Cause`. What can be counted in the tree is counted on one page, and right.
 tests/README.md names each script of tests/ and each deploy/try. The last line is 'N passed, M failed', and the exit status is 1 where something failed.
@@ -23,6 +23,8 @@ from serving import tally
 HERE = f"{TOP}/tests"
 MOST_BYTES = {"README.md": 8192, "docs/ARCHITECTURE.md": 20480, "tests/README.md": 10240}
 MOST_WORDS_ON_AVERAGE, MOST_WORDS = 18, 40
+# Columns of a line of text. A line of code or of a table may have more.
+WIDEST = 100
 # Words for which there are better ones: zero, out of memory, earlier, releases, depends on.
 UNWANTED = re.compile(r"\b(nought|want of memory|of before|lets? go of|hangs? on)\b", re.I)
 QUESTIONS = 20
@@ -408,10 +410,25 @@ def faults_of_recipes(tree):
     yield None
 
 
+def fault_of_width(tree, page):
+    """None, or the lines of a page's sentences that could end sooner. Code and tables may be wider."""
+    wide, is_code = [], False
+    for at, line in enumerate(tree.text(page).split("\n"), 1):
+        if line.lstrip().startswith(("```", "~~~")):
+            is_code = not is_code
+        if is_code or len(line) <= WIDEST or re.match(r" {4}(?! *([-*]|\d+\.) )|\s*[|#<]", line):
+            continue
+        whole = re.sub(r"`[^`]+`", lambda code: code[0].replace(" ", "_"), line.strip())
+        if " " in re.sub(r"^([-*]|\d+\.) +", "", whole)[:WIDEST]:
+            wide.append(str(at))
+    return f"{page}: lines {', '.join(wide)} are wider than {WIDEST} columns" if wide else None
+
+
 def faults(tree):
     for page in tree.pages():
         yield from faults_of_page(tree, page)
         yield fault_of_reading(tree, page)
+        yield fault_of_width(tree, page)
     yield from faults_of_index(tree)
     yield from faults_of_questions(tree)
     yield from faults_of_size(tree)
