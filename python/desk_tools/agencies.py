@@ -87,6 +87,11 @@ class Agency:
         return f"/var/backups/desk-{self.name}"
 
     @property
+    def exports(self) -> str:
+        """The folder of sheets, reports and answers that somebody made."""
+        return self.data("exports")
+
+    @property
     def tls(self) -> str:
         """The folder of the site's certificate."""
         return f"/etc/ssl/desk-{self.name}"

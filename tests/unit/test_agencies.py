@@ -37,7 +37,8 @@ def folders(one: Agency) -> list[str]:
     private = [it.replace("/var/lib/", "/var/lib/private/") for it in kept]
     # (systemd names a unit's own folder, and its user, without the folder above)
     names = [it.rpartition("/")[2] for it in kept]
-    return [one.folder, one.backups, one.tls, one.site, one.record, *kept, *private, *names]
+    own = [one.folder, one.backups, one.exports, one.tls, one.site, one.record]
+    return [*own, *kept, *private, *names]
 
 
 def files(one: Agency) -> list[str]:
@@ -116,3 +117,9 @@ def test_scripts_of_the_package_make_the_names_of_main() -> None:
     main = Agency()
     assert [f"/{it}-{main.name}" for it in earlier.LINKED] == [main.folder, main.backups, main.tls]
     assert f"s/@\\./@{main.name}./" in (ROOT / "packaging/prerm").read_text(encoding="utf-8")
+
+
+def test_an_agencys_rule_removes_its_own_exports_alone() -> None:
+    unit = (ROOT / "deploy/desk-retention@.service").read_text(encoding="utf-8")
+    named = set(re.findall(r"/var/lib/desk-exports[\w%-]*", unit))
+    assert named == {Agency("%i").exports}

@@ -33,8 +33,8 @@ RESERVED = [
     *names.OF_MACHINE,
     *sorted(names.of_earlier()),
     *sorted(earlier.WORKS),
-    *names.LOGS,
-    *(f"{work}-north" for work in (*earlier.WORKS, *names.LOGS)),
+    *names.KINDS,
+    *(f"{work}-north" for work in (*earlier.WORKS, *names.KINDS)),
     *(f"main-{end}" for end in sorted(names.ends_of_files())),
 ]
 

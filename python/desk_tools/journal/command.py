@@ -409,7 +409,7 @@ def add_keeping(parsers: "argparse._SubParsersAction[argparse.ArgumentParser]") 
     one.add_argument(
         "--tally", type=Path, default=Path(MAIN.tally), help=f"the site's log ({MAIN.tally})"
     )
-    one.add_argument("--exports", type=Path, default=Path("/var/lib/desk-exports"))
+    one.add_argument("--exports", type=Path, default=Path(MAIN.exports))
     one.add_argument("--backups", type=Path, default=Path(MAIN.backups))
 
 

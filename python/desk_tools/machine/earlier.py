@@ -17,8 +17,8 @@ MAIN = agencies.Agency()
 # Files of the settings and keys, by the name that each agency has behind its own.
 OWN = "roster.csv", "drivers.csv", "standing-orders.csv", "reminders.json", "closed-days.conf"
 KEYS = ("standing-orders", "standing-orders-dispatcher", "driver-files", "closed-days", "reminders")
-# Folders of /var/lib that a unit keeps for each agency.
-KEPT = "desk-closed-days", "desk-reminders", "private/desk-standing-orders"
+# Folders of /var/lib that each agency has one of.
+KEPT = "desk-closed-days", "desk-reminders", "private/desk-standing-orders", "desk-exports"
 # The work of units that each agency has one of.
 WORKS = (
     *dict.fromkeys(it.partition(".")[0] for it in agencies.BESIDE),

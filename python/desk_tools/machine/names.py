@@ -13,7 +13,6 @@ OF_MACHINE = (
     "before",
     "by-hand",
     "copies",
-    "exports",
     "health",
     "keys",
     "record",
@@ -26,8 +25,8 @@ OF_MACHINE = (
     "upgrade",
     "watch",
 )
-# Logs have their kind before the agency's name.
-LOGS = "journal", "tally"
+# Logs and exports have their kind before the agency's name.
+KINDS = "journal", "tally", "exports"
 
 
 def stem(path: str) -> str:
@@ -55,7 +54,7 @@ def fault(name: str) -> str:
         return (
             f"an agency cannot be called {name}, because an earlier version had a file of that name"
         )
-    for work in (*earlier.WORKS, *LOGS):
+    for work in (*earlier.WORKS, *KINDS):
         if name == work or name.startswith(f"{work}-"):
             return f"an agency cannot be called {name}, because what is done for each agency has names with {work}"
     for end in ends_of_files():
