@@ -249,40 +249,46 @@ def the_next_days_trips_are_booked(at: Place) -> None:
 # Of these no outcome comes to the desk: the checks behind them end the day's trips, and a phone then reads on record what it has not tapped.
 
 
+def asks_and_forgets(at: Place) -> None:
+    press_stop(at, "4:16 PM Pick up Samuel Grant")
+    tell(at, "We missed it", "Yes: we missed it")
+    at.browser.sees("is waiting to be sent", "Marked missed by us. Next: ")
+    at.browser.press("Sign out")
+    at.browser.sees(
+        "Sign out while 1 outcome is waiting to be sent?",
+        "sent when you sign in here again with the same key",
+    )
+    at.browser.press("Stay signed in")
+    at.browser.sees("All stops")
+    until("the copies are not there", lambda: "manifest 1 2025-03-11" in kept(at)[1])
+    at.browser.press("Sign out")
+    at.browser.press(
+        "Sign out", within=at.browser.script("return document.querySelector('dialog')")
+    )
+    at.browser.find("button", "Sign in")
+    entries, copies = kept(at)
+    same("copies after signing out", [], copies)
+    same(
+        "what waits after signing out",
+        1,
+        len([it for it in entries if it["state"] == "waiting"]),
+    )
+    at.browser.fill("Key", at.keys["driver 1"])
+    at.browser.press("Sign in")
+    at.browser.sees("does not answer")
+    holds("a key that was signed out sees a manifest", "All stops" not in at.browser.text())
+
+
 @check
 def signing_out_asks_where_something_waits_and_takes_the_copies_away(at: Place) -> None:
     at.browser.fresh()
     sign_in(at, "06:00")
     with at.browser.no_line(at.town):
-        press_stop(at, "4:16 PM Pick up Samuel Grant")
-        tell(at, "We missed it", "Yes: we missed it")
-        at.browser.sees("is waiting to be sent", "Marked missed by us. Next: ")
-        at.browser.press("Sign out")
-        at.browser.sees(
-            "Sign out while 1 outcome is waiting to be sent?",
-            "sent when you sign in here again with the same key",
-        )
-        at.browser.press("Stay signed in")
-        at.browser.sees("All stops")
-        holds("the copies are there", "manifest 1 2025-03-11" in kept(at)[1])
-        at.browser.press("Sign out")
-        at.browser.press(
-            "Sign out", within=at.browser.script("return document.querySelector('dialog')")
-        )
-        at.browser.find("button", "Sign in")
-        entries, copies = kept(at)
-        same("copies after signing out", [], copies)
-        same(
-            "what waits after signing out",
-            1,
-            len([it for it in entries if it["state"] == "waiting"]),
-        )
-        at.browser.fill("Key", at.keys["driver 1"])
-        at.browser.press("Sign in")
-        at.browser.sees("does not answer")
-        holds("a key that was signed out sees a manifest", "All stops" not in at.browser.text())
-        # (the form asks until the desk answers, and would send what waits)
-        at.browser.driver.get("about:blank")
+        try:
+            asks_and_forgets(at)
+        finally:
+            # (the form asks until the desk answers, and would send what waits)
+            at.browser.driver.get("about:blank")
 
 
 @check
