@@ -253,6 +253,8 @@ def asks_and_forgets(at: Place) -> None:
     press_stop(at, "4:16 PM Pick up Samuel Grant")
     tell(at, "We missed it", "Yes: we missed it")
     at.browser.sees("is waiting to be sent", "Marked missed by us. Next: ")
+    # (a button that is drawn again while it is pressed is not pressed)
+    at.browser.settled()
     at.browser.press("Sign out")
     at.browser.sees(
         "Sign out while 1 outcome is waiting to be sent?",
