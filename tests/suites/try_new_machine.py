@@ -500,22 +500,25 @@ def faults_of_killed(machines, copy, machine):
     told = machines.run(
         f"{command}; until ls -d /var/tmp/desk-restore-*/machine >/dev/null 2>&1; do kill -0 $number || exit; sleep 0.02; done",
         "kill -9 $number; wait $number || true; ls /var/tmp | grep -c desk-restore-",
-        "setup --site >/dev/null 2>&1; ls /var/tmp | grep -c desk-restore- || true",
+        "setup --site >/root/next 2>&1 || true; ls /var/tmp | grep -c desk-restore- || true",
     )
     counts = told.stdout.splitlines()[-2:]
     yield difference(
-        "what a killed restore leaves, before and after the next command", ["1", "0"], counts
+        f"what a killed restore leaves, before and after the next command ({said_by(told)})",
+        ["1", "0"],
+        counts,
     )
 
 
 def faults_of_second_operator(machines, copy, machine):
     """Two people set the machine up at one time: the second ends at once, and the first goes on."""
-    # (a command that was killed leaves the file of its lock)
+    # (a command that was killed leaves the file of its lock; the first stands still while the second tries)
     told = machines.run(
         "rm -f /run/desk-setup.lock",
-        f"setup --restore {copy} {machine} >/root/first 2>&1 & while ! [ -e /run/desk-setup.lock ]; do sleep 0.05; done",
+        f"(exec {TOP}/packaging/desk-setup --restore {copy} {machine} >/root/first 2>&1) & first=$!",
+        "while ! [ -e /run/desk-setup.lock ]; do sleep 0.01; done; sleep 0.05; kill -STOP $first",
         "! setup --site; ! setup </dev/null",
-        "wait $!; echo status $?; cat /root/first",
+        "kill -CONT $first; wait $first; echo status $?; cat /root/first",
     )
     refused = told.stderr.splitlines()
     is_told = len(refused) == 2 and all(
